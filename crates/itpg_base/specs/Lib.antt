@@ -1,0 +1,4 @@
+pub mod Words
+pub mod Decided
+pub mod Spans
+pub mod Graphs
