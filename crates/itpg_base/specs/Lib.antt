@@ -1,4 +1,9 @@
 pub mod Words
+pub mod Names
+pub mod LabelSets
+pub mod Rules
 pub mod Decided
 pub mod Spans
 pub mod Graphs
+pub mod Outside
+pub mod Devices

@@ -1,0 +1,60 @@
+// Why a line is refused.
+ghost use Rattle.std.specs.Prelude.{◌≡◌};
+ghost use Rattle.itpg_base.specs.Rules.{rule_word};
+
+/// The rule that a line breaks. The variants stand in the order in which rules are tried.
+#[derive(Clone, Copy, Debug, PartialEq, Eq)]
+pub enum RuleCode {
+    /// No graph was begun.
+    NoGraph,
+    /// A graph was begun already.
+    Again,
+    /// The name is a standing object's, or a standing watch's.
+    Taken,
+    /// No standing object, or no standing watch, has the name.
+    Unknown,
+    /// An end of the new edge is no node.
+    Kind,
+    /// The first moment is after the second.
+    Backwards,
+    /// A moment of the span is outside the horizon.
+    Horizon,
+    /// An end node doesn't exist at some moment of the span.
+    Ends,
+    /// The object doesn't exist at some moment of the span.
+    Absent,
+    /// An edge at the node exists at some moment of the span.
+    Held,
+    /// The node is an end of a standing edge.
+    Incident,
+    /// A capacity would be passed.
+    Full,
+    /// `ON` names another graph.
+    GraphName,
+    /// The form of line isn't built yet. It stands last, and goes when every form is.
+    Later,
+}
+
+impl RuleCode {
+    /// The word that a reply names the rule by.
+    pub fn word(self) -> &'static str
+        ensures { result.now ≡ rule_word self }
+    {
+        match self {
+            RuleCode::NoGraph => "nograph",
+            RuleCode::Again => "again",
+            RuleCode::Taken => "taken",
+            RuleCode::Unknown => "unknown",
+            RuleCode::Kind => "kind",
+            RuleCode::Backwards => "backwards",
+            RuleCode::Horizon => "horizon",
+            RuleCode::Ends => "ends",
+            RuleCode::Absent => "absent",
+            RuleCode::Held => "held",
+            RuleCode::Incident => "incident",
+            RuleCode::Full => "full",
+            RuleCode::GraphName => "graphname",
+            RuleCode::Later => "later",
+        }
+    }
+}
