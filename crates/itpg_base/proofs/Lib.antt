@@ -1,2 +1,3 @@
+pub mod Labels
 pub mod Padding
 pub mod Pieces

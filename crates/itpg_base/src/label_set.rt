@@ -1,5 +1,5 @@
 // Sets of labels.
-ghost use Rattle.std.specs.Prelude.{◌≡◌, ◌∷◌, [], ◌↔◌, ◌<◌, List, ℕ, length, slice_get, Contains, IsTrue, IfSome, IsNone};
+ghost use Rattle.std.specs.Prelude.{◌≡◌, ◌∷◌, [], ◌↔◌, ◌<◌, List, ℕ, length, slice_get, All, Contains, IsTrue, IfSome, IsNone};
 ghost use Rattle.itpg_base.specs.Words.{IsLabels, Word};
 ghost use Rattle.itpg_base.specs.LabelSets.{SameNames};
 
@@ -38,7 +38,7 @@ impl LabelSet {
         ensures none { IsNone result → (set : List Word) → IsLabels set → SameNames labels.now set → ⊥ }
     {
         let first = labels.first()?;
-        if labels.iter().all(|label| label == first) {
+        if are_all(labels, first) {
             Some(LabelSet { label: *first })
         } else {
             None
@@ -75,6 +75,13 @@ impl LabelSet {
     {
         if i == 0 { Some(self.label) } else { None }
     }
+}
+
+// Whether each label is this one.
+fn are_all(labels: &[Name], label: &Name) -> bool
+    ensures { IsTrue result ↔ All (λ name. name ≡ label.now) labels.now }
+{
+    labels.iter().all(|name| name == label)
 }
 
 impl Copy for LabelSet {}
