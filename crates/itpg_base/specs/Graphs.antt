@@ -1,5 +1,7 @@
 -- A property graph over time as plain data: the list of all objects ever declared.
-use Rattle.std.specs.Prelude.{◌≡◌, ◌≢◌, ℕ, ◌≤◌, ℤ, pos, ◌+ℤ◌, ◌<ℤ◌, List, [], ◌∷◌, length, Option, Some, None, slice_get, IsSomeAnd, IfSome, IsTrue, Bool, ◌⊎◌}
+use Rattle.std.specs.Prelude.{◌≡◌, ◌≢◌, ℕ, zero, suc, ◌≤◌, ℤ, pos, ◌+ℤ◌, ◌<ℤ◌, List, [], ◌∷◌, length, Option, Some, None, slice_get, unwrap_or, option_map, IsSomeAnd, IfSome, IsTrue, Bool, ◌&&◌, nat_eq, ◌⊎◌}
+use Rattle.std.specs.List.{position_from}
+use Rattle.std.specs.Cmp.Lexicographic.{pointwise}
 use Rattle.itpg_base.specs.Spans.{Span, IsSpan, IsMoment, Within, Covers, IsCoalesced}
 use Rattle.itpg_base.specs.Words.{Word, IsRising, IsLabels}
 
@@ -48,6 +50,24 @@ Stands g o = ObjectIs g o (λ x. IsTrue x.standing)
 -- a standing object has this number and this name
 abbrev pub Named : Graph → ℕ → Word → Type 0
 Named g o name = ObjectIs g o (λ x. IsTrue x.standing × (x.name ≡ name))
+
+-- the object stands and has the name
+abbrev pub has_name : Word → Object → Bool
+has_name name x = x.standing && pointwise nat_eq x.name name
+
+-- the number of the standing object with this name, if there is one
+abbrev pub numbered : Graph → Word → Option ℕ
+numbered g name = position_from (has_name name) 0 g.objects
+
+-- the name under which the number was declared
+abbrev pub name_at : Graph → ℕ → Word
+name_at g o = unwrap_or (option_map (λ x. x.name) (slice_get g.objects o)) []
+
+-- the list with the element at a place changed
+abbrev pub changed_at : {X : Type 0} → List X → ℕ → (X → X) → List X
+changed_at [] i f = []
+changed_at (x ∷ xs) zero f = f x ∷ xs
+changed_at (x ∷ xs) (suc i) f = x ∷ changed_at xs i f
 
 -- the object exists at the moment
 abbrev pub Exists : Graph → ℕ → ℤ → Type 0
