@@ -1,0 +1,11 @@
+pub mod Members
+pub mod Coalesced
+pub mod Unique
+pub mod Exists
+pub mod Joined
+pub mod Searched
+pub mod Found
+pub mod Around
+pub mod Hull
+pub mod Counted
+pub mod Outcomes
