@@ -1,0 +1,8 @@
+use Rattle.std.proofs.Common.{sym, subst}
+use Rattle.std.specs.Prelude.{IsNone}
+use Rattle.itpg_graph.proofs.Views.{begun_store}
+use Rattle.itpg_graph.proofs.graph.Graph.begin.Goals as goal
+
+pub invariant_of-self : goal.invariant_of-self
+invariant_of-self c =
+    begun_store c.args.name c.args.horizon c.self.inside.opened c.self.inside.objects.items c.self.inside.numbers c.self.invariant (subst (λ g. IsNone g.begun) (sym c.self.view_is) c.requires.new) c.from.ensures.ordered c.requires.from c.requires.to

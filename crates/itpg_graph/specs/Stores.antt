@@ -1,0 +1,35 @@
+-- What a store is seen as.
+use Rattle.std.specs.Prelude.{◌≡◌, ℕ, List, [], map, Option, Some, None, option_map, nat_eq}
+use Rattle.std.specs.Cmp.Lexicographic.{pointwise}
+use Rattle.std.specs.declared.hash.FoldHasher.{FoldHasher}
+use Rattle.std.specs.declared.hash.BuildHasherDefault.{BuildHasherDefault}
+use Rattle.indexmap.specs.IndexMap.{get, IndexMap}
+use Rattle.itpg_base.specs.Words.{Word}
+use Rattle.itpg_base.specs.Graphs.{Graph, Object, Begun, Good, Named, ObjectIs}
+use Rattle.itpg_graph.specs.declared.stored.Stored.{Stored}
+use Rattle.itpg_graph.specs.declared.stored.Opened.{Opened}
+
+abbrev pub object_of : Stored → Object
+object_of s = record { name = s.name; labels = s.labels; ends = None; standing = s.standing; live = s.live; properties = [] }
+
+abbrev pub begun_of : Opened → Begun
+begun_of b = record { name = b.name; horizon = b.horizon }
+
+abbrev pub graph_of : Option Opened → List Stored → Graph
+graph_of opened objects = record { begun = option_map begun_of opened; objects = map object_of objects }
+
+-- the number that the table has for a name
+abbrev pub Table : Type 0
+Table = IndexMap Word ℕ (BuildHasherDefault FoldHasher)
+
+abbrev pub listed : Table → Word → Option ℕ
+listed numbers name = get (pointwise nat_eq) numbers name
+
+-- the table has the number of each standing object, and no name with another object's number
+pub record IsIndexed (numbers : Table) (g : Graph) : Type 0 where
+  pub whole : (name : Word) (o : ℕ) → Named g o name → listed numbers name ≡ Some o
+  pub only : (name : Word) (o : ℕ) → listed numbers name ≡ Some o → ObjectIs g o (λ x. x.name ≡ name)
+
+pub record IsStore (opened : Option Opened) (objects : List Stored) (numbers : Table) : Type 0 where
+  pub good : Good (graph_of opened objects)
+  pub indexed : IsIndexed numbers (graph_of opened objects)

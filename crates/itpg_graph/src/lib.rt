@@ -1,0 +1,12 @@
+//! The graph store: a property graph over time that can't be wrong.
+//!
+//! It stands on `itpg_base`, whose plain graph is what contracts see, and on `interval_set` for the families. It promises
+//! that every value of `Graph` is good: an edge exists only where both its ends do, a value only where its object does,
+//! and all lists are coalesced. Until edges and properties are built, every object is a node without properties.
+#![tactic(auto)]
+
+mod graph;
+mod numbers;
+mod stored;
+
+pub use graph::{Graph, Kind};
