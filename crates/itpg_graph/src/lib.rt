@@ -9,4 +9,4 @@ mod graph;
 mod numbers;
 mod stored;
 
-pub use graph::{Graph, Kind};
+pub use graph::{Graph, Kind, MAX_OBJECTS};
