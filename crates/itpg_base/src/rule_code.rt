@@ -1,5 +1,5 @@
 // Why a line is refused.
-ghost use Rattle.std.specs.Prelude.{◌≡◌};
+ghost use Rattle.std.specs.Prelude.{◌≡◌, ◌≤◌, length};
 ghost use Rattle.itpg_base.specs.Rules.{rule_word};
 
 /// The rule that a line breaks. The variants stand in the order in which rules are tried.
@@ -38,7 +38,8 @@ pub enum RuleCode {
 impl RuleCode {
     /// The word that a reply names the rule by.
     pub fn word(self) -> &'static str
-        ensures { result.now ≡ rule_word self }
+        ensures word { result.now ≡ rule_word self }
+        ensures short { length result.now ≤ 9 }
     {
         match self {
             RuleCode::NoGraph => "nograph",

@@ -2,5 +2,7 @@
 #![tactic(auto)]
 
 mod line;
+mod page;
 mod reading;
+mod replies;
 mod rules;
