@@ -135,3 +135,7 @@ pub stands_within : (opened : Option Opened) (objects : List Stored) (o : ℕ) �
 stands_within opened objects o stands =
     let t = there (map object_of objects) o _ stands in
     subst (λ n. o < n) (length_seen objects) (slice_get_within (map object_of objects) o t.0 t.1)
+
+-- a family has few spans
+pub few_spans : (opened : Option Opened) (objects : List Stored) (o : ℕ) (s : Stored) → Good (graph_of opened objects) → slice_get objects o ≡ Some s → length s.live ≤ 4096
+few_spans opened objects o s good at = (good.objects o (object_of s) (seen_at objects o s at)).few_spans

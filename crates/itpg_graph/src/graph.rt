@@ -124,10 +124,11 @@ impl Graph {
         self.objects[o.0 as usize].labels
     }
 
-    /// The moments at which the object exists.
+    /// The moments at which the object exists: at most 4,096 spans.
     pub fn live(&self, o: ObjNo) -> &IntervalSet
         requires { Stands self.now o.0 }
-        ensures { ObjectIs self.now o.0 (λ x. result.now ≡ x.live) }
+        ensures family { ObjectIs self.now o.0 (λ x. result.now ≡ x.live) }
+        ensures few { length result.now ≤ 4096 }
     {
         &self.objects[o.0 as usize].live
     }

@@ -4,3 +4,6 @@ pub mod Digits
 pub mod FirstRule
 pub mod Families
 pub mod LiveLines
+pub mod Saying
+pub mod Shown
+pub mod RowTexts

@@ -5,3 +5,5 @@ pub mod Refusals
 pub mod OneTime
 pub mod Texts
 pub mod Machine
+pub mod Listed
+pub mod Said

@@ -1,6 +1,7 @@
 //! The top call.
 #![tactic(auto)]
 
+mod answer;
 mod line;
 mod page;
 mod reading;

@@ -15,6 +15,7 @@ pub(crate) const PAGE: usize = 4_096;
 const MAX_NUMBER: usize = 20;
 
 /// Up to `PAGE` bytes of text that are to be written in one piece. A contract sees it as these bytes.
+#[derive(Drop)]
 pub(crate) struct Page {
     bytes: [u8; PAGE],
     size: usize,

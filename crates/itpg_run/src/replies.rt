@@ -1,16 +1,13 @@
 // The replies to a line.
-ghost use Rattle.std.specs.Prelude.{◌≡◌, ◌+◌, ◌≤◌, ◌++◌, ℕ, List, length, OnOk, OnErr};
-ghost use Rattle.std.specs.declared.option.Option.{Option};
-ghost use Rattle.std.specs.Io.KnownBytes.{Appends};
-ghost use Rattle.itpg_base.specs.Outside.{HasCause, AppendsSome};
+ghost use Rattle.std.specs.Prelude.{◌≡◌, ◌+◌, ◌≤◌, ◌++◌, length};
 ghost use Rattle.itpg_run.specs.Texts.{refused_text, wide_text, head_text, row_text};
 
 use crate::page::{PAGE, Page};
 use interval_set::Span;
-use itpg_base::{Failed, Name, RuleCode, Sink};
+use itpg_base::{Name, RuleCode};
 
-// How many bytes a row is written with at most.
-const MAX_ROW: usize = 128;
+/// How many bytes a row is written with at most.
+pub(crate) const MAX_ROW: usize = 128;
 
 /// The page of `line N refused RULE`.
 #[tactic(auto, unfolding(crate::specs::Texts::refused_text))]
@@ -54,7 +51,7 @@ pub(crate) fn head(number: u64, count: usize) -> Page
 
 /// Puts a row behind what the page has.
 #[tactic(auto, unfolding(crate::specs::Texts::row_text))]
-fn add_row(page: &mut Page, name: &Name, span: &Span)
+pub(crate) fn add_row(page: &mut Page, name: &Name, span: &Span)
     requires { length page.old + MAX_ROW ≤ PAGE }
     ensures { page.new ≡ page.old ++ row_text name.now span.now }
 {
