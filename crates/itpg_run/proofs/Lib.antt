@@ -7,3 +7,4 @@ pub mod LiveLines
 pub mod Saying
 pub mod Shown
 pub mod RowTexts
+pub mod OneTimeRows

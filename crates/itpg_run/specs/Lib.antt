@@ -7,3 +7,4 @@ pub mod Texts
 pub mod Machine
 pub mod Listed
 pub mod Said
+pub mod Steps

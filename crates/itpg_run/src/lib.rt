@@ -7,3 +7,4 @@ mod page;
 mod reading;
 mod replies;
 mod rules;
+mod session;

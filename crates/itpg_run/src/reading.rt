@@ -4,6 +4,8 @@ ghost use Rattle.std.specs.List.{list_all};
 ghost use Rattle.std.specs.Char.{is_ascii_alphabetic};
 ghost use Rattle.std.specs.Option.{option_copied};
 ghost use Rattle.itpg_run.specs.PlainLines.{line_of, words, line_by, three_words, four_words, pattern_label, opened, closed, pieces, is_mark, is_name as is_name_text, is_name_byte, name_of, number_of, magnitude_of, small_value};
+ghost use Rattle.itpg_base.specs.Spans.{IsMoment};
+ghost use Rattle.itpg_run.specs.Steps.{HasMoments};
 ghost use Rattle.itpg_run.specs.declared.line.Mark.TheVariants.{Blank, Colon};
 
 use crate::line::{Line, Mark};
@@ -27,7 +29,8 @@ const LIVE: &[u8] = b"live";
 /// What the line says, by its bytes alone. It takes no memory.
 #[tactic(auto, unfolding(crate::specs::PlainLines::line_of))]
 pub(crate) fn read_line(line: &[u8]) -> Line
-    ensures { result ≡ line_of line.now }
+    ensures line { result ≡ line_of line.now }
+    ensures moments { HasMoments result }
 {
     if line.is_empty() {
         Line::Empty
@@ -39,7 +42,8 @@ pub(crate) fn read_line(line: &[u8]) -> Line
 }
 
 fn read_words(line: &[u8]) -> Line
-    ensures { result ≡ line_by (words line.now) }
+    ensures line { result ≡ line_by (words line.now) }
+    ensures moments { HasMoments result }
 {
     match next_piece(Mark::Blank, line) {
         (first, Some(rest)) => read_second(first, rest),
@@ -48,7 +52,8 @@ fn read_words(line: &[u8]) -> Line
 }
 
 fn read_second(first: &[u8], rest: &[u8]) -> Line
-    ensures { result ≡ line_by (first.now ∷ words rest.now) }
+    ensures line { result ≡ line_by (first.now ∷ words rest.now) }
+    ensures moments { HasMoments result }
 {
     match next_piece(Mark::Blank, rest) {
         (second, Some(rest)) => read_third(first, second, rest),
@@ -57,7 +62,8 @@ fn read_second(first: &[u8], rest: &[u8]) -> Line
 }
 
 fn read_third(first: &[u8], second: &[u8], rest: &[u8]) -> Line
-    ensures { result ≡ line_by (first.now ∷ second.now ∷ words rest.now) }
+    ensures line { result ≡ line_by (first.now ∷ second.now ∷ words rest.now) }
+    ensures moments { HasMoments result }
 {
     match next_piece(Mark::Blank, rest) {
         (third, None) => read_three(first, second, third),
@@ -67,7 +73,8 @@ fn read_third(first: &[u8], second: &[u8], rest: &[u8]) -> Line
 
 #[tactic(auto, using(crate::proofs::Words::five_words))]
 fn read_fourth(first: &[u8], second: &[u8], third: &[u8], rest: &[u8]) -> Line
-    ensures { result ≡ line_by (first.now ∷ second.now ∷ third.now ∷ words rest.now) }
+    ensures line { result ≡ line_by (first.now ∷ second.now ∷ third.now ∷ words rest.now) }
+    ensures moments { HasMoments result }
 {
     match next_piece(Mark::Blank, rest) {
         (fourth, None) => read_four(first, second, third, fourth),
@@ -101,7 +108,8 @@ impl Mark {
 
 #[tactic(auto, unfolding(crate::specs::PlainLines::three_words))]
 fn read_three(first: &[u8], second: &[u8], third: &[u8]) -> Line
-    ensures { result ≡ three_words first.now second.now third.now }
+    ensures line { result ≡ three_words first.now second.now third.now }
+    ensures moments { HasMoments result }
 {
     if first == NODE {
         match (read_name(second), read_name(third)) {
@@ -120,7 +128,8 @@ fn read_three(first: &[u8], second: &[u8], third: &[u8]) -> Line
 
 #[tactic(auto, unfolding(crate::specs::PlainLines::four_words))]
 fn read_four(first: &[u8], second: &[u8], third: &[u8], fourth: &[u8]) -> Line
-    ensures { result ≡ four_words first.now second.now third.now fourth.now }
+    ensures line { result ≡ four_words first.now second.now third.now fourth.now }
+    ensures moments { HasMoments result }
 {
     if first == GRAPH {
         match (read_name(second), read_number(third), read_number(fourth)) {
@@ -216,7 +225,8 @@ fn are_name_bytes(word: &[u8]) -> bool
 /// The number that the word is; `None` where it is no plain number.
 #[tactic(auto, unfolding(crate::specs::PlainLines::number_of))]
 fn read_number(word: &[u8]) -> Option<i64>
-    ensures { result ≡ number_of word.now }
+    ensures number { result ≡ number_of word.now }
+    ensures moment { IfSome result IsMoment }
 {
     match word {
         [b'-', digits @ ..] => match read_magnitude(digits) {
