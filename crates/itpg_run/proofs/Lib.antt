@@ -8,3 +8,5 @@ pub mod Saying
 pub mod Shown
 pub mod RowTexts
 pub mod OneTimeRows
+pub mod Unbroken
+pub mod Turns

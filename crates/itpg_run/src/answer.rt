@@ -2,6 +2,7 @@
 ghost use Rattle.std.specs.Prelude.{◌≡◌, ◌+◌, ◌≤◌, [], length, OnOk, OnErr};
 ghost use Rattle.std.specs.Io.KnownBytes.{Appends};
 ghost use Rattle.itpg_base.specs.Outside.{HasCause, AppendsSome};
+ghost use Rattle.itpg_base.specs.Graphs.{Good};
 ghost use Rattle.itpg_run.specs.Texts.{answer_text, rows_text};
 ghost use Rattle.itpg_run.specs.Listed.{spans_of, rows_below, spans_text};
 ghost use Rattle.itpg_run.specs.Said.{Says, SaysSome};
@@ -14,7 +15,8 @@ use itpg_graph::{Graph, Kind};
 
 /// How many rows the answer has. It takes no memory.
 pub(crate) fn count_rows(graph: &Graph, label: &Name) -> usize
-    ensures { result ≡ length (rows_below (spans_of graph.now label.now) (length graph.now.objects)) }
+    ensures good { Good graph.now }
+    ensures count { result ≡ length (rows_below (spans_of graph.now label.now) (length graph.now.objects)) }
 {
     let mut count = 0;
     for number in 0..graph.declared() {

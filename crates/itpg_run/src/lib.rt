@@ -2,6 +2,7 @@
 #![tactic(auto)]
 
 mod answer;
+mod edits;
 mod line;
 mod page;
 mod reading;
