@@ -10,3 +10,5 @@ pub mod RowTexts
 pub mod OneTimeRows
 pub mod Unbroken
 pub mod Turns
+pub mod OneRule
+pub mod OneTurn

@@ -8,3 +8,4 @@ pub mod Machine
 pub mod Listed
 pub mod Said
 pub mod Steps
+pub mod MachineLaws
