@@ -2,6 +2,7 @@ pub mod Words
 pub mod Names
 pub mod LabelSets
 pub mod Rules
+pub mod Chains
 pub mod Decided
 pub mod Spans
 pub mod Graphs

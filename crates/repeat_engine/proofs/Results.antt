@@ -1,0 +1,30 @@
+-- What a result says, said of something alike.
+use Rattle.std.proofs.Common.{Result, Ok, Err, IfOk}
+use Rattle.repeat_engine.specs.Powers.{Algebra}
+use Rattle.repeat_engine.specs.Composed.{IsLawful, IsOkWhere}
+
+-- Ok where the one condition holds is Ok where the other does
+pub exact_as : {T E A B : Type 0} (WantsMemory : E → Type 0) (r : Result T E) → (A → B) → (B → A) → IsOkWhere WantsMemory r A → IsOkWhere WantsMemory r B
+exact_as WantsMemory (Ok v) there back a = there a
+exact_as WantsMemory (Err e) there back unfit = λ other b. unfit other (back b)
+
+module _ {M : Type 0} {Alike : M → M → Type 0} {Own Fits : M → Type 0} {algebra : Algebra M} (laws : IsLawful Alike Own Fits algebra) where
+  -- what is alike to one's own is one's own, and what is alike to something that fits, fits
+  pub own_from : (v m : M) → Alike v m → Own m → Own v
+  own_from v m e own = laws.own_alike m v (laws.turned v m e) own
+
+  pub fits_from : (v m : M) → Alike v m → Fits m → Fits v
+  fits_from v m e fits = laws.fits_alike m v (laws.turned v m e) fits
+
+  -- the same of what a result holds
+  pub value_as : {T E : Type 0} (means : T → M) (r : Result T E) (m n : M) → Alike m n → IfOk r (λ v. Alike (means v) m) → IfOk r (λ v. Alike (means v) n)
+  value_as means (Ok v) m n e h = laws.joined (means v) m n h e
+  value_as means (Err fault) m n e h = tt
+
+  pub own_result : {T E : Type 0} (means : T → M) (r : Result T E) (m : M) → Own m → IfOk r (λ v. Alike (means v) m) → IfOk r (λ v. Own (means v))
+  own_result means (Ok v) m own h = own_from (means v) m h own
+  own_result means (Err fault) m own h = tt
+
+  pub fits_result : {T E : Type 0} (means : T → M) (WantsMemory : E → Type 0) (r : Result T E) (m : M) → IfOk r (λ v. Alike (means v) m) → IsOkWhere WantsMemory r (Fits m) → IfOk r (λ v. Fits (means v))
+  fits_result means WantsMemory (Ok v) m h fits = fits_from (means v) m h fits
+  fits_result means WantsMemory (Err fault) m h fits = tt

@@ -1,0 +1,4 @@
+pub mod Powers
+pub mod Composed
+pub mod Relations
+pub mod Examples

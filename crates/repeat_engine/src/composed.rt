@@ -1,0 +1,83 @@
+//! What powers are taken of.
+#![tactic(auto)]
+
+ghost use Rattle.std.specs.Prelude.{◌↔◌, IsTrue, IfOk};
+ghost use Rattle.repeat_engine.specs.Powers.{Algebra};
+ghost use Rattle.repeat_engine.specs.Composed.{IsOkWhere, IsLawful};
+
+/// Values that can be composed and united, of which some are c's own and some of these fit.
+///
+/// | | `one` | `compose` x and y | `union` of x and y |
+/// |---|---|---|---|
+/// | relations between points | each point to itself | x, and then y | the pairs of either |
+/// | lengths up to a longest one | 0 | the sum, or the longest | the longer |
+///
+/// Contracts speak of what values mean, up to likeness: `same` answers whether two meanings are alike, and nothing here
+/// tells alike meanings apart. So meanings may be expressions, and alike where they describe the same pairs.
+///
+/// The laws are those of `IsLawful`, over c's own meanings: composition is associative, with `one` neutral, and
+/// distributes over union; union is associative, commutative and idempotent; and the union of the powers 0 to 2^60
+/// holds every further power.
+///
+/// The calls use the allocator that the value itself keeps. Each may answer want of memory.
+pub trait Composed {
+    /// What is composed and united.
+    type Value: Drop;
+
+    /// Why a value wasn't made: it doesn't fit, or memory is wanting.
+    type Fault: Drop;
+
+    ghost Meaning: { Type 0 };
+
+    /// What a value means.
+    ghost means: { Self.Value → Meaning };
+
+    /// Two meanings are the same to c.
+    ghost alike: { Self → Meaning → Meaning → Type 0 };
+
+    /// A value of this meaning is c's own.
+    ghost own: { Self → Meaning → Type 0 };
+
+    /// A value of this meaning fits.
+    ghost fits: { Self → Meaning → Type 0 };
+
+    /// The fault is want of memory.
+    ghost wants_memory: { Self.Fault → Type 0 };
+
+    /// How meanings are composed and united, and which is neutral.
+    ghost algebra: { Self → Algebra Meaning };
+
+    /// The value that is neutral for composition. It answers a fault that isn't want of memory exactly where that
+    /// doesn't fit.
+    fn one(&self) -> Result<Self::Value, Self::Fault>
+        ensures value { IfOk result (λ v. alike self.now (means v) (algebra self.now).one) }
+        ensures exact { IsOkWhere wants_memory result (fits self.now (algebra self.now).one) };
+
+    /// x, and then y. It answers a fault that isn't want of memory exactly where the result doesn't fit.
+    fn compose(&self, x: &Self::Value, y: &Self::Value) -> Result<Self::Value, Self::Fault>
+        requires own_x { own self.now (means x.now) }
+        requires own_y { own self.now (means y.now) }
+        requires fits_x { fits self.now (means x.now) }
+        requires fits_y { fits self.now (means y.now) }
+        ensures value { let both = (algebra self.now).compose (means x.now) (means y.now) in
+            IfOk result (λ v. alike self.now (means v) both) }
+        ensures exact { let both = (algebra self.now).compose (means x.now) (means y.now) in
+            IsOkWhere wants_memory result (fits self.now both) };
+
+    /// x together with y. It answers a fault that isn't want of memory exactly where the result doesn't fit.
+    fn union(&self, x: &Self::Value, y: &Self::Value) -> Result<Self::Value, Self::Fault>
+        requires own_x { own self.now (means x.now) }
+        requires own_y { own self.now (means y.now) }
+        requires fits_x { fits self.now (means x.now) }
+        requires fits_y { fits self.now (means y.now) }
+        ensures value { let both = (algebra self.now).unite (means x.now) (means y.now) in
+            IfOk result (λ v. alike self.now (means v) both) }
+        ensures exact { let both = (algebra self.now).unite (means x.now) (means y.now) in
+            IsOkWhere wants_memory result (fits self.now both) };
+
+    /// Whether x and y mean the same.
+    fn same(&self, x: &Self::Value, y: &Self::Value) -> bool
+        ensures { IsTrue result ↔ alike self.now (means x.now) (means y.now) };
+
+    ghost lawful: { (c : Self) → IsLawful (alike c) (own c) (fits c) (algebra c) };
+}

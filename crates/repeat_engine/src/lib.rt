@@ -1,0 +1,16 @@
+//! Powers, bounded unions of powers and closure, over any lawful composition.
+//!
+//! Stands on `itpg_base`, for the chain of exponents alone.
+//! Promises: over every [`Composed`], [`power`] gives the n-th power, [`up_to`] the union of the powers 0 to n, and
+//! [`closure`] the union of all powers. Each answers Ok, but for want of memory, exactly where the values fit that its
+//! comment names.
+#![tactic(auto)]
+
+mod composed;
+mod powers;
+
+pub use composed::Composed;
+pub use powers::{closure, power, up_to};
+
+#[cfg(test)]
+mod tests;
