@@ -12,3 +12,10 @@ pub mod Unbroken
 pub mod Turns
 pub mod OneRule
 pub mod OneTurn
+pub mod Kept
+pub mod Split
+pub mod Running
+pub mod Pumped
+pub mod Stands
+pub mod Begins
+pub mod Output

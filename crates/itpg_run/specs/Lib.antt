@@ -9,3 +9,10 @@ pub mod Listed
 pub mod Said
 pub mod Steps
 pub mod MachineLaws
+pub mod Out
+pub mod Split
+pub mod Served
+pub mod Stands
+pub mod Pumped
+pub mod OutputLaws
+pub mod Codes

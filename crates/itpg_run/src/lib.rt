@@ -1,11 +1,62 @@
-//! The top call.
+//! The top call: reads a script, answers its lines, and says how it ended.
+//!
+//! It stands on the graph store, and holds the plain machine and its output as definitions (`specs/`): what a line says,
+//! which rule it breaks first, which turn it may have, and what the turns of a script write. It promises that `serve`
+//! writes the bytes of that machine, whatever script is read (`serve`'s clauses), and that there is exactly one output for
+//! each script (`one_output`, `some_output`).
 #![tactic(auto)]
+
+ghost use Rattle.itpg_run.specs.Codes.{code_of};
+ghost use Rattle.std.specs.Prelude.{◌≡◌};
 
 mod answer;
 mod edits;
+mod law;
 mod line;
 mod page;
+mod reader;
 mod reading;
 mod replies;
 mod rules;
+mod run;
 mod session;
+
+pub use law::{one_output, one_reply, output_begins, output_grows, some_output, some_reply};
+pub use line::{Line, Mark};
+pub use run::serve;
+
+/// How a run ended.
+#[derive(Clone, Copy, Debug, PartialEq, Eq)]
+pub enum Status {
+    /// The input was read to its end, and no reply was refused or wide.
+    Done,
+    /// The input was read to its end, and some reply was refused or wide.
+    DoneRefused,
+    /// The words are no sentence of the command. Nothing was read or written.
+    Usage,
+    /// The source failed. The lines whose end was read were answered.
+    ReadFault,
+    /// The sink failed. A front part of the output was written.
+    WriteFault,
+    /// Memory was wanting. Some first lines were answered, each whole.
+    Memory,
+    /// A byte past the first 268,435,456 was taken. The lines whose end is among those were answered.
+    TooLong,
+}
+
+impl Status {
+    /// The exit status of the program: 0 to 6 in the order of the variants.
+    pub fn code(self) -> u8
+        ensures { result ≡ code_of self }
+    {
+        match self {
+            Status::Done => 0,
+            Status::DoneRefused => 1,
+            Status::Usage => 2,
+            Status::ReadFault => 3,
+            Status::WriteFault => 4,
+            Status::Memory => 5,
+            Status::TooLong => 6,
+        }
+    }
+}

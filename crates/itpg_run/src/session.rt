@@ -16,7 +16,7 @@ use crate::replies::{refused, wide};
 use crate::rules::broken;
 use itpg_base::{Failed, Name, RuleCode, Sink};
 use itpg_graph::Graph;
-use std::alloc::{AllocError, Global};
+use std::alloc::{AllocError, AllocFailed, Global};
 use std::marker::Model;
 
 /// What is seen of a reply.
@@ -43,6 +43,14 @@ impl From<AllocError> for StepFault {
     ghost from_gives = { λ _ e. e ≡ OutOfMemory };
 
     fn from(_: AllocError) -> Self {
+        StepFault::Memory
+    }
+}
+
+impl<T: Drop> From<AllocFailed<T>> for StepFault {
+    ghost from_gives = { λ _ e. e ≡ OutOfMemory };
+
+    fn from(_: AllocFailed<T>) -> Self {
         StepFault::Memory
     }
 }

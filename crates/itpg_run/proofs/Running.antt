@@ -1,0 +1,82 @@
+-- The machine over more lines.
+use Rattle.std.proofs.Common.{◌≡◌, ℕ, ◌+◌, List, [], ◌∷◌, ◌++◌, Bool, true, false, ◌||◌, length, refl, ap, ◌∙◌, sym, subst, append_assoc, append-nil, arith}
+use Rattle.itpg_run.specs.Machine.{Machine, Turn, Replies}
+use Rattle.itpg_run.specs.PlainLines.{line_of}
+use Rattle.itpg_run.proofs.OneTurn.{one_answer, some_answer}
+use Rattle.itpg_run.specs.Out.{none, both, Runs}
+
+or_assoc : (a b c : Bool) → (a || (b || c)) ≡ ((a || b) || c)
+or_assoc false b c = refl
+or_assoc true b c = refl
+
+or-false : (a : Bool) → (a || false) ≡ a
+or-false false = refl
+or-false true = refl
+
+both_assoc : (x y z : Turn) → both x (both y z) ≡ both (both x y) z
+both_assoc x y z = let e = sym (append_assoc x.text y.text z.text) in let f = or_assoc x.failing y.failing z.failing in cc
+
+both-none : (x : Turn) (m : Machine) → m ≡ x.next → both x (none m) ≡ x
+both-none x m h = rw (append-nil x.text, or-false x.failing, h) refl
+
+pub runs-append : (limit : ℕ) (m : Machine) (number : ℕ) (xs ys : List (List ℕ)) (t u : Turn) → Runs limit m number xs t → Runs limit t.next (number + length xs) ys u → Runs limit m number (xs ++ ys) (both t u)
+unfolding Runs
+runs-append limit m number [] ys t u r s =
+    let n : number + 0 ≡ number = omega arith in
+    let e : both t u ≡ u = ap (λ w. both w u) r in
+    subst (λ w. Runs limit m number ys w) (sym e) (subst (λ k. Runs limit m k ys u) n (subst (λ w. Runs limit w.next (number + 0) ys u) r s))
+runs-append limit m number (x ∷ xs) ys t u r s =
+    let n : number + length (x ∷ xs) ≡ number + 1 + length xs = omega arith in
+    let after : Runs limit r.rest.next (number + 1 + length xs) ys u = subst (λ k. Runs limit r.rest.next k ys u) n (subst (λ w. Runs limit w.next (number + length (x ∷ xs)) ys u) r.is s) in
+    record {
+      first = r.first;
+      rest = both r.rest u;
+      begins = r.begins;
+      goes_on = runs-append limit r.first.next (number + 1) xs ys r.rest u r.goes_on after;
+      is = ap (λ w. both w u) r.is ∙ sym (both_assoc r.first r.rest u);
+    }
+
+-- one more line
+pub runs-push : (limit : ℕ) (m : Machine) (number : ℕ) (xs : List (List ℕ)) (x : List ℕ) (t u : Turn) → Runs limit m number xs t → Replies limit t.next (number + length xs) x u → Runs limit m number (xs ++ x ∷ []) (both t u)
+unfolding Runs
+runs-push limit m number xs x t u r s = runs-append limit m number xs (x ∷ []) t u r (record { first = u; rest = none u.next; begins = s; goes_on = refl; is = sym (both-none u u.next refl) })
+
+-- a run over a front part and one over the rest
+pub record Parted (limit : ℕ) (m : Machine) (number : ℕ) (xs ys : List (List ℕ)) (t : Turn) : Type 0 where
+  pub front : Turn
+  pub rest : Turn
+  pub runs : Runs limit m number xs front
+  pub goes_on : Runs limit front.next (number + length xs) ys rest
+  pub is : t ≡ both front rest
+
+pub runs-part : (limit : ℕ) (m : Machine) (number : ℕ) (xs ys : List (List ℕ)) (t : Turn) → Runs limit m number (xs ++ ys) t → Parted limit m number xs ys t
+unfolding Runs
+runs-part limit m number [] ys t r = record { front = none m; rest = t; runs = refl; goes_on = subst (λ k. Runs limit m k ys t) (let n : number ≡ number + 0 = omega arith in n) r; is = refl }
+runs-part limit m number (x ∷ xs) ys t r =
+    let p = runs-part limit r.first.next (number + 1) xs ys r.rest r.goes_on in
+    let n : number + 1 + length xs ≡ number + length (x ∷ xs) = omega arith in
+    record {
+      front = both r.first p.front;
+      rest = p.rest;
+      runs = record { first = r.first; rest = p.front; begins = r.begins; goes_on = p.runs; is = refl };
+      goes_on = subst (λ k. Runs limit p.front.next k ys p.rest) n p.goes_on;
+      is = r.is ∙ ap (both r.first) p.is ∙ both_assoc r.first p.front p.rest;
+    }
+
+-- at most one run
+pub one_run : (limit : ℕ) (m : Machine) (number : ℕ) (xs : List (List ℕ)) (t u : Turn) → Runs limit m number xs t → Runs limit m number xs u → t ≡ u
+unfolding Runs
+one_run limit m number [] t u r s = r ∙ sym s
+one_run limit m number (x ∷ xs) t u r s =
+    let first : r.first ≡ s.first = one_answer limit m number (line_of x) r.first s.first r.begins s.begins in
+    let rest : r.rest ≡ s.rest = one_run limit s.first.next (number + 1) xs r.rest s.rest (subst (λ w. Runs limit w.next (number + 1) xs r.rest) first r.goes_on) s.goes_on in
+    r.is ∙ ap (λ w. both w r.rest) first ∙ ap (both s.first) rest ∙ sym s.is
+
+-- and there is one
+pub some_run : (limit : ℕ) (m : Machine) (number : ℕ) (xs : List (List ℕ)) → (t : Turn) × Runs limit m number xs t
+unfolding Runs
+some_run limit m number [] = (none m, refl)
+some_run limit m number (x ∷ xs) =
+    let first = some_answer limit m number (line_of x) in
+    let rest = some_run limit first.0.next (number + 1) xs in
+    (both first.0 rest.0, record { first = first.0; rest = rest.0; begins = first.1; goes_on = rest.1; is = refl })

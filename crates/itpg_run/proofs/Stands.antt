@@ -1,0 +1,168 @@
+-- What a byte and a line do to where a reader stands.
+use Rattle.std.proofs.Common.{◌≡◌, ℕ, ◌+◌, Some, None, zero, suc, List, [], ◌∷◌, ◌++◌, ◌≢◌, false, ◌||◌, length, take, nat_eq, refl, ap, ◌∙◌, sym, subst, append_assoc, append-nil, length-append, arith}
+use Rattle.std.specs.declared.option.Option.{Option}
+use Rattle.std.specs.Io.KnownBytes.{Appends, Keeps}
+use Rattle.std.proofs.KnownBytes.{Appends-trans}
+use Rattle.itpg_run.specs.Machine.{Turn, opening, Answers, Replies}
+use Rattle.itpg_run.specs.PlainLines.{line_of}
+use Rattle.itpg_run.proofs.Kept.{line_kept}
+use Rattle.itpg_run.specs.Lines.{lines, whole}
+use Rattle.itpg_run.specs.Out.{both, Runs}
+use Rattle.itpg_run.specs.Split.{NoEnd, NoEnds, joined, last_line}
+use Rattle.itpg_run.specs.Served.{WritesLines, WritesOut, WritesAs, WritesWithin}
+use Rattle.itpg_run.specs.Stands.{AnswersWithin, Stands, EndsLine}
+use Rattle.itpg_run.specs.declared.reader.Reader.{Reader}
+use Rattle.itpg_run.proofs.Split.{NoEnd-push, NoEnds-push, joined-push, lines-joined, lines-line, lines-rest, whole-joined, whole-rest}
+use Rattle.itpg_run.proofs.Running.{runs-push}
+
+-- known bytes that were kept, and then grow
+Appends-kept : (a b c : Option (List ℕ)) (bs : List ℕ) → Appends a b bs → Keeps b c → Appends a c bs
+Appends-kept None b c bs p q = tt
+Appends-kept (Some x) None c bs p q = absurd p
+Appends-kept (Some x) (Some y) None bs p q = absurd q
+Appends-kept (Some x) (Some y) (Some z) bs p q = q ∙ p
+
+take_take : (n : ℕ) (xs ys : List ℕ) → take n (take n xs ++ ys) ≡ take n (xs ++ ys)
+take_take zero xs ys = refl
+take_take (suc n) [] ys = refl
+take_take (suc n) (x ∷ xs) ys = ap (λ t. x ∷ t) (take_take n xs ys)
+
+-- a byte that doesn't end the line
+pub stands_byte : (limit : ℕ) (start now : Option (List ℕ)) (old new : Reader) (bytes : List ℕ) (b : ℕ)
+    → Stands limit start now old bytes → nat_eq b 10 ≡ false
+    → new.session ≡ old.session → new.number ≡ old.number → new.failing ≡ old.failing → new.line.items ≡ take 142 (old.line.items ++ b ∷ [])
+    → Stands limit start now new (bytes ++ b ∷ [])
+stands_byte limit start now old new bytes b s e session number failing line = record {
+  lines = s.lines;
+  rest = s.rest ++ b ∷ [];
+  split = sym (append_assoc (joined s.lines) s.rest (b ∷ [])) ∙ ap (λ t. t ++ b ∷ []) s.split;
+  ended = s.ended;
+  open_end = NoEnd-push s.rest b s.open_end e;
+  turn = s.turn;
+  runs = s.runs;
+  session = session ∙ s.session;
+  number = number ∙ s.number;
+  line = line ∙ ap (λ t. take 142 (t ++ b ∷ [])) s.line ∙ take_take 142 s.rest (b ∷ []);
+  failing = failing ∙ s.failing;
+  written = s.written;
+}
+
+-- what the session answers is what the machine answers to the whole line
+replies_rest : (limit : ℕ) (start now : Option (List ℕ)) (r : Reader) (bytes : List ℕ) → (s : Stands limit start now r bytes) → (t : Turn)
+    → Replies r.session.limit r.session.machine r.number r.line.items t → Replies limit s.turn.next (1 + length s.lines) s.rest t
+replies_rest limit start now r bytes s t a =
+    subst (λ k. Answers limit s.turn.next (1 + length s.lines) k t) (ap line_of s.line ∙ line_kept s.rest)
+    (subst (λ n. Replies limit s.turn.next n r.line.items t) s.number
+    (subst (λ m. Replies m.limit m.machine r.number r.line.items t) s.session a))
+
+runs_rest : (limit : ℕ) (start now : Option (List ℕ)) (r : Reader) (bytes : List ℕ) → (s : Stands limit start now r bytes) → (t : Turn)
+    → Replies r.session.limit r.session.machine r.number r.line.items t → Runs limit opening 1 (s.lines ++ s.rest ∷ []) (both s.turn t)
+runs_rest limit start now r bytes s t a = runs-push limit opening 1 s.lines s.rest s.turn t s.runs (replies_rest limit start now r bytes s t a)
+
+-- the end of a line
+pub stands_line : (limit : ℕ) (start before now : Option (List ℕ)) (old new : Reader) (bytes : List ℕ)
+    → Stands limit start before old bytes → EndsLine before now old new → Stands limit start now new (bytes ++ 10 ∷ [])
+stands_line limit start before now old new bytes s e = record {
+  lines = s.lines ++ s.rest ∷ [];
+  rest = [];
+  split = append-nil _ ∙ joined-push s.lines s.rest ∙ sym (append_assoc (joined s.lines) s.rest (10 ∷ [])) ∙ ap (λ t. t ++ 10 ∷ []) s.split;
+  ended = NoEnds-push s.lines s.rest s.ended s.open_end;
+  open_end = tt;
+  turn = both s.turn e.turn;
+  runs = runs_rest limit start before old bytes s e.turn e.replies;
+  session = e.session ∙ ap (λ m. record { machine = e.turn.next; limit = m.limit }) s.session;
+  number = omega (arith, s.number, e.number, length-append s.lines (s.rest ∷ []));
+  line = e.line;
+  failing = e.failing ∙ ap (λ t. t || e.turn.failing) s.failing;
+  written = Appends-trans start before now _ _ s.written e.written;
+}
+
+pub lines_joined : (ls : List (List ℕ)) → NoEnds ls → lines (joined ls) ≡ ls
+unfolding lines
+lines_joined ls ended = ap lines (sym (append-nil (joined ls))) ∙ lines-joined ls [] ended ∙ append-nil ls
+
+pub whole_joined : (ls : List (List ℕ)) (rest : List ℕ) → NoEnds ls → NoEnd rest → whole (joined ls ++ rest) ≡ joined ls
+whole_joined ls rest ended open_end = whole-joined ls rest ended ∙ ap (λ t. joined ls ++ t) (whole-rest rest open_end) ∙ append-nil (joined ls)
+
+-- the lines of the whole lines
+lines_whole : (limit : ℕ) (start now : Option (List ℕ)) (r : Reader) (bytes : List ℕ) → (s : Stands limit start now r bytes) → lines (whole bytes) ≡ s.lines
+lines_whole limit start now r bytes s = ap (λ t. lines (whole t)) (sym s.split) ∙ ap lines (whole_joined s.lines s.rest s.ended s.open_end) ∙ lines_joined s.lines s.ended
+
+-- the replies to whole lines are the output over them
+pub stands_out_whole : (limit : ℕ) (start now : Option (List ℕ)) (r : Reader) (bytes : List ℕ) → Stands limit start now r bytes → WritesOut limit start now (whole bytes)
+stands_out_whole limit start now r bytes s = record { turn = s.turn; out = subst (λ ls. Runs limit opening 1 ls s.turn) (sym (lines_whole limit start now r bytes s)) s.runs; written = s.written }
+
+-- nothing more was written
+pub stands_whole : (limit : ℕ) (start before now : Option (List ℕ)) (r : Reader) (bytes more : List ℕ) → Stands limit start before r bytes → Keeps before now → WritesLines limit start now (bytes ++ more)
+stands_whole limit start before now r bytes more s keeps = record {
+  front = bytes;
+  rest = more;
+  split = refl;
+  writes = let w = stands_out_whole limit start before r bytes s in record { turn = w.turn; out = w.out; written = Appends-kept start before now _ w.written keeps };
+}
+
+-- a front part of a reply was written behind what was written
+within : (limit : ℕ) (start before now : Option (List ℕ)) (r : Reader) (bytes all : List ℕ) (rest : List (List ℕ)) → (s : Stands limit start before r bytes)
+    → (w : AnswersWithin before now r) → (s.lines ++ s.rest ∷ []) ++ rest ≡ lines all → WritesWithin limit start now all
+within limit start before now r bytes all rest s w e = record {
+  front = s.lines ++ s.rest ∷ [];
+  rest = rest;
+  split = e;
+  turn = both s.turn w.turn;
+  runs = runs_rest limit start before r bytes s w.turn w.replies;
+  some = record {
+    taken = s.turn.text ++ w.some.taken;
+    rest = w.some.rest;
+    split = append_assoc s.turn.text w.some.taken w.some.rest ∙ ap (λ t. s.turn.text ++ t) w.some.split;
+    appends = Appends-trans start before now _ _ s.written w.some.appends;
+  };
+}
+
+pub stands_within : (limit : ℕ) (start before now : Option (List ℕ)) (r : Reader) (bytes : List ℕ) → Stands limit start before r bytes → AnswersWithin before now r
+    → (rest : List ℕ) → WritesWithin limit start now (bytes ++ 10 ∷ rest)
+stands_within limit start before now r bytes s w rest =
+    within limit start before now r bytes (bytes ++ 10 ∷ rest) (lines rest) s w
+    (append_assoc s.lines (s.rest ∷ []) (lines rest) ∙ sym (ap (λ t. lines (t ++ (10 ∷ rest))) (sym s.split) ∙ ap lines (append_assoc (joined s.lines) s.rest (10 ∷ rest)) ∙ lines-joined s.lines (s.rest ++ (10 ∷ rest)) s.ended ∙ ap (λ t. s.lines ++ t) (lines-line s.rest rest s.open_end)))
+
+-- the same, of more bytes
+pub writes_longer : (limit : ℕ) (start now : Option (List ℕ)) (xs more ys : List ℕ) → WritesLines limit start now xs → xs ++ more ≡ ys → WritesLines limit start now ys
+writes_longer limit start now xs more ys w e = record {
+  front = w.front;
+  rest = w.rest ++ more;
+  split = sym (append_assoc w.front w.rest more) ∙ ap (λ t. t ++ more) w.split ∙ e;
+  writes = w.writes;
+}
+
+take_none : (xs : List ℕ) → take 142 xs ≡ [] → xs ≡ []
+take_none [] e = refl
+take_none (x ∷ xs) e = cc
+
+lines_of : (limit : ℕ) (start now : Option (List ℕ)) (r : Reader) (bytes : List ℕ) → (s : Stands limit start now r bytes) → lines bytes ≡ s.lines ++ last_line s.rest
+lines_of limit start now r bytes s = sym (ap lines s.split) ∙ lines-joined s.lines s.rest s.ended ∙ ap (λ t. s.lines ++ t) (lines-rest s.rest s.open_end)
+
+last_some : (r : List ℕ) → r ≢ [] → last_line r ≡ r ∷ []
+last_some [] some = absurd (some refl)
+last_some (x ∷ xs) some = refl
+
+lines_with_last : (limit : ℕ) (start now : Option (List ℕ)) (r : Reader) (bytes : List ℕ) → (s : Stands limit start now r bytes) → r.line.items ≢ [] → lines bytes ≡ s.lines ++ s.rest ∷ []
+lines_with_last limit start now r bytes s some = lines_of limit start now r bytes s ∙ ap (λ t. s.lines ++ t) (last_some s.rest (λ h. some (s.line ∙ ap (take 142) h)))
+
+-- with no byte behind the last line end, all is answered
+pub ends_whole : (limit : ℕ) (start now : Option (List ℕ)) (r : Reader) (bytes : List ℕ) → Stands limit start now r bytes → r.line.items ≡ [] → WritesAs limit start now bytes r.failing
+ends_whole limit start now r bytes s e =
+    let are : lines bytes ≡ s.lines = lines_of limit start now r bytes s ∙ ap (λ t. s.lines ++ last_line t) (take_none s.rest (sym s.line ∙ e)) ∙ append-nil s.lines in
+    record { turn = s.turn; out = subst (λ ls. Runs limit opening 1 ls s.turn) (sym are) s.runs; written = s.written; fails = sym s.failing }
+
+-- a last line without an end
+pub ends_line : (limit : ℕ) (start before now : Option (List ℕ)) (old new : Reader) (bytes : List ℕ)
+    → Stands limit start before old bytes → old.line.items ≢ [] → EndsLine before now old new → WritesAs limit start now bytes new.failing
+ends_line limit start before now old new bytes s some e = record {
+  turn = both s.turn e.turn;
+  out = subst (λ ls. Runs limit opening 1 ls (both s.turn e.turn)) (sym (lines_with_last limit start before old bytes s some)) (runs_rest limit start before old bytes s e.turn e.replies);
+  written = Appends-trans start before now _ _ s.written e.written;
+  fails = sym (e.failing ∙ ap (λ t. t || e.turn.failing) s.failing);
+}
+
+pub ends_within : (limit : ℕ) (start before now : Option (List ℕ)) (r : Reader) (bytes : List ℕ)
+    → Stands limit start before r bytes → r.line.items ≢ [] → AnswersWithin before now r → WritesWithin limit start now bytes
+ends_within limit start before now r bytes s some w = within limit start before now r bytes bytes [] s w (append-nil _ ∙ sym (lines_with_last limit start before r bytes s some))

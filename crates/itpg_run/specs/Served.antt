@@ -1,0 +1,96 @@
+-- What a run has taken and written, at each status.
+use Rattle.std.specs.Prelude.{◌≡◌, ℕ, ◌≤◌, ◌<◌, List, [], ◌++◌, length, take, Bool, true, false, IfSome}
+use Rattle.std.specs.declared.option.Option.{Option}
+use Rattle.std.specs.Io.KnownBytes.{Appends, Consumes, IsAtEnd}
+use Rattle.itpg_base.specs.Outside.{AppendsSome}
+use Rattle.itpg_run.specs.Machine.{Turn, opening}
+use Rattle.itpg_run.specs.Lines.{lines, whole}
+use Rattle.itpg_run.specs.Out.{Runs, IsOut}
+use Rattle.itpg_run.specs.declared.Status.{Status}
+use Rattle.itpg_run.specs.declared.Status.TheVariants.{Done, DoneRefused, Usage, ReadFault, WriteFault, Memory, TooLong}
+
+-- how many bytes a script may have
+abbrev pub longest : ℕ
+longest = 268435456
+
+-- how many rows an answer may have
+abbrev pub max_rows : ℕ
+max_rows = 100000
+
+-- a word, as its bytes
+abbrev pub Text : Type 0
+Text = List ℕ
+
+-- the words are a sentence of the command: as yet there are none
+abbrev pub IsSentence : List Text → Type 0
+IsSentence words = words ≡ []
+
+-- nothing was read and nothing was written
+pub record IsIdle (before left held now : Option (List ℕ)) : Type 0 where
+  pub taken : Consumes before left []
+  pub written : Appends held now []
+
+-- the output over these bytes was written
+pub record WritesOut (limit : ℕ) (held now : Option (List ℕ)) (bytes : List ℕ) : Type 0 where
+  pub turn : Turn
+  pub out : IsOut limit bytes turn
+  pub written : Appends held now turn.text
+
+-- the same, and whether a reply in it fails
+pub record WritesAs (limit : ℕ) (held now : Option (List ℕ)) (bytes : List ℕ) (failing : Bool) : Type 0 where
+  pub turn : Turn
+  pub out : IsOut limit bytes turn
+  pub written : Appends held now turn.text
+  pub fails : turn.failing ≡ failing
+
+-- the replies to some first lines of these bytes were written, each whole
+pub record WritesLines (limit : ℕ) (held now : Option (List ℕ)) (bytes : List ℕ) : Type 0 where
+  pub front : List ℕ
+  pub rest : List ℕ
+  pub split : front ++ rest ≡ bytes
+  pub writes : WritesOut limit held now (whole front)
+
+-- a front part of the replies to some first lines was written
+pub record WritesWithin (limit : ℕ) (held now : Option (List ℕ)) (bytes : List ℕ) : Type 0 where
+  pub front : List (List ℕ)
+  pub rest : List (List ℕ)
+  pub split : front ++ rest ≡ lines bytes
+  pub turn : Turn
+  pub runs : Runs limit opening 1 front turn
+  pub some : AppendsSome held now turn.text
+
+-- all bytes were taken, and the whole output was written
+pub record WritesAll (limit : ℕ) (left : Option (List ℕ)) (held now : Option (List ℕ)) (bytes : List ℕ) (failing : Bool) : Type 0 where
+  pub fits : length bytes ≤ longest
+  pub ended : IsAtEnd left
+  pub writes : WritesAs limit held now bytes failing
+
+-- what was written at this status, of the bytes that were taken
+abbrev pub Writes : Status → ℕ → Option (List ℕ) → Option (List ℕ) → Option (List ℕ) → Option (List ℕ) → List ℕ → Type 0
+Writes Done limit before left held now bytes = WritesAll limit left held now bytes false
+Writes DoneRefused limit before left held now bytes = WritesAll limit left held now bytes true
+Writes Usage limit before left held now bytes = ⊥
+Writes ReadFault limit before left held now bytes = (length bytes ≤ longest) × WritesOut limit held now (whole bytes)
+Writes WriteFault limit before left held now bytes = IfSome before (λ all. WritesWithin limit held now all)
+Writes Memory limit before left held now bytes = WritesLines limit held now bytes
+Writes TooLong limit before left held now bytes = (longest < length bytes) × WritesOut limit held now (whole (take longest bytes))
+
+-- a run took some bytes, and wrote what its status says
+pub record Served (status : Status) (limit : ℕ) (before left held now : Option (List ℕ)) : Type 0 where
+  pub bytes : List ℕ
+  pub taken : Consumes before left bytes
+  pub writes : Writes status limit before left held now bytes
+
+-- whatever the output over all is, a front part of it was written
+abbrev pub BeginsEach : ℕ → Option (List ℕ) → Option (List ℕ) → Option (List ℕ) → Type 0
+BeginsEach limit before held now = IfSome before (λ all. (t : Turn) → IsOut limit all t → AppendsSome held now t.text)
+
+-- all was answered, or memory was wanting
+abbrev pub EndsWell : Status → Type 0
+EndsWell Done = Unit {0}
+EndsWell DoneRefused = Unit {0}
+EndsWell Memory = Unit {0}
+EndsWell Usage = ⊥
+EndsWell ReadFault = ⊥
+EndsWell WriteFault = ⊥
+EndsWell TooLong = ⊥

@@ -1,0 +1,72 @@
+-- Where a reader stands behind the bytes that it was given.
+use Rattle.std.specs.Prelude.{◌≡◌, ℕ, ◌+◌, List, [], ◌++◌, length, take, ◌<◌, ◌||◌, true, false}
+use Rattle.std.specs.declared.option.Option.{Option}
+use Rattle.std.specs.Io.KnownBytes.{Appends}
+use Rattle.itpg_run.specs.Machine.{Turn, Replies, opening}
+use Rattle.itpg_run.specs.Steps.{StepsWithin}
+use Rattle.itpg_run.specs.Out.{Runs}
+use Rattle.itpg_run.specs.Split.{NoEnd, NoEnds, joined}
+use Rattle.itpg_run.specs.Served.{WritesLines, WritesOut, WritesAs, WritesWithin}
+use Rattle.itpg_run.specs.Lines.{whole}
+use Rattle.itpg_run.specs.declared.reader.Reader.{Reader}
+use Rattle.itpg_run.specs.declared.reader.Stop.{Stop}
+use Rattle.itpg_run.specs.declared.reader.Stop.TheVariants as stop
+use Rattle.itpg_run.specs.declared.Status.{Status}
+use Rattle.itpg_run.specs.declared.Status.TheVariants.{Done, DoneRefused, Usage, ReadFault, WriteFault, Memory, TooLong}
+
+-- the line that was read was answered
+pub record EndsLine (held now : Option (List ℕ)) (old new : Reader) : Type 0 where
+  pub turn : Turn
+  pub replies : Replies old.session.limit old.session.machine old.number old.line.items turn
+  pub written : Appends held now turn.text
+  pub session : new.session ≡ record { machine = turn.next; limit = old.session.limit }
+  pub number : new.number ≡ old.number + 1
+  pub line : new.line.items ≡ []
+  pub failing : new.failing ≡ (old.failing || turn.failing)
+
+-- a front part of the reply to the line that was read was written
+abbrev pub AnswersWithin : Option (List ℕ) → Option (List ℕ) → Reader → Type 0
+AnswersWithin before now r = StepsWithin (λ turn. Replies r.session.limit r.session.machine r.number r.line.items turn) before now
+
+-- the reader was given these bytes, and the replies to the whole lines in them were written
+pub record Stands (limit : ℕ) (start now : Option (List ℕ)) (r : Reader) (bytes : List ℕ) : Type 0 where
+  pub lines : List (List ℕ)
+  pub rest : List ℕ
+  pub split : joined lines ++ rest ≡ bytes
+  pub ended : NoEnds lines
+  pub open_end : NoEnd rest
+  pub turn : Turn
+  pub runs : Runs limit opening 1 lines turn
+  pub session : r.session ≡ record { machine = turn.next; limit = limit }
+  pub number : r.number ≡ 1 + length lines
+  pub line : r.line.items ≡ take 142 rest
+  pub failing : r.failing ≡ turn.failing
+  pub written : Appends start now turn.text
+
+-- more bytes were given
+abbrev pub Feeds : Option (List ℕ) → Option (List ℕ) → Reader → Reader → List ℕ → Type 0
+Feeds before now old new more = (limit : ℕ) (start : Option (List ℕ)) (bytes : List ℕ) → Stands limit start before old bytes → Stands limit start now new (bytes ++ more)
+
+-- whole replies were written, and no further one
+abbrev pub StopsWhole : Option (List ℕ) → Option (List ℕ) → Reader → List ℕ → Type 0
+StopsWhole before now old more = (limit : ℕ) (start : Option (List ℕ)) (bytes : List ℕ) → Stands limit start before old bytes → WritesLines limit start now (bytes ++ more)
+
+-- a front part of the output was written, whatever follows
+abbrev pub StopsWithin : Option (List ℕ) → Option (List ℕ) → Reader → List ℕ → Type 0
+StopsWithin before now old more = (limit : ℕ) (start : Option (List ℕ)) (bytes : List ℕ) → Stands limit start before old bytes → (rest : List ℕ) → WritesWithin limit start now (bytes ++ (more ++ rest))
+
+-- a chunk was not taken whole
+abbrev pub Stops : Stop → Option (List ℕ) → Option (List ℕ) → Reader → List ℕ → ℕ → Type 0
+Stops stop.Memory before now old more room = StopsWhole before now old more
+Stops stop.Write before now old more room = StopsWithin before now old more
+Stops stop.TooLong before now old more room = (room < length more) × ((limit : ℕ) (start : Option (List ℕ)) (bytes : List ℕ) → Stands limit start before old bytes → WritesOut limit start now (whole (bytes ++ take room more)))
+
+-- all bytes were taken
+abbrev pub Ends : Status → ℕ → Option (List ℕ) → Option (List ℕ) → List ℕ → Type 0
+Ends Done limit start now bytes = WritesAs limit start now bytes false
+Ends DoneRefused limit start now bytes = WritesAs limit start now bytes true
+Ends Usage limit start now bytes = ⊥
+Ends ReadFault limit start now bytes = ⊥
+Ends WriteFault limit start now bytes = WritesWithin limit start now bytes
+Ends Memory limit start now bytes = WritesLines limit start now bytes
+Ends TooLong limit start now bytes = ⊥

@@ -1,0 +1,177 @@
+// Lines out of bytes.
+ghost use Rattle.std.specs.Prelude.{◌≡◌, ◌+◌, ◌-◌, ◌^◌, ◌≤◌, ◌<◌, [], ◌∷◌, ◌++◌, ◌||◌, take, length, false, true, OnOk, OnErr, IfErr, IsErrOf, ℕ, List};
+ghost use Rattle.std.specs.Io.KnownBytes.{Appends, Keeps};
+ghost use Rattle.std.specs.declared.option.Option.{Option};
+ghost use Rattle.itpg_base.specs.Outside.{Rose, AppendsSome};
+ghost use Rattle.itpg_run.specs.Machine.{opening};
+
+use crate::Status;
+use crate::session::{Seen, Session, StepFault};
+use itpg_base::Sink;
+use std::alloc::Global;
+
+/// How many bytes of a line are kept: one more than a plain line has at most, which is enough to tell what it says.
+pub(crate) const KEPT: usize = 142;
+
+const LINE_END: u8 = b'\n';
+
+/// A session, and the line that is being read: its number and its first bytes.
+#[derive(Drop)]
+pub(crate) struct Reader {
+    pub(crate) session: Session,
+    pub(crate) line: Vec<u8>,
+    pub(crate) number: u64,
+    pub(crate) failing: bool,
+    ghost short: { length line.items ≤ 142 },
+}
+
+impl Reader {
+    pub(crate) fn new(alloc: Global, limit: usize) -> Self
+        ensures session { result.session ≡ record { machine = opening; limit = limit } }
+        ensures line { result.line.items ≡ [] }
+        ensures number { result.number ≡ 1 }
+        ensures failing { result.failing ≡ false }
+    {
+        Reader {
+            session: Session::new(alloc, limit),
+            line: Vec::new(alloc),
+            number: 1,
+            failing: false,
+        }
+    }
+
+    /// Keeps a byte of the line.
+    pub(crate) fn keep(&mut self, byte: u8) -> Result<(), StepFault>
+        ensures line { OnOk result (self.new.line.items ≡ take KEPT (self.old.line.items ++ byte ∷ [])) }
+        ensures session { self.new.session ≡ self.old.session }
+        ensures number { self.new.number ≡ self.old.number }
+        ensures failing { self.new.failing ≡ self.old.failing }
+        ensures memory { IsErrOf result StepFault.Write → ⊥ }
+    {
+        if self.line.len() < KEPT {
+            self.line.push(byte)?;
+        }
+        Ok(())
+    }
+}
+
+impl Reader {
+    ghost use Rattle.itpg_run.specs.Stands.{AnswersWithin, EndsLine, Stands, Feeds, StopsWhole, StopsWithin, Stops, Ends};
+    ghost use Rattle.itpg_run.specs.Served.{WritesAs, WritesWithin};
+
+    /// Answers the line that was read.
+    pub(crate) fn end_line<K: Sink>(&mut self, out: &mut K) -> Result<(), StepFault>
+        requires { self.old.number < 2 ^ 64 - 1 }
+        ensures ended { OnOk result (EndsLine (K.held out.old) (K.held out.new) self.old self.new) }
+        ensures memory { IsErrOf result StepFault.Memory → Keeps (K.held out.old) (K.held out.new) }
+        ensures write { IsErrOf result StepFault.Write → Rose (K.faults out.old) (K.faults out.new) }
+        ensures some { IsErrOf result StepFault.Write → AnswersWithin (K.held out.old) (K.held out.new) self.old }
+        ensures later { K.faults out.old ≤ K.faults out.new }
+    {
+        let seen = self.session.step(self.number, &self.line, out)?;
+        self.line.clear();
+        self.number += 1;
+        if seen == Seen::Refused {
+            self.failing = true;
+        }
+        Ok(())
+    }
+
+    /// Takes a byte, and answers the line that it ends.
+    pub(crate) fn take_byte<K: Sink>(&mut self, byte: u8, out: &mut K) -> Result<(), StepFault>
+        requires { self.old.number < 2 ^ 64 - 1 }
+        ensures fed { OnOk result (Feeds (K.held out.old) (K.held out.new) self.old self.new (byte ∷ [])) }
+        ensures number { OnOk result (self.new.number ≤ self.old.number + 1) }
+        ensures memory { IsErrOf result StepFault.Memory → StopsWhole (K.held out.old) (K.held out.new) self.old (byte ∷ []) }
+        ensures write { IsErrOf result StepFault.Write → StopsWithin (K.held out.old) (K.held out.new) self.old (byte ∷ []) }
+        ensures rose { IsErrOf result StepFault.Write → Rose (K.faults out.old) (K.faults out.new) }
+        ensures later { K.faults out.old ≤ K.faults out.new }
+    {
+        if byte == LINE_END {
+            self.end_line(out)?;
+            Ok(())
+        } else {
+            self.keep(byte)?;
+            Ok(())
+        }
+    }
+
+    /// Takes bytes one by one.
+    pub(crate) fn feed<K: Sink>(&mut self, bytes: &[u8], out: &mut K) -> Result<(), StepFault>
+        requires { self.old.number + length bytes.now < 2 ^ 64 }
+        ensures fed { OnOk result (Feeds (K.held out.old) (K.held out.new) self.old self.new bytes.now) }
+        ensures number { OnOk result (self.new.number ≤ self.old.number + length bytes.now) }
+        ensures memory { IsErrOf result StepFault.Memory → StopsWhole (K.held out.old) (K.held out.new) self.old bytes.now }
+        ensures write { IsErrOf result StepFault.Write → StopsWithin (K.held out.old) (K.held out.new) self.old bytes.now }
+        ensures rose { IsErrOf result StepFault.Write → Rose (K.faults out.old) (K.faults out.new) }
+        ensures later { K.faults out.old ≤ K.faults out.new }
+    {
+        for byte in bytes {
+            self.take_byte(*byte, out)?;
+        }
+        Ok(())
+    }
+
+    /// Takes as many bytes as there is room for, and stops where there are more.
+    pub(crate) fn take_chunk<K: Sink>(
+        &mut self,
+        bytes: &[u8],
+        room: usize,
+        out: &mut K,
+    ) -> Result<(), Stop>
+        requires { self.old.number + room < 2 ^ 64 }
+        ensures fits { OnOk result (length bytes.now ≤ room) }
+        ensures fed { OnOk result (Feeds (K.held out.old) (K.held out.new) self.old self.new bytes.now) }
+        ensures number { OnOk result (self.new.number ≤ self.old.number + length bytes.now) }
+        ensures stops { IfErr result (λ stop. Stops stop (K.held out.old) (K.held out.new) self.old bytes.now room) }
+        ensures rose { IsErrOf result Stop.Write → Rose (K.faults out.old) (K.faults out.new) }
+        ensures later { K.faults out.old ≤ K.faults out.new }
+    {
+        let front = &bytes[..bytes.len().min(room)];
+        match self.feed(front, out) {
+            Ok(()) if bytes.len() > room => Err(Stop::TooLong),
+            Ok(()) => Ok(()),
+            Err(StepFault::Memory) => Err(Stop::Memory),
+            Err(StepFault::Write) => Err(Stop::Write),
+        }
+    }
+
+    /// Answers a last line without an end, if it has a byte.
+    pub(crate) fn end_last<K: Sink>(&mut self, out: &mut K) -> Result<(), StepFault>
+        requires { self.old.number < 2 ^ 64 - 1 }
+        ensures ended { OnOk result ((limit : ℕ) (start : Option (List ℕ)) (bytes : List ℕ) → Stands limit start (K.held out.old) self.old bytes → WritesAs limit start (K.held out.new) bytes self.new.failing) }
+        ensures memory { IsErrOf result StepFault.Memory → StopsWhole (K.held out.old) (K.held out.new) self.old [] }
+        ensures write { IsErrOf result StepFault.Write → (limit : ℕ) (start : Option (List ℕ)) (bytes : List ℕ) → Stands limit start (K.held out.old) self.old bytes → WritesWithin limit start (K.held out.new) bytes }
+        ensures rose { IsErrOf result StepFault.Write → Rose (K.faults out.old) (K.faults out.new) }
+        ensures later { K.faults out.old ≤ K.faults out.new }
+    {
+        if self.line.is_empty() {
+            return Ok(());
+        }
+        self.end_line(out)?;
+        Ok(())
+    }
+
+    /// Answers a last line without an end, if it has a byte, and says how all ended.
+    pub(crate) fn finish<K: Sink>(&mut self, out: &mut K) -> Status
+        requires { self.old.number < 2 ^ 64 - 1 }
+        ensures ends { (limit : ℕ) (start : Option (List ℕ)) (bytes : List ℕ) → Stands limit start (K.held out.old) self.old bytes → Ends result limit start (K.held out.new) bytes }
+        ensures rose { result ≡ Status.WriteFault → Rose (K.faults out.old) (K.faults out.new) }
+        ensures later { K.faults out.old ≤ K.faults out.new }
+    {
+        match self.end_last(out) {
+            Ok(()) if self.failing => Status::DoneRefused,
+            Ok(()) => Status::Done,
+            Err(StepFault::Memory) => Status::Memory,
+            Err(StepFault::Write) => Status::WriteFault,
+        }
+    }
+}
+
+/// Why a chunk wasn't taken whole.
+#[derive(Clone, Copy, Debug, PartialEq, Eq)]
+pub(crate) enum Stop {
+    Memory,
+    Write,
+    TooLong,
+}
