@@ -1,5 +1,6 @@
 pub mod Searches
 pub mod Objects
+pub mod PointSearch
 pub mod Labels
 pub mod Padding
 pub mod Pieces

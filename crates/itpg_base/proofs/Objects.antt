@@ -1,11 +1,11 @@
 -- Objects by number and by name.
-use Rattle.std.proofs.Common.{◌≡◌, ◌≢◌, ℕ, zero, suc, ◌+◌, ◌<◌, List, [], ◌∷◌, ◌++◌, ◌⊎◌, inl, inr, length, Option, Some, None, Bool, true, false, ◌&&◌, refl, sym, ap, ◌∙◌, subst, arith, true≢false, cond}
-use Rattle.std.specs.Prelude.{slice_get, IsSomeAnd, IsTrue, nat_eq}
+use Rattle.std.proofs.Common.{◌≡◌, ◌≢◌, ℕ, zero, suc, ◌+◌, List, [], ◌∷◌, ◌++◌, ◌⊎◌, inl, inr, length, Option, Some, None, Bool, true, false, ◌&&◌, refl, sym, ap, ◌∙◌, subst, arith, true≢false, cond}
+use Rattle.std.specs.Prelude.{slice_get, IsSomeAnd, nat_eq}
 use Rattle.std.specs.List.{position_from}
 use Rattle.std.specs.Cmp.Lexicographic.{pointwise}
 use Rattle.std.proofs.lemmas.Bool.{eqb-true, eq-eqb}
 use Rattle.itpg_base.specs.Words.{Word}
-use Rattle.itpg_base.specs.Graphs.{Object, Graph, ObjectIs, Named, Good, has_name, numbered, changed_at}
+use Rattle.itpg_base.specs.Graphs.{Object, Graph, Named, Good, has_name, numbered, changed_at}
 
 -- what is at a place
 pub there : {X : Type 0} (xs : List X) (o : ℕ) (P : X → Type 0) → IsSomeAnd (slice_get xs o) P → (x : X) × (slice_get xs o ≡ Some x) × P x

@@ -2,9 +2,11 @@ pub mod Words
 pub mod Names
 pub mod LabelSets
 pub mod Rules
+pub mod TextCodes
 pub mod Chains
 pub mod Decided
 pub mod Spans
 pub mod Graphs
+pub mod Points
 pub mod Outside
 pub mod Devices

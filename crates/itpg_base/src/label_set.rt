@@ -87,6 +87,8 @@ fn are_all(labels: &[Name], label: &Name) -> bool
 impl Copy for LabelSet {}
 
 impl Clone for LabelSet {
+    ghost is_clone = { λ v w. w ≡ v };
+
     fn clone(&self) -> Result<Self, AllocError> {
         Ok(*self)
     }

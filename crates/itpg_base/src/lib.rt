@@ -5,6 +5,7 @@
 #![tactic(auto)]
 
 mod label_set;
+mod limits;
 mod mem_sink;
 mod mem_source;
 mod name;
@@ -14,8 +15,11 @@ mod repeat_source;
 mod rule_code;
 mod std_streams;
 mod tally_sink;
+mod text_code;
+mod touch;
 
 pub use label_set::{LabelSet, MAX_LABELS};
+pub use limits::Limits;
 pub use mem_sink::MemSink;
 pub use mem_source::{MemSource, SureSource};
 pub use name::{MAX_NAME, Name};
@@ -25,3 +29,5 @@ pub use repeat_source::RepeatSource;
 pub use rule_code::RuleCode;
 pub use std_streams::{StdSink, StdSource};
 pub use tally_sink::TallySink;
+pub use text_code::TextCode;
+pub use touch::Touch;

@@ -76,6 +76,8 @@ fn padded_block(bytes: &[u8]) -> [u8; MAX_NAME]
 impl Copy for Name {}
 
 impl Clone for Name {
+    ghost is_clone = { λ v w. w ≡ v };
+
     fn clone(&self) -> Result<Self, AllocError> {
         Ok(*self)
     }

@@ -1,4 +1,4 @@
-use Rattle.std.proofs.Common.{◌≡◌, ℕ, List, ◌<◌, ◌+◌, ◌⊎◌, ap, length, arith, refl, rules, true, Contains, subst, inl, inr, sym, ◌∙◌}
+use Rattle.std.proofs.Common.{◌≡◌, ℕ, List, ◌<◌, ◌+◌, ◌⊎◌, arith, refl, rules, true, Contains, subst, inl, inr, sym}
 use Rattle.itpg_base.specs.Devices.{saturate}
 use Rattle.itpg_base.proofs.mem_sink.MemSinkSink.write.Goals as goal
 

@@ -1,6 +1,4 @@
-use Rattle.std.proofs.Common.{rules, ◌≡◌, List, ◌++◌, take, drop, refl, sym, ◌∙◌, take-append-drop}
-use Rattle.std.proofs.lemmas.Grind.{common_steps}
-use Rattle.std.proofs.Common.{arith}
+use Rattle.std.proofs.Common.{take, drop, refl, sym, ◌∙◌, take-append-drop}
 use Rattle.itpg_base.proofs.Pieces.{some_none, some_more, take_all}
 use Rattle.itpg_base.proofs.std_streams.StdSinkSink.write.Goals as goal
 
