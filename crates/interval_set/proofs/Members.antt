@@ -1,5 +1,5 @@
 -- Members of a list, by recursion and by index.
-use Rattle.std.proofs.Common.{◌≡◌, ◌⊎◌, inl, inr, ℕ, zero, suc, ◌<◌, List, [], ◌∷◌, ◌++◌, length, get_or, refl, subst, arith, All, Any}
+use Rattle.std.proofs.Common.{◌≡◌, ◌⊎◌, inl, inr, ℕ, zero, suc, ◌<◌, List, [], ◌∷◌, ◌++◌, length, get_or, refl, subst, arith, All}
 
 -- the value is one of the list
 abbrev pub Among : {X : Type 0} → List X → X → Type 0
@@ -32,6 +32,3 @@ at_among (a ∷ xs) x (inr m) = let p = at_among xs x m in (suc p.0, omega arith
 
 pub all_among : {X : Type 0} (P : X → Type 0) (xs : List X) (x : X) → All P xs → Among xs x → P x
 all_among P xs x all m = let p = at_among xs x m in subst P (p.2 x) (all p.0 x p.1)
-
-pub among_any : {X : Type 0} (P : X → Type 0) (xs : List X) → Any P xs → (x : X) × Among xs x × P x
-among_any {X} P xs a = (a.1, subst (λ (y : X). Among xs y) a.3 (among_at xs a.0 a.1 a.2), a.4)

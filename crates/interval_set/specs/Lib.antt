@@ -1,2 +1,6 @@
 pub mod Runs
+pub mod Plain
 pub mod Places
+pub mod Borders
+pub mod Edits
+pub mod Operations

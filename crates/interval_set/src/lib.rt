@@ -5,11 +5,23 @@
 //! and that a call which finds no memory changes nothing.
 #![tactic(auto)]
 
-mod edits;
+mod changes;
+mod edit;
 mod laws;
+mod places;
+mod run;
 mod set;
 mod span;
+mod sweep;
+#[cfg(test)]
+mod tests;
+mod values;
 
-pub use laws::{law_of_existence, law_of_uniqueness};
+pub use laws::{
+    law_of_changes, law_of_existence, law_of_existing_values, law_of_unique_values,
+    law_of_uniqueness,
+};
+pub use run::Run;
 pub use set::IntervalSet;
 pub use span::Span;
+pub use values::ValuedSet;

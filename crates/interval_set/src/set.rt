@@ -1,11 +1,13 @@
 //! Sets of moments.
-ghost use Rattle.std.specs.Prelude.{◌≡◌, ◌↔◌, ◌⊎◌, ◌≤◌, ℤ, pos, ◌+ℤ◌, ◌≤ℤ◌, ◌<ℤ◌, List, [], length, take, drop, All, IsTrue, OnOk, OnErr};
-ghost use Rattle.itpg_base.specs.Spans.{Span as PlainSpan, IsSpan, Within, Covers, IsCoalesced};
+ghost use Rattle.std.specs.Prelude.{◌≡◌, ◌↔◌, ◌⊎◌, ℤ, List, [], length, IsTrue, IfOk, OnOk, OnErr};
+ghost use Rattle.itpg_base.specs.Spans.{Span as PlainSpan, Within, Covers, IsCoalesced};
 ghost use Rattle.interval_set.specs.Runs.{AreRuns};
-ghost use Rattle.interval_set.specs.Places.{AreNeighbours, IsHull};
+ghost use Rattle.interval_set.specs.Operations.{Keeps};
 
-use crate::edits::replace_run;
+use crate::changes::{clearing, putting};
+use crate::places::next_from;
 use crate::span::Span;
+use crate::sweep::{Operation, combined};
 use std::alloc::{AllocError, Global};
 use std::marker::Model;
 
@@ -42,6 +44,23 @@ impl IntervalSet {
         }
     }
 
+    /// The result of the operation on this set and the other.
+    fn combined_with(&self, operation: Operation, other: &[Span]) -> Result<IntervalSet, AllocError>
+        requires { IsCoalesced other.now }
+        ensures { IfOk result (λ spans. AreRuns (λ t. Keeps operation (Covers self.now t) (Covers other.now t)) spans) }
+    {
+        let spans = combined(*self.spans.allocator(), operation, &self.spans, other)?;
+        Ok(IntervalSet { spans })
+    }
+
+    /// The set of these spans.
+    pub(crate) fn from_spans(spans: Vec<Span>) -> IntervalSet
+        requires { IsCoalesced spans.items }
+        ensures { result ≡ spans.items }
+    {
+        IntervalSet { spans }
+    }
+
     /// The spans of the set, rising.
     pub fn spans(&self) -> &[Span]
         ensures value { result.now ≡ self.now }
@@ -54,8 +73,28 @@ impl IntervalSet {
     pub fn holds(&self, t: i64) -> bool
         ensures { IsTrue result ↔ Covers self.now t }
     {
-        match self.spans.get(ended_before(&self.spans, t)) {
-            Some(span) => span.from() <= t,
+        match next_from(&self.spans, t) {
+            Some(span) => span.begins_by(t),
+            None => false,
+        }
+    }
+
+    /// Whether every moment of `s` is in the set.
+    pub fn covers(&self, s: Span) -> bool
+        ensures { IsTrue result ↔ ((t : ℤ) → Within t s → Covers self.now t) }
+    {
+        match next_from(&self.spans, s.from()) {
+            Some(span) => s.is_inside(span),
+            None => false,
+        }
+    }
+
+    /// Whether some moment of `s` is in the set.
+    pub fn touches(&self, s: Span) -> bool
+        ensures { IsTrue result ↔ ((t : ℤ) × Within t s × Covers self.now t) }
+    {
+        match next_from(&self.spans, s.from()) {
+            Some(span) => span.begins_by(s.to()),
             None => false,
         }
     }
@@ -64,8 +103,7 @@ impl IntervalSet {
     pub fn count_joined(&self, s: Span) -> usize
         ensures { (spans : List PlainSpan) → AreRuns (λ t. Covers self.now t ⊎ Within t s) spans → result ≡ length spans }
     {
-        let (first, last) = neighbours(&self.spans, s);
-        first + 1 + (self.spans.len() - last)
+        putting(&self.spans, s).count(&self.spans)
     }
 
     /// Adds the moments of `s`. Without memory the set stays as it was.
@@ -79,84 +117,75 @@ impl IntervalSet {
         ensures ok { OnOk result (AreRuns (λ t. Covers self.old t ⊎ Within t s) self.new) }
         ensures err { OnErr result (self.new ≡ self.old) }
     {
-        let (first, last) = neighbours(&self.spans, s);
-        let joined = hull(&self.spans[first..last], s);
-        replace_run(&mut self.spans, first, last, &[joined])
-    }
-}
-
-/// The places of the spans that overlap or touch `s`: from the first number to before the second.
-fn neighbours(spans: &[Span], s: Span) -> (usize, usize)
-    requires { IsCoalesced spans.now }
-    ensures ordered { IsSpan s }
-    ensures places { AreNeighbours spans.now s result.0 result.1 }
-{
-    (
-        ended_apart_before(spans, s.from()),
-        begun_by_next(spans, s.to()),
-    )
-}
-
-/// How many of the spans end before the moment.
-fn ended_before(spans: &[Span], t: i64) -> usize
-    requires { IsCoalesced spans.now }
-    ensures within { result ≤ length spans.now }
-    ensures ended { All (λ a. a.to <ℤ t) (take result spans.now) }
-    ensures going { All (λ a. t ≤ℤ a.to) (drop result spans.now) }
-{
-    spans.partition_point(|a| a.to() < t)
-}
-
-/// How many of the spans end before the moment, with at least one moment missing between.
-fn ended_apart_before(spans: &[Span], t: i64) -> usize
-    requires { IsCoalesced spans.now }
-    ensures within { result ≤ length spans.now }
-    ensures apart { All (λ a. (a.to +ℤ pos 1) <ℤ t) (take result spans.now) }
-    ensures near { All (λ a. t ≤ℤ (a.to +ℤ pos 1)) (drop result spans.now) }
-{
-    spans.partition_point(|a| a.ends_apart_before(t))
-}
-
-/// How many of the spans begin at the moment after `t`, or earlier.
-fn begun_by_next(spans: &[Span], t: i64) -> usize
-    requires { IsCoalesced spans.now }
-    ensures within { result ≤ length spans.now }
-    ensures near { All (λ a. a.from ≤ℤ (t +ℤ pos 1)) (take result spans.now) }
-    ensures apart { All (λ a. (t +ℤ pos 1) <ℤ a.from) (drop result spans.now) }
-{
-    spans.partition_point(|a| !a.begins_apart_after(t))
-}
-
-/// The smallest span that has the moments of `s` and of the spans near it.
-fn hull(near: &[Span], s: Span) -> Span
-    requires { IsCoalesced near.now }
-    ensures { IsHull s near.now result }
-{
-    match (near.first(), near.last()) {
-        (Some(first), Some(last)) => s.reaching(first, last),
-        _ => s,
-    }
-}
-
-#[cfg(test)]
-mod tests {
-    use super::*;
-    use std::test::Fail;
-
-    fn span(from: i64, to: i64) -> Result<Span, Fail> {
-        Ok(Span::new(from, to).ok_or("the span ends before it begins")?)
+        putting(&self.spans, s).apply(&mut self.spans)
     }
 
-    #[test]
-    fn joins_what_touches(rt: HostRuntime) -> Result<(), Fail> {
-        let mut set = IntervalSet::new(rt.alloc());
-        set.join_span(span(7, 20)?)?;
-        set.join_span(span(0, 4)?)?;
-        assert_eq!(rt; set.spans(), [span(0, 4)?, span(7, 20)?].as_slice());
-        assert_eq!(rt; set.count_joined(span(5, 6)?), 1);
-        assert!(rt; set.holds(4) && !set.holds(5) && set.holds(7));
-        set.join_span(span(5, 6)?)?;
-        assert_eq!(rt; set.spans(), [span(0, 20)?].as_slice());
-        Ok(())
+    /// How many spans the set would have with the moments of `s` taken out.
+    pub fn count_cut(&self, s: Span) -> usize
+        ensures { (spans : List PlainSpan) → AreRuns (λ t. Covers self.now t × (¬ Within t s)) spans → result ≡ length spans }
+    {
+        clearing(&self.spans, s).count(&self.spans)
+    }
+
+    /// Takes the moments of `s` out. Without memory the set stays as it was.
+    ///
+    /// ```text
+    /// set          [0..20                 ]
+    /// s                  [5..6]
+    /// afterwards   [0..4]     [7..20      ]
+    /// ```
+    pub fn cut_span(&mut self, s: Span) -> Result<(), AllocError>
+        ensures ok { OnOk result (AreRuns (λ t. Covers self.old t × (¬ Within t s)) self.new) }
+        ensures err { OnErr result (self.new ≡ self.old) }
+    {
+        clearing(&self.spans, s).apply(&mut self.spans)
+    }
+
+    /// The moments that both sets have.
+    pub fn meet(&self, other: &IntervalSet) -> Result<IntervalSet, AllocError>
+        ensures { IfOk result (λ both. AreRuns (λ t. Covers self.now t × Covers other.now t) both) }
+    {
+        self.combined_with(Operation::Meet, &other.spans)
+    }
+
+    /// The moments that the one set has or the other.
+    pub fn join(&self, other: &IntervalSet) -> Result<IntervalSet, AllocError>
+        ensures { IfOk result (λ either. AreRuns (λ t. Covers self.now t ⊎ Covers other.now t) either) }
+    {
+        self.combined_with(Operation::Join, &other.spans)
+    }
+
+    /// The moments that this set has and the other hasn't.
+    pub fn minus(&self, other: &IntervalSet) -> Result<IntervalSet, AllocError>
+        ensures { IfOk result (λ rest. AreRuns (λ t. Covers self.now t × (¬ Covers other.now t)) rest) }
+    {
+        self.combined_with(Operation::Minus, &other.spans)
+    }
+
+    /// The moments of the horizon that aren't in the set.
+    ///
+    /// ```text
+    /// horizon      [0..100                          ]
+    /// set          [0..4]     [7..20  ]
+    /// result             [5..6]        [21..100     ]
+    /// ```
+    pub fn within(&self, horizon: Span) -> Result<IntervalSet, AllocError>
+        ensures { IfOk result (λ rest. AreRuns (λ t. Within t horizon × (¬ Covers self.now t)) rest) }
+    {
+        let spans = combined(
+            *self.spans.allocator(),
+            Operation::Minus,
+            &[horizon],
+            &self.spans,
+        )?;
+        Ok(IntervalSet { spans })
+    }
+
+    /// An equal set of its own.
+    pub fn copy(&self) -> Result<IntervalSet, AllocError>
+        ensures { IfOk result (λ copy. copy ≡ self.now) }
+    {
+        let spans = Vec::from_slice(*self.spans.allocator(), &self.spans)?;
+        Ok(IntervalSet { spans })
     }
 }

@@ -1,6 +1,8 @@
 //! A span of moments.
-ghost use Rattle.std.specs.Prelude.{◌≡◌, ◌↔◌, pos, ◌+ℤ◌, ◌≤ℤ◌, IsSome, IfSome, int_lt};
+ghost use Rattle.std.specs.Prelude.{◌≡◌, ◌↔◌, pos, ◌+ℤ◌, ◌-ℤ◌, ◌≤ℤ◌, ◌<ℤ◌, IsTrue, IsSome, IfSome, int_lt};
+ghost use Rattle.std.specs.Option.{SomeIff};
 ghost use Rattle.std.specs.Int.{int_max, int_min};
+ghost use Rattle.interval_set.specs.Places.{IsInside};
 
 use std::marker::Model;
 
@@ -44,6 +46,14 @@ impl Span {
         }
     }
 
+    /// The span from the one moment to the other.
+    pub(crate) fn between(from: i64, to: i64) -> Span
+        requires { from ≤ℤ to }
+        ensures { result ≡ record { from = from; to = to } }
+    {
+        Span { from, to }
+    }
+
     /// The first moment of the span.
     pub fn from(&self) -> i64
         ensures value { result ≡ self.now.from }
@@ -74,6 +84,20 @@ impl Span {
         t < self.from && t + 1 < self.from
     }
 
+    /// Whether the span begins at the moment or earlier.
+    pub(crate) fn begins_by(&self, t: i64) -> bool
+        ensures { IsTrue result ↔ (self.now.from ≤ℤ t) }
+    {
+        self.from <= t
+    }
+
+    /// Whether every moment of the span is one of `other`.
+    pub(crate) fn is_inside(&self, other: &Span) -> bool
+        ensures { IsTrue result ↔ IsInside self.now other.now }
+    {
+        other.from <= self.from && self.to <= other.to
+    }
+
     /// The span from where it or `first` begins to where it or `last` ends.
     pub(crate) fn reaching(&self, first: &Span, last: &Span) -> Span
         ensures from { result.from ≡ int_min self.now.from first.now.from }
@@ -83,5 +107,30 @@ impl Span {
             from: self.from.min(first.from),
             to: self.to.max(last.to),
         }
+    }
+    /// The moments of the span before `s`, if any.
+    pub(crate) fn before(&self, s: &Span) -> Option<Span>
+        ensures { SomeIff result (self.now.from <ℤ s.now.from) (record { from = self.now.from; to = int_min self.now.to (s.now.from -ℤ pos 1) }) }
+    {
+        if s.from <= self.from {
+            return None;
+        }
+        Some(Span {
+            from: self.from,
+            to: self.to.min(s.from - 1),
+        })
+    }
+
+    /// The moments of the span after `s`, if any.
+    pub(crate) fn after(&self, s: &Span) -> Option<Span>
+        ensures { SomeIff result (s.now.to <ℤ self.now.to) (record { from = int_max self.now.from (s.now.to +ℤ pos 1); to = self.now.to }) }
+    {
+        if self.to <= s.to {
+            return None;
+        }
+        Some(Span {
+            from: self.from.max(s.to + 1),
+            to: self.to,
+        })
     }
 }
