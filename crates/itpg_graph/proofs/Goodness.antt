@@ -1,11 +1,11 @@
 -- Each change leaves a good graph.
-use Rattle.std.proofs.Common.{◌≡◌, ◌≢◌, ℕ, zero, suc, ◌+◌, ◌<◌, ◌≤◌, ℤ, List, [], ◌∷◌, ◌++◌, ◌⊎◌, inl, inr, length, Option, Some, None, true, refl, sym, ap, ◌∙◌, subst, arith, length-append}
+use Rattle.std.proofs.Common.{◌≡◌, ◌≢◌, ℕ, zero, suc, ◌<◌, ◌≤◌, ℤ, List, [], ◌∷◌, ◌++◌, ◌⊎◌, inl, inr, length, Option, Some, None, refl, sym, ap, ◌∙◌, subst, arith, length-append}
 use Rattle.std.specs.Prelude.{slice_get, IsSomeAnd, IsSome, IsNone}
 use Rattle.std.proofs.lemmas.Bool.Decides.{eqb_tells}
 use Rattle.itpg_base.specs.Words.{Word, IsLabels}
 use Rattle.itpg_base.specs.Spans.{Span, IsSpan, IsMoment, Within, Covers}
-use Rattle.itpg_base.specs.Graphs.{Graph, Object, Begun, Good, IsObject, IsPoint, ObjectIs, Stands, Named, Exists, HasEnd, InHorizon, changed_at}
-use Rattle.itpg_base.proofs.Objects.{there, here, get_kept, get_last, get_push, get_changed, get_other, length-changed_at, same_some}
+use Rattle.itpg_base.specs.Graphs.{Graph, Object, Begun, Good, IsObject, ObjectIs, Stands, Named, Exists, HasEnd, InHorizon, changed_at}
+use Rattle.itpg_base.proofs.Objects.{there, here, get_kept, get_push, get_changed, get_other, length-changed_at, same_some}
 use Rattle.interval_set.specs.Runs.{AreRuns}
 use Rattle.itpg_graph.specs.Changes.{begun_as, new_node, with_node, with_live}
 
@@ -14,8 +14,8 @@ pub push_is : (g : Graph) (name : Word) (labels : List Word) (P : Object → Typ
 push_is g name labels P o h =
     let t = there (g.objects ++ new_node name labels ∷ []) o P h in
     elim (get_push g.objects (new_node name labels) o t.0 t.1) [
-    | inl e ↦ inl (here g.objects o P t.0 e t.2)
-    | inr e ↦ inr (e.0, subst P e.1 t.2)
+      | inl e ↦ inl (here g.objects o P t.0 e t.2)
+      | inr e ↦ inr (e.0, subst P e.1 t.2)
     ]
 
 pub push_keeps : (g : Graph) (name : Word) (labels : List Word) (P : Object → Type 0) (o : ℕ) → ObjectIs g o P → ObjectIs (with_node g name labels) o P
@@ -86,6 +86,7 @@ good_begun g good none name horizon span from to = record {
     is_none : (b : Option Begun) → IsNone b → b ≡ None
     is_none None e = refl
     is_none (Some b) e = let no : ⊥ = cc in absurd no
+
     nowhere : (xs : List Object) → xs ≡ [] → (o : ℕ) (P : Object → Type 0) → IsSomeAnd (slice_get xs o) P → ⊥
     nowhere [] e o P h = h
     nowhere (x ∷ xs) e o P h = let no : ⊥ = cc in no
@@ -109,8 +110,8 @@ live_is g o live P k h = elim (eqb_tells k o) [
 pub live_keeps : (g : Graph) (o : ℕ) (live : List Span) (P : Object → Type 0) (k : ℕ) → ObjectIs g k P → ((x : Object) → P x → P (lives live x)) → ObjectIs (with_live g o live) k P
 live_keeps g o live P k h same = elim (eqb_tells k o) [
   | inl e ↦
-    let t = there g.objects o P (subst (λ n. ObjectIs g n P) e.1 h) in
-    subst (λ n. IsSomeAnd (slice_get (changed_at g.objects o (lives live)) n) P) (sym e.1) (here (changed_at g.objects o (lives live)) o P (lives live t.0) (get_changed g.objects o (lives live) t.0 t.1) (same t.0 t.2))
+      let t = there g.objects o P (subst (λ n. ObjectIs g n P) e.1 h) in
+      subst (λ n. IsSomeAnd (slice_get (changed_at g.objects o (lives live)) n) P) (sym e.1) (here (changed_at g.objects o (lives live)) o P (lives live t.0) (get_changed g.objects o (lives live) t.0 t.1) (same t.0 t.2))
   | inr n ↦ subst (λ w. IsSomeAnd w P) (sym (get_other g.objects o k (lives live) n.1)) h
 ]
 
@@ -147,8 +148,8 @@ module _ (g : Graph) (o : ℕ) (s : Span) (live : List Span) (runs : AreRuns (λ
     ends_exist = λ e a t has exists.
         let had : HasEnd g e a = live_old g o live _ e has (λ x h. h) in
         elim (exists_old e t exists) [
-        | inl old ↦ exists_new a t stands (good.ends_exist e a t had old)
-        | inr new ↦ exists_new a t stands (ends a (subst (λ n. HasEnd g n a) new.0 had) t new.1)
+          | inl old ↦ exists_new a t stands (good.ends_exist e a t had old)
+          | inr new ↦ exists_new a t stands (ends a (subst (λ n. HasEnd g n a) new.0 had) t new.1)
         ];
     values_exist = λ k p t v val. exists_new k t stands (good.values_exist k p t v (live_old g o live _ k val (λ x h. h)));
     ends_stand = λ e a has. live_keeps g o live _ a (good.ends_stand e a (live_old g o live _ e has (λ x h. h))) (λ x h. h);
@@ -159,10 +160,10 @@ module _ (g : Graph) (o : ℕ) (s : Span) (live : List Span) (runs : AreRuns (λ
     ];
     objects = λ k x e. elim (eqb_tells k o) [
       | inl same ↦
-        let c = there g.objects o _ stands in
-        let is : lives live c.0 ≡ x = same_some _ _ _ (get_changed g.objects o (lives live) c.0 c.1) (subst (λ n. slice_get (changed_at g.objects o (lives live)) n ≡ Some x) same.1 e) in
-        let was = good.objects o c.0 c.1 in
-        subst IsObject is (record { labels = was.labels; live = runs.coalesced; few_spans = few; properties = was.properties; differ = was.differ; few_properties = was.few_properties })
+          let c = there g.objects o _ stands in
+          let is : lives live c.0 ≡ x = same_some _ _ _ (get_changed g.objects o (lives live) c.0 c.1) (subst (λ n. slice_get (changed_at g.objects o (lives live)) n ≡ Some x) same.1 e) in
+          let was = good.objects o c.0 c.1 in
+          subst IsObject is (record { labels = was.labels; live = runs.coalesced; few_spans = few; properties = was.properties; differ = was.differ; few_properties = was.few_properties })
       | inr n ↦ good.objects k x (sym (get_other g.objects o k (lives live) n.1) ∙ e)
     ];
     few = let e = length-changed_at g.objects o (lives live) in omega (arith, good.few);

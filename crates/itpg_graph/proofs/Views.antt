@@ -1,6 +1,6 @@
 -- What a store is seen as, after each change.
-use Rattle.std.proofs.Common.{◌≡◌, ◌≢◌, ℕ, zero, suc, ◌<◌, ◌≤◌, ℤ, List, [], ◌∷◌, ◌++◌, ◌⊎◌, inl, inr, length, map, Option, Some, None, Bool, true, false, refl, sym, ap, ◌∙◌, subst, arith, get_or, true≢false}
-use Rattle.std.specs.Prelude.{slice_get, slice_set, IsSomeAnd, IsSome, IsNone, IsTrue, Result, Ok, Err, OnOk, OnErr, vec_len}
+use Rattle.std.proofs.Common.{◌≡◌, ◌≢◌, ℕ, zero, suc, ◌<◌, ◌≤◌, ℤ, List, [], ◌∷◌, ◌++◌, ◌⊎◌, inl, inr, length, map, Option, Some, true, false, refl, sym, ap, ◌∙◌, subst, true≢false}
+use Rattle.std.specs.Prelude.{slice_get, slice_set, IsSomeAnd, IsSome, IsNone}
 use Rattle.std.proofs.lemmas.Option.{slice_get_within}
 use Rattle.itpg_base.specs.Words.{Word, IsLabels}
 use Rattle.itpg_base.specs.Spans.{Span, IsSpan, IsMoment, Within, Covers}
@@ -8,7 +8,7 @@ use Rattle.itpg_base.specs.Graphs.{Graph, Object, Good, ObjectIs, Stands, Named,
 use Rattle.itpg_base.proofs.Objects.{there, here, get_last, same_some}
 use Rattle.itpg_base.proofs.Searches.{same_word}
 use Rattle.interval_set.specs.Runs.{AreRuns}
-use Rattle.itpg_graph.specs.Changes.{begun_as, new_node, with_node, with_live, JoinsLive, FitFamily}
+use Rattle.itpg_graph.specs.Changes.{new_node, with_node, with_live, JoinsLive, FitFamily}
 use Rattle.itpg_graph.specs.Kinds.{kind_of}
 use Rattle.itpg_graph.specs.declared.graph.Kind.TheVariants.{Node}
 use Rattle.itpg_graph.specs.declared.stored.Stored.{Stored}
@@ -64,7 +64,7 @@ pub added_store : (name : Word) (labels : List Word) (opened : Option Opened) (o
 added_store name labels opened objects old new store some free room is here_is others =
     let g = graph_of opened objects in
     let seen : with_node g name labels ≡ graph_of opened (objects ++ record { name = name; labels = labels; standing = true; live = [] } ∷ []) =
-        ap (λ xs. let h : Graph = record { begun = g.begun; objects = xs } in h) (sym (map-push objects (record { name = name; labels = labels; standing = true; live = [] }))) in
+    ap (λ xs. let h : Graph = record { begun = g.begun; objects = xs } in h) (sym (map-push objects (record { name = name; labels = labels; standing = true; live = [] }))) in
     let good = good_node g store.good some name labels is free room in
     let indexed : IsIndexed new (with_node g name labels) = record {
       whole = λ q o named. elim (push_is g name labels _ o named) [
@@ -73,8 +73,8 @@ added_store name labels opened objects old new store some free room is here_is o
       ];
       only = λ q o e. elim (same_word q name) [
         | inl same ↦
-          let at : length objects ≡ o = same_some _ _ (listed new q) (ap (λ n. listed new n) same ∙ here_is) e in
-          subst (λ n. ObjectIs (with_node g name labels) n (λ x. x.name ≡ q)) (length_seen objects ∙ at) (here ((map object_of objects) ++ new_node name labels ∷ []) (length (map object_of objects)) _ (new_node name labels) (get_last (map object_of objects) (new_node name labels)) (sym same))
+            let at : length objects ≡ o = same_some _ _ (listed new q) (ap (λ n. listed new n) same ∙ here_is) e in
+            subst (λ n. ObjectIs (with_node g name labels) n (λ x. x.name ≡ q)) (length_seen objects ∙ at) (here ((map object_of objects) ++ new_node name labels ∷ []) (length (map object_of objects)) _ (new_node name labels) (get_last (map object_of objects) (new_node name labels)) (sym same))
         | inr apart ↦ push_keeps g name labels _ o (store.indexed.only q o (sym (others q apart) ∙ e))
       ];
     } in
