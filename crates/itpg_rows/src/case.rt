@@ -60,10 +60,7 @@ impl Case {
         let mut sink = MemSink::new(Vec::new(alloc), 0, vec![in alloc; 0; room]?);
         let status = serve(alloc, &self.words, &mut source, &mut sink).code();
         if sink.held() != self.output.as_slice() {
-            return Ok(Some(Difference::Line(differing_line(
-                sink.held(),
-                &self.output,
-            ))));
+            return Ok(Some(Difference::Line(differing_line(sink.held(), &self.output))));
         }
         if status != self.status {
             return Ok(Some(Difference::Status(self.status, status)));

@@ -9,8 +9,7 @@ mod case;
 
 use anyhow::Result;
 use case::Case;
-use std::env;
-use std::fs;
+use std::{env, fs};
 
 fn main(rt: HostRuntime) -> Result<()> {
     let folder = folder(&rt)?;

@@ -1,10 +1,10 @@
 -- At each status what was written begins the output.
-use Rattle.std.proofs.Common.{◌≡◌, ℕ, Bool, ◌+◌, Some, None, List, [], ◌++◌, IfSome, length, take, drop, refl, ap, ◌∙◌, sym, subst, append_assoc, append-nil, take-append-drop, false, true}
+use Rattle.std.proofs.Common.{◌≡◌, ℕ, Bool, Some, None, List, [], ◌++◌, IfSome, take, drop, refl, ap, ◌∙◌, sym, subst, append_assoc, append-nil, take-append-drop, false, true}
 use Rattle.std.specs.declared.option.Option.{Option}
 use Rattle.itpg_base.specs.Outside.{AppendsSome}
 use Rattle.itpg_run.specs.Machine.{Turn, opening}
 use Rattle.itpg_run.specs.Lines.{lines, whole}
-use Rattle.itpg_run.specs.Out.{both, Runs, IsOut}
+use Rattle.itpg_run.specs.Out.{Runs, IsOut}
 use Rattle.itpg_run.specs.Served.{longest, Served, WritesAs, WritesWithin, WritesOut, BeginsEach, IsIdle}
 use Rattle.itpg_run.specs.declared.Status.{Status}
 use Rattle.itpg_run.specs.declared.Status.TheVariants.{Done, DoneRefused, Usage, ReadFault, WriteFault, Memory, TooLong}

@@ -1,12 +1,11 @@
 -- Families of moments have lists of runs.
-use Rattle.std.proofs.Common.{◌≡◌, ℕ, ◌<◌, ◌≤◌, ℤ, pos, ◌+ℤ◌, ◌-ℤ◌, ◌≤ℤ◌, ◌<ℤ◌, List, [], ◌∷◌, ◌⊎◌, inl, inr, ⊎_elim, length, Option, Some, None, refl, sym, ap, ◌∙◌, subst, arith}
-use Rattle.std.specs.Prelude.{IsNone, IfSome, IsSomeAnd, slice_get, option_map}
+use Rattle.std.proofs.Common.{◌≡◌, ℕ, ◌<◌, ◌≤◌, ℤ, pos, ◌≤ℤ◌, List, [], ◌∷◌, ◌⊎◌, inl, inr, ⊎_elim, length, Option, Some, None, refl, sym, ap, ◌∙◌, subst, arith}
+use Rattle.std.specs.Prelude.{IsNone, IfSome, option_map}
 use Rattle.std.specs.Int.{int_min, int_max}
-use Rattle.std.proofs.lemmas.Int.{ints, clamps, by_lt_z}
+use Rattle.std.proofs.lemmas.Int.{ints, clamps}
 use Rattle.itpg_base.specs.Words.{Word}
 use Rattle.itpg_base.specs.Spans.{Span, Within, Covers}
-use Rattle.itpg_base.specs.Decided.{Decided}
-use Rattle.itpg_base.specs.Graphs.{Graph, Object, Good, Named, Stands, Exists, ObjectIs, numbered}
+use Rattle.itpg_base.specs.Graphs.{Graph, Good, Named, Stands, Exists, ObjectIs, numbered}
 use Rattle.itpg_base.specs.declared.object_number.ObjNo.{ObjNo}
 use Rattle.itpg_base.proofs.Searches.{either}
 use Rattle.itpg_base.proofs.Objects.{there, here, same_some, named_numbered, not_numbered}

@@ -1,20 +1,20 @@
 -- The first rule that a line breaks.
-use Rattle.std.proofs.Common.{◌≡◌, ◌≢◌, ℕ, zero, suc, ◌+◌, ◌<◌, ◌≤◌, ℤ, ◌≤ℤ◌, ◌<ℤ◌, List, [], ◌∷◌, ◌⊎◌, inl, inr, length, Option, Some, None, true, false, refl, sym, ap, ◌∙◌, subst, arith}
-use Rattle.std.specs.Prelude.{IsSome, IsNone, IsSomeAnd, slice_get}
+use Rattle.std.proofs.Common.{◌≡◌, ℕ, ◌<◌, ◌≤◌, ℤ, ◌≤ℤ◌, ◌<ℤ◌, [], ◌⊎◌, length, Option, Some, None, true, refl, sym, subst, arith}
+use Rattle.std.specs.Prelude.{IsSome, IsNone, IsSomeAnd}
 use Rattle.std.proofs.lemmas.Int.{ints}
 use Rattle.itpg_base.specs.Words.{Word}
-use Rattle.itpg_base.specs.Spans.{Span, Within}
-use Rattle.itpg_base.specs.Graphs.{Graph, Begun, Ends, Object, Good, Named, Stands, Exists, HasEnd, InHorizon, ObjectIs, numbered}
+use Rattle.itpg_base.specs.Spans.{Within}
+use Rattle.itpg_base.specs.Graphs.{Graph, Ends, Named, Stands, Exists, HasEnd, InHorizon, ObjectIs, numbered}
 use Rattle.itpg_base.specs.Rules.{rule_place}
 use Rattle.itpg_base.specs.declared.rule_code.RuleCode.{RuleCode}
 use Rattle.itpg_base.specs.declared.rule_code.RuleCode.TheVariants.{NoGraph, Again, Taken, Unknown, Kind, Backwards, Horizon, Ends as EndsRule, Absent, Held, Incident, Full, GraphName, Later}
-use Rattle.itpg_base.proofs.Objects.{there, here, same_some, named_numbered, not_numbered}
+use Rattle.itpg_base.proofs.Objects.{there, here, same_some}
 use Rattle.itpg_graph.specs.Changes.{FitFamily}
 use Rattle.itpg_graph.specs.Kinds.{kind_of}
 use Rattle.itpg_graph.specs.declared.graph.Kind.TheVariants.{Node}
 use Rattle.itpg_run.specs.declared.line.Line.{Line}
-use Rattle.itpg_run.specs.declared.line.Line.TheVariants.{Empty, Begin, AddNode, Live, Ask, Other}
-use Rattle.itpg_run.specs.Refusals.{Breaks, Unbroken, First, HasManyRuns, LeavesHorizon, LacksEnd, span_of}
+use Rattle.itpg_run.specs.declared.line.Line.TheVariants.{Begin, AddNode, Live, Ask}
+use Rattle.itpg_run.specs.Refusals.{Breaks, Unbroken, First, HasManyRuns, LeavesHorizon, span_of}
 
 -- what is so for each rule that a form of line can break is so for each that it breaks
 pub begin_breaks : (g : Graph) (name : Word) (lo hi : ℤ) (Q : RuleCode → Type 0) → (IsSome g.begun → Q Again) → (hi <ℤ lo → Q Backwards) → (rule : RuleCode) → Breaks g (Begin name lo hi) rule → Q rule

@@ -1,5 +1,5 @@
 -- What is found out of a `live` line, and the first rule that it breaks.
-use Rattle.std.proofs.Common.{◌≡◌, ℕ, ℤ, ◌≤ℤ◌, Option, Some, None, true, false, refl, sym, ap, ◌∙◌, subst}
+use Rattle.std.proofs.Common.{◌≡◌, ℕ, ℤ, ◌≤ℤ◌, Option, Some, None, refl, sym, subst}
 use Rattle.std.specs.Prelude.{IsSome, IsSomeAnd, option_map, ◌⊎◌}
 use Rattle.itpg_base.specs.Words.{Word}
 use Rattle.itpg_base.specs.Spans.{Span, Within}
@@ -9,7 +9,7 @@ use Rattle.itpg_graph.specs.Changes.{FitFamily}
 use Rattle.itpg_graph.specs.Kinds.{kind_of}
 use Rattle.itpg_graph.specs.declared.graph.Kind.TheVariants.{Node}
 use Rattle.itpg_run.specs.declared.line.Line.TheVariants.{Live}
-use Rattle.itpg_run.specs.Refusals.{Unbroken, First, HasManyRuns, LeavesHorizon, span_of}
+use Rattle.itpg_run.specs.Refusals.{Unbroken, First, HasManyRuns, span_of}
 use Rattle.itpg_run.proofs.FirstRule.{first_horizon, first_live_full, live_unbroken}
 
 pub into_horizon : (b : Option Begun) (h : Span) (t : ℤ) → Some h ≡ option_map (λ b. b.horizon) b → Within t h → IsSomeAnd b (λ b. Within t b.horizon)

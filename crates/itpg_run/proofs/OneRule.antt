@@ -1,24 +1,23 @@
 -- Whether a line breaks a rule is decided, and at most one rule is the first.
-use Rattle.std.proofs.Common.{◌≡◌, ◌≢◌, ℕ, zero, suc, ◌+◌, ◌<◌, ◌≤◌, ℤ, pos, ◌+ℤ◌, ◌≤ℤ◌, ◌<ℤ◌, List, [], ◌∷◌, ◌⊎◌, inl, inr, ⊎_elim, length, Option, Some, None, Bool, true, false, cond, refl, sym, ap, ◌∙◌, subst, arith}
+use Rattle.std.proofs.Common.{◌≡◌, ℕ, zero, suc, ◌+◌, ◌<◌, ℤ, ◌≤ℤ◌, List, [], ◌⊎◌, inl, inr, ⊎_elim, length, Option, Some, None, true, cond, refl, sym, ap, ◌∙◌, subst, arith}
 use Rattle.std.specs.Prelude.{IsSome, IsNone, IsSomeAnd, slice_get, nat_eq}
 use Rattle.std.proofs.lemmas.Int.{ints, by_lt_z}
 use Rattle.std.proofs.lemmas.Bool.{cases_lt}
 use Rattle.std.proofs.lemmas.Bool.Decides.{eqb_tells}
 use borrow.Author.Differences.{up, down}
-use Rattle.itpg_base.specs.Words.{Word}
 use Rattle.itpg_base.specs.Spans.{Span, Within, Covers}
 use Rattle.itpg_base.specs.Decided.{Decided}
-use Rattle.itpg_base.specs.Graphs.{Graph, Object, Begun, Ends, ObjectIs, Exists, HasEnd, InHorizon, numbered}
+use Rattle.itpg_base.specs.Graphs.{Graph, Object, Begun, Exists, numbered}
 use Rattle.itpg_base.specs.Rules.{rule_place}
 use Rattle.itpg_base.specs.declared.rule_code.RuleCode.{RuleCode}
 use Rattle.itpg_base.specs.declared.rule_code.RuleCode.TheVariants.{NoGraph, Again, Taken, Unknown, Kind, Backwards, Horizon, Ends as EndsRule, Absent, Held, Incident, Full, GraphName, Later}
 use Rattle.itpg_base.proofs.Searches.{both, either, fails, as_well, at_most, before, is_true, if_some, some_from}
-use Rattle.itpg_base.proofs.Objects.{there, here, same_some}
+use Rattle.itpg_base.proofs.Objects.{there, here}
 use Rattle.interval_set.specs.Runs.{AreRuns}
 use Rattle.interval_set.proofs.Unique.{runs_unique, runs_alike}
 use Rattle.interval_set.proofs.Coalesced.{decide_within, decide_covers}
 use Rattle.itpg_run.specs.declared.line.Line.{Line}
-use Rattle.itpg_run.specs.declared.line.Line.TheVariants.{Empty, Begin, AddNode, Live, Ask, Other}
+use Rattle.itpg_run.specs.declared.line.Line.TheVariants.{Begin, AddNode, Live, Ask}
 use Rattle.itpg_run.specs.Refusals.{Breaks, Unbroken, First, HasManyRuns, LeavesHorizon, LacksEnd, span_of}
 use Rattle.itpg_run.proofs.Families.{runs_with}
 
@@ -77,8 +76,8 @@ decide_leaves g from to = by_lt_z to from
     by_begun (Some b) e le = by_lt_z from b.horizon.from
         (λ early. inl (record { moment = from; within = record { begun = omega (arith, ints); going = le }; outside = λ h. let w = subst (λ b. IsSomeAnd b (λ b. Within from b.horizon)) e h in let f = w.begun in omega (arith, ints) }))
         (λ ok. by_lt_z b.horizon.to to
-            (λ late. inl (record { moment = to; within = record { begun = le; going = omega (arith, ints) }; outside = λ h. let w = subst (λ b. IsSomeAnd b (λ b. Within to b.horizon)) e h in let f = w.going in omega (arith, ints) }))
-            (λ fine. inr (λ l. l.outside (subst (λ b. IsSomeAnd b (λ b. Within l.moment b.horizon)) (sym e) (record { begun = (let f = l.within.begun in omega (arith, ints)); going = (let f = l.within.going in omega (arith, ints)) })))))
+        (λ late. inl (record { moment = to; within = record { begun = le; going = omega (arith, ints) }; outside = λ h. let w = subst (λ b. IsSomeAnd b (λ b. Within to b.horizon)) e h in let f = w.going in omega (arith, ints) }))
+        (λ fine. inr (λ l. l.outside (subst (λ b. IsSomeAnd b (λ b. Within l.moment b.horizon)) (sym e) (record { begun = (let f = l.within.begun in omega (arith, ints)); going = (let f = l.within.going in omega (arith, ints)) })))))
 
 -- a moment of the span at which an object is missing
 Misses : Graph → ℕ → Span → Type 0
@@ -144,8 +143,8 @@ decide_many : (g : Graph) (o : ℕ) (s : Span) → Decided (HasManyRuns (λ t. E
 decide_many g o s =
     let r = runs_of g o s in
     elim (cases_lt 4096 (length r.0)) [
-    | inl many ↦ inl (record { spans = r.0; runs = r.1; many = many })
-    | inr few ↦ inr (λ m. let same = runs_unique (λ t. Exists g o t ⊎ Within t s) m.spans r.0 m.runs r.1 in let many = subst (λ xs. 4096 < length xs) same m.many in omega arith)
+      | inl many ↦ inl (record { spans = r.0; runs = r.1; many = many })
+      | inr few ↦ inr (λ m. let same = runs_unique (λ t. Exists g o t ⊎ Within t s) m.spans r.0 m.runs r.1 in let many = subst (λ xs. 4096 < length xs) same m.many in omega arith)
     ]
 
 -- what is decided of each number is decided of the number that is there

@@ -1,6 +1,6 @@
 -- The one list of rows of a question with one name.
 use Rattle.std.proofs.Common.{◌≡◌, ◌≢◌, ℕ, zero, suc, ◌+◌, ◌<◌, ◌≤◌, ℤ, List, [], ◌∷◌, ◌++◌, ◌⊎◌, inl, inr, length, map, Option, Some, None, Bool, true, false, cond, refl, sym, ap, ◌∙◌, subst, arith, true≢false, append-nil}
-use Rattle.std.specs.Prelude.{slice_get, nat_eq}
+use Rattle.std.specs.Prelude.{slice_get}
 use Rattle.std.proofs.lemmas.Bool.{cases_lt, eq-eqb}
 use Rattle.std.proofs.lemmas.Bool.Decides.{eqb_tells}
 use Rattle.std.proofs.lemmas.Option.{slice_get_within}
@@ -45,12 +45,14 @@ same_rows (x ∷ xs) (y ∷ ys) h k same = by_order (same_rows xs ys h.1 k.1) (c
     tail : x.object ≡ y.object → (o : ℕ) → spans_at o xs ≡ spans_at o ys
     tail e o = elim (eqb_tells x.object o) [
       | inl at ↦
-        let f = sym (spans_here x xs o at.1) ∙ same o ∙ spans_here y ys o (sym e ∙ at.1) in
-        cc
+          let f = sym (spans_here x xs o at.1) ∙ same o ∙ spans_here y ys o (sym e ∙ at.1) in
+          cc
       | inr off ↦ sym (spans_elsewhere x xs o off.1) ∙ same o ∙ spans_elsewhere y ys o (λ f. off.1 (e ∙ f))
     ]
+
     head : x.object ≡ y.object → x.span ≡ y.span
     head e = let f = sym (spans_here x xs x.object refl) ∙ same x.object ∙ spans_here y ys x.object (sym e) in cc
+
     by_order : (((o : ℕ) → spans_at o xs ≡ spans_at o ys) → xs ≡ ys) → (x.object < y.object) ⊎ (y.object ≤ x.object) → (y.object < x.object) ⊎ (x.object ≤ y.object) → x ∷ xs ≡ y ∷ ys
     by_order rest (inl lt) q = let e = sym (spans_here x xs x.object refl) ∙ same x.object ∙ none_before x.object (y ∷ ys) k (omega arith) in let none : ⊥ = cc in absurd none
     by_order rest (inr ge) (inl lt) = let e = sym (spans_here y ys y.object refl) ∙ sym (same y.object) ∙ none_before y.object (x ∷ xs) h (omega arith) in let none : ⊥ = cc in absurd none
@@ -170,6 +172,7 @@ good_runs g label good o = by_object (slice_get g.objects o) refl
     by_test : (x : Object) → slice_get g.objects o ≡ Some x → (t : Bool) → is_shown label x ≡ t → AreRuns (Shows g label o) (cond t x.live [])
     by_test x e true is = record { whole = shown_covers g label o x e; only = covers_shown g label o x e is; coalesced = (good.objects o x e).live }
     by_test x e false is = no_runs (Shows g label o) (hidden_never g label o x e is)
+
     by_object : (s : Option Object) → slice_get g.objects o ≡ s → AreRuns (Shows g label o) (shown_spans label s)
     by_object None e = no_runs (Shows g label o) (λ t s. let c = there g.objects o _ s.shown in let never : ⊥ = cc in never)
     by_object (Some x) e = by_test x e (is_shown label x) refl
@@ -187,6 +190,7 @@ some_runs g label o = by_object (slice_get g.objects o) refl
         let r = runs_exist (Covers x.live) b.low b.high b.above b.below (decide_covers x.live) in
         (r.0, record { whole = λ t s. (r.1).whole t (shown_covers g label o x e t s); only = λ t c. covers_shown g label o x e is t ((r.1).only t c); coalesced = (r.1).coalesced })
     by_test x e false is = ([], no_runs (Shows g label o) (hidden_never g label o x e is))
+
     by_object : (s : Option Object) → slice_get g.objects o ≡ s → (spans : List Span) × AreRuns (Shows g label o) spans
     by_object None e = ([], no_runs (Shows g label o) (λ t s. let c = there g.objects o _ s.shown in let never : ⊥ = cc in never))
     by_object (Some x) e = by_test x e (is_shown label x) refl

@@ -1,9 +1,9 @@
 -- A line has exactly one turn.
-use Rattle.std.proofs.Common.{◌≡◌, ℕ, ℤ, None, ◌<◌, ◌≤◌, List, [], ◌∷◌, ◌⊎◌, inl, inr, length, Option, Some, refl, sym, ap, ◌∙◌, subst, arith}
+use Rattle.std.proofs.Common.{◌≡◌, ℕ, ℤ, None, ◌<◌, [], ◌∷◌, ◌⊎◌, inl, inr, length, Option, Some, refl, sym, ap, ◌∙◌, subst, arith}
 use Rattle.std.specs.Prelude.{IsNone}
 use Rattle.std.proofs.lemmas.Bool.{cases_lt}
 use Rattle.itpg_base.specs.Words.{Word}
-use Rattle.itpg_base.specs.Spans.{Span, Within}
+use Rattle.itpg_base.specs.Spans.{Within}
 use Rattle.itpg_base.specs.Graphs.{Graph, Exists, numbered}
 use Rattle.itpg_base.proofs.Objects.{same_some}
 use Rattle.itpg_base.specs.declared.rule_code.RuleCode.TheVariants.{Unknown, Later}
@@ -12,9 +12,9 @@ use Rattle.itpg_graph.specs.Changes.{begun_as, with_node, with_live, JoinsLive}
 use Rattle.itpg_run.specs.declared.line.Line.{Line}
 use Rattle.itpg_run.specs.declared.line.Line.TheVariants.{Empty, Begin, AddNode, Live, Ask, Other}
 use Rattle.itpg_run.specs.PlainLines.{line_of}
-use Rattle.itpg_run.specs.Refusals.{Unbroken, First, told, span_of}
-use Rattle.itpg_run.specs.OneTime.{OneRow, Shows, AreOneTimeRows}
-use Rattle.itpg_run.specs.Machine.{Machine, Turn, Next, IsWide, Refuses, Changes, Answers, quiet_turn, refused_turn, wide_turn, rows_turn}
+use Rattle.itpg_run.specs.Refusals.{Unbroken, told, span_of}
+use Rattle.itpg_run.specs.OneTime.{Shows}
+use Rattle.itpg_run.specs.Machine.{Machine, Turn, Next, Refuses, Changes, Answers, quiet_turn, refused_turn, wide_turn, rows_turn}
 use Rattle.itpg_run.specs.MachineLaws.{OneReply, SomeReply}
 use Rattle.itpg_run.proofs.OneRule.{first_unique, first_or_none, first_breaks, some_runs_of}
 use Rattle.itpg_run.proofs.OneTimeRows.{rows_unique, some_rows}
@@ -77,17 +77,20 @@ some_answer limit m number (Live id from to) = some_change m number (Live id fro
 some_answer limit m number (Ask label) = elim (first_or_none m.graph (Ask label)) [
   | inl f ↦ (refused_turn m number (told f.0), inl (record { rule = f.0; first = f.1; is = refl }))
   | inr u ↦
-    let r = some_rows m.graph label in
-    elim (cases_lt limit (length r.0)) [
-    | inl many ↦ (wide_turn m number, inr (inl (record { unbroken = u; wide = record { rows = r.0; are = r.1; longer = many }; is = refl })))
-    | inr few ↦ (rows_turn m number r.0, inr (inr (record {
-        unbroken = u;
-        rows = r.0;
-        are = r.1;
-        fits = λ w. let same = rows_unique (Shows m.graph label) w.rows r.0 w.are r.1 in let long = subst (λ rows. limit < length rows) same w.longer in omega arith;
-        is = refl;
-      })))
-    ]
+      let r = some_rows m.graph label in
+      elim (cases_lt limit (length r.0)) [
+        | inl many ↦ (wide_turn m number, inr (inl (record { unbroken = u; wide = record { rows = r.0; are = r.1; longer = many }; is = refl })))
+        | inr few ↦ (
+          rows_turn m number r.0,
+          inr (inr (record {
+            unbroken = u;
+            rows = r.0;
+            are = r.1;
+            fits = λ w. let same = rows_unique (Shows m.graph label) w.rows r.0 w.are r.1 in let long = subst (λ rows. limit < length rows) same w.longer in omega arith;
+            is = refl;
+          })),
+        )
+      ]
 ]
 
 pub one_reply : OneReply

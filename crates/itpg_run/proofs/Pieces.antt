@@ -1,5 +1,5 @@
 -- The first piece of some bytes.
-use Rattle.std.proofs.Common.{◌≡◌, ℕ, Bool, ◌+◌, ◌<◌, List, [], ◌∷◌, ◌++◌, true, false, length, take, drop, get_or, refl, sym, ap, ◌∙◌, add-one, drop-cons, take-append-drop}
+use Rattle.std.proofs.Common.{◌≡◌, ℕ, Bool, ◌+◌, ◌<◌, List, [], ◌∷◌, ◌++◌, true, false, length, take, drop, get_or, refl, ap, add-one, drop-cons, take-append-drop}
 use Rattle.itpg_base.specs.Words.{Word}
 use Rattle.itpg_run.specs.declared.line.Mark.{Mark}
 use Rattle.itpg_run.specs.PlainLines.{pieces, before_pieces, is_mark}

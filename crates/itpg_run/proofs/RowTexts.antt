@@ -1,6 +1,5 @@
 -- The rows of an answer and their texts, object by object.
-use Rattle.std.proofs.Common.{◌≡◌, ℕ, zero, suc, ◌+◌, ◌*◌, ◌<◌, ◌≤◌, List, [], ◌∷◌, ◌++◌, ◌-◌, length, take, drop, map, get_or, refl, sym, ap, ◌∙◌, subst, arith, append_assoc, append-nil, add-one, length-append, take-append-drop, drop-cons}
-use Rattle.std.specs.Prelude.{slice_index_or}
+use Rattle.std.proofs.Common.{◌≡◌, ℕ, zero, suc, ◌+◌, ◌<◌, List, [], ◌∷◌, ◌++◌, ◌-◌, length, take, drop, map, get_or, refl, sym, ap, ◌∙◌, arith, append_assoc, append-nil, add-one, length-append, take-append-drop}
 use Rattle.std.proofs.lemmas.List.{take_more}
 use Rattle.itpg_base.specs.Words.{Word}
 use Rattle.itpg_base.specs.Spans.{Span}
@@ -53,10 +52,11 @@ text-more g f n = sym (ap (rows_text g) (rows-more f n) ∙ text-append g (rows_
 pub text_parts : (g : Graph) (f : ℕ → List Span) (n k : ℕ) → k < n → (tail : List ℕ) × (rows_text g (rows_below f k) ++ (spans_text (name_at g k) (f k) ++ tail) ≡ rows_text g (rows_below f n))
 text_parts g f n k h =
     let r = rows_begin f (k + 1) (n - (k + 1)) in
-    let e : k + 1 + (n - (k + 1)) ≡ n = omega arith in
-    (rows_text g r.0,
+    let e : k + 1 + (n - (k + 1)) ≡ n = omega arith in (
+      rows_text g r.0,
       sym (append_assoc (rows_text g (rows_below f k)) (spans_text (name_at g k) (f k)) (rows_text g r.0)) ∙ ap (λ t. t ++ rows_text g r.0) (text-more g f k)
-      ∙ sym (text-append g (rows_below f (k + 1)) r.0) ∙ ap (rows_text g) (sym r.1 ∙ ap (rows_below f) e))
+          ∙ sym (text-append g (rows_below f (k + 1)) r.0) ∙ ap (rows_text g) (sym r.1 ∙ ap (rows_below f) e),
+    )
 
 pub spans_none : (name : Word) → spans_text name [] ≡ []
 unfolding spans_text

@@ -48,7 +48,7 @@ says_add held page new more e = λ start text s. said_add start held page new mo
 pub says_some : (a b c : Option (List ℕ)) (p q more extra tail all : List ℕ) → Says a b p q more → SaysSome b c q extra → more ++ (extra ++ tail) ≡ all → SaysSome a c p all
 says_some a b c p q more extra tail all f g e = λ start text s rest.
     let whole : (text ++ more) ++ (extra ++ (tail ++ rest)) ≡ text ++ (all ++ rest) =
-        append_assoc text more (extra ++ (tail ++ rest)) ∙ ap (λ t. text ++ t) (ap (λ t. more ++ t) (sym (append_assoc extra tail rest)) ∙ sym (append_assoc more (extra ++ tail) rest) ∙ ap (λ t. t ++ rest) e) in
+    append_assoc text more (extra ++ (tail ++ rest)) ∙ ap (λ t. text ++ t) (ap (λ t. more ++ t) (sym (append_assoc extra tail rest)) ∙ sym (append_assoc more (extra ++ tail) rest) ∙ ap (λ t. t ++ rest) e) in
     subst (AppendsSome start c) whole (g start (text ++ more) (f start text s) (tail ++ rest))
 
 pub says_write_some : (before now : Option (List ℕ)) (page more : List ℕ) → AppendsSome before now page → SaysSome before now page more

@@ -1,6 +1,6 @@
 -- The spans that an object is shown with.
-use Rattle.std.proofs.Common.{◌≡◌, ◌≢◌, ℕ, zero, suc, ◌<◌, List, [], ◌∷◌, ◌⊎◌, inl, inr, length, get_or, Option, Some, None, Bool, true, false, ◌&&◌, ◌||◌, cond, refl, sym, ap, ◌∙◌, subst, arith, true≢false}
-use Rattle.std.specs.Prelude.{Contains, IsSomeAnd, IsTrue, slice_get, is_none, nat_eq}
+use Rattle.std.proofs.Common.{◌≡◌, ℕ, zero, suc, ◌<◌, List, [], ◌∷◌, length, get_or, Option, Some, None, Bool, true, false, ◌&&◌, ◌||◌, cond, refl, sym, ap, ◌∙◌, subst, arith, true≢false}
+use Rattle.std.specs.Prelude.{Contains, slice_get, is_none, nat_eq}
 use Rattle.std.specs.List.{list_any}
 use Rattle.std.specs.Cmp.Lexicographic.{pointwise}
 use Rattle.itpg_base.specs.Words.{Word}
@@ -49,9 +49,11 @@ test_shown label x e = record {
     left : (a b : Bool) → (a && b) ≡ true → a ≡ true
     left true b e = refl
     left false b e = e
+
     right : (a b : Bool) → (a && b) ≡ true → b ≡ true
     right true b e = e
     right false b e = absurd (true≢false (sym e))
+
     none : (e : Option Ends) → is_none e ≡ true → e ≡ None
     none None h = refl
     none (Some n) h = absurd (true≢false (sym h))
@@ -87,6 +89,7 @@ hidden_spans g label o hidden = by_object (slice_get g.objects o) refl
     by_test : (x : Object) (t : Bool) → is_shown label x ≡ t → (is_shown label x ≡ true → ⊥) → [] ≡ cond t x.live []
     by_test x true e never = absurd (never e)
     by_test x false e never = refl
+
     by_object : (s : Option Object) → slice_get g.objects o ≡ s → [] ≡ shown_spans label s
     by_object None e = refl
     by_object (Some x) e = by_test x (is_shown label x) refl (hidden x e)

@@ -1,6 +1,6 @@
 -- The turns that a step takes.
-use Rattle.std.proofs.Common.{◌≡◌, ◌≢◌, ℕ, ◌<◌, ◌≤◌, List, [], ◌∷◌, ◌++◌, ◌⊎◌, inl, inr, length, Option, Some, None, Bool, true, false, refl, sym, ap, ◌∙◌, subst, arith}
-use Rattle.std.specs.Prelude.{Result, Ok, Err, IfOk, OnOk, OnErr, IsErrOf, codes}
+use Rattle.std.proofs.Common.{◌≡◌, ◌≢◌, ℕ, ◌<◌, ◌≤◌, List, [], inl, inr, length, Option, true, false, refl, sym, ap, subst, arith}
+use Rattle.std.specs.Prelude.{Result, Ok, Err, IfOk, OnOk}
 use Rattle.std.specs.Io.KnownBytes.{Appends}
 use Rattle.std.proofs.KnownBytes.{Appends-nil}
 use Rattle.itpg_base.specs.Words.{Word}
@@ -13,12 +13,11 @@ use Rattle.itpg_run.specs.declared.line.Line.TheVariants.{Empty, Begin, AddNode,
 use Rattle.itpg_run.specs.declared.session.Seen.{Seen}
 use Rattle.itpg_run.specs.declared.session.Seen.TheVariants.{Quiet, Answered, Refused}
 use Rattle.itpg_run.specs.declared.session.StepFault.{StepFault}
-use Rattle.itpg_run.specs.declared.session.StepFault.TheVariants.{Write}
 use Rattle.itpg_run.specs.Refusals.{Unbroken, First, told}
-use Rattle.itpg_run.specs.OneTime.{OneRow, Shows, AreOneTimeRows}
+use Rattle.itpg_run.specs.OneTime.{OneRow, Shows}
 use Rattle.itpg_run.specs.Texts.{refused_text, wide_text, head_text, answer_text}
 use Rattle.itpg_run.specs.Listed.{spans_of, rows_below}
-use Rattle.itpg_run.specs.Machine.{Machine, Standing, Turn, Next, IsWide, Answers, quiet_turn, refused_turn, wide_turn, rows_turn}
+use Rattle.itpg_run.specs.Machine.{Machine, Standing, Next, Answers, quiet_turn, refused_turn, wide_turn, rows_turn}
 use Rattle.itpg_run.specs.Steps.{Sees, Stepped, StepsWithin, IsEdit}
 use Rattle.itpg_run.proofs.OneTimeRows.{rows_unique, listed_rows}
 

@@ -1,21 +1,19 @@
 -- What holds where an edit breaks no rule.
-use Rattle.std.proofs.Common.{◌≡◌, ℕ, ◌<◌, ◌≤◌, ℤ, ◌≤ℤ◌, ◌<ℤ◌, ◌⊎◌, inl, inr, length, Option, Some, None, Bool, true, false, refl, sym, ap, ◌∙◌, subst, arith, SFits, w64, to_z, of_z, to_z-of_z}
+use Rattle.std.proofs.Common.{◌≡◌, ℕ, ◌<◌, ℤ, ◌≤ℤ◌, ◌<ℤ◌, inl, inr, length, Option, Some, None, refl, sym, subst, SFits, w64, to_z, of_z, to_z-of_z}
 use Rattle.std.specs.Prelude.{IsSome, IsNone, IsSomeAnd, option_map}
 use Rattle.std.proofs.lemmas.Bool.{cases_lt}
-use Rattle.std.proofs.lemmas.Int.{ints, by_lt_z}
+use Rattle.std.proofs.lemmas.Int.{by_lt_z}
 use Rattle.itpg_base.specs.Words.{Word}
-use Rattle.itpg_base.specs.Spans.{Span, Within}
-use Rattle.itpg_base.specs.Graphs.{Graph, Begun, Named, Exists, InHorizon, numbered}
+use Rattle.itpg_base.specs.Spans.{Within}
+use Rattle.itpg_base.specs.Graphs.{Graph, Begun, Named, InHorizon, numbered}
 use Rattle.itpg_base.specs.declared.object_number.ObjNo.{ObjNo}
-use Rattle.itpg_base.specs.declared.rule_code.RuleCode.TheVariants.{NoGraph, Again, Taken, Unknown, Backwards, Horizon, Full}
+use Rattle.itpg_base.specs.declared.rule_code.RuleCode.TheVariants.{Taken, Unknown, Horizon, Full}
 use Rattle.itpg_base.specs.Decided.{Decided}
-use Rattle.itpg_base.proofs.Objects.{numbered_named, unnumbered}
-use Rattle.interval_set.specs.Runs.{AreRuns}
+use Rattle.itpg_base.proofs.Objects.{unnumbered}
 use Rattle.interval_set.proofs.Coalesced.{decide_within}
 use Rattle.itpg_graph.specs.Changes.{FitFamily}
-use Rattle.itpg_run.specs.declared.line.Line.{Line}
 use Rattle.itpg_run.specs.declared.line.Line.TheVariants.{Begin, AddNode, Live}
-use Rattle.itpg_run.specs.Refusals.{Unbroken, HasManyRuns, LeavesHorizon, span_of}
+use Rattle.itpg_run.specs.Refusals.{Unbroken, span_of}
 
 pub some_of : {X : Type 0} (o : Option X) → (IsNone o → ⊥) → IsSome o
 some_of None never = absurd (never refl)

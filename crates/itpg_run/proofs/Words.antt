@@ -1,5 +1,5 @@
 -- Too many words.
-use Rattle.std.proofs.Common.{◌≡◌, ℕ, List, [], ◌∷◌, Option, None, refl, ap, ◌∙◌}
+use Rattle.std.proofs.Common.{◌≡◌, ℕ, List, ◌∷◌, None, ap}
 use Rattle.itpg_base.specs.Words.{Word}
 use Rattle.itpg_run.specs.declared.line.Mark.{Mark}
 use Rattle.itpg_run.specs.declared.line.Line.TheVariants.{Other}

@@ -1,13 +1,13 @@
 -- The rules that a line can break, moment by moment, and the first of them.
-use Rattle.std.specs.Prelude.{◌≡◌, ℕ, ◌<◌, ◌≤◌, ℤ, ◌<ℤ◌, List, length, Some, None, IsSome, IsNone, ◌⊎◌}
+use Rattle.std.specs.Prelude.{◌≡◌, ℕ, ◌<◌, ◌≤◌, ℤ, ◌<ℤ◌, List, length, Some, IsSome, IsNone, ◌⊎◌}
 use Rattle.itpg_base.specs.Spans.{Span, Within}
 use Rattle.itpg_base.specs.Graphs.{Graph, Exists, HasEnd, InHorizon, numbered}
 use Rattle.itpg_base.specs.Rules.{rule_place}
 use Rattle.itpg_base.specs.declared.rule_code.RuleCode.{RuleCode}
-use Rattle.itpg_base.specs.declared.rule_code.RuleCode.TheVariants.{NoGraph, Again, Taken, Unknown, Kind, Backwards, Horizon, Ends, Absent, Held, Incident, Full, GraphName, Later}
+use Rattle.itpg_base.specs.declared.rule_code.RuleCode.TheVariants.{NoGraph, Again, Taken, Unknown, Backwards, Horizon, Ends, Full, Later}
 use Rattle.interval_set.specs.Runs.{AreRuns}
 use Rattle.itpg_run.specs.declared.line.Line.{Line}
-use Rattle.itpg_run.specs.declared.line.Line.TheVariants.{Empty, Begin, AddNode, Live, Ask, Other}
+use Rattle.itpg_run.specs.declared.line.Line.TheVariants.{Begin, AddNode, Live, Ask}
 
 -- the set of moments has more runs than a family may have
 pub record HasManyRuns (S : ℤ → Type 0) : Type 0 where

@@ -1,5 +1,5 @@
 -- What a step of the session does.
-use Rattle.std.specs.Prelude.{◌≡◌, ◌↔◌, ℕ, List, [], Bool, true, false}
+use Rattle.std.specs.Prelude.{◌≡◌, ◌↔◌, ℕ, List, [], Bool, true}
 use Rattle.std.specs.declared.option.Option.{Option}
 use Rattle.std.specs.Io.KnownBytes.{Appends}
 use Rattle.itpg_base.specs.Outside.{AppendsSome}
@@ -8,7 +8,7 @@ use Rattle.itpg_run.specs.Machine.{Standing, Turn}
 use Rattle.itpg_run.specs.declared.line.Line.{Line}
 use Rattle.itpg_run.specs.declared.line.Line.TheVariants.{Empty, Begin, AddNode, Live, Ask, Other}
 use Rattle.itpg_run.specs.declared.session.Seen.{Seen}
-use Rattle.itpg_run.specs.declared.session.Seen.TheVariants.{Quiet, Answered, Refused}
+use Rattle.itpg_run.specs.declared.session.Seen.TheVariants.{Quiet, Refused}
 
 -- what is seen of a turn: whether its text is empty, and whether it fails
 pub record Sees (seen : Seen) (text : List ℕ) (failing : Bool) : Type 0 where

@@ -20,9 +20,10 @@ mod replies;
 mod rules;
 mod run;
 mod session;
+#[cfg(test)]
+mod tests;
 
 pub use law::{one_output, one_reply, output_begins, output_grows, some_output, some_reply};
-pub use line::{Line, Mark};
 pub use run::serve;
 
 /// How a run ended.

@@ -3,7 +3,7 @@ use itpg_base::Name;
 
 /// A line of a script, as far as plain lines are read.
 #[derive(Clone, Copy)]
-pub enum Line {
+pub(crate) enum Line {
     /// No byte at all.
     Empty,
     /// `graph NAME LO HI`
@@ -20,7 +20,7 @@ pub enum Line {
 
 /// What parts the words of a line, or the two names of a pattern.
 #[derive(Clone, Copy)]
-pub enum Mark {
+pub(crate) enum Mark {
     /// A space or a tab.
     Blank,
     /// A colon.

@@ -21,9 +21,13 @@ const GREATEST: u64 = 1_000_000_000_000;
 const MAX_DIGITS: usize = 13;
 
 const NODE: &[u8] = b"node";
+
 const ASK: &[u8] = b"ask";
+
 const MATCH: &[u8] = b"MATCH";
+
 const GRAPH: &[u8] = b"graph";
+
 const LIVE: &[u8] = b"live";
 
 /// What the line says, by its bytes alone. It takes no memory.
@@ -219,7 +223,8 @@ fn starts_with_letter(word: &[u8]) -> bool
 fn are_name_bytes(word: &[u8]) -> bool
     ensures { result ≡ list_all is_name_byte word.now }
 {
-    word.iter().all(|byte| byte.is_ascii_alphanumeric() || *byte == b'_')
+    word.iter()
+        .all(|byte| byte.is_ascii_alphanumeric() || *byte == b'_')
 }
 
 /// The number that the word is; `None` where it is no plain number.

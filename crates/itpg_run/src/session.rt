@@ -110,12 +110,7 @@ impl Session {
     ghost use Rattle.itpg_run.specs.Texts.{refused_text};
 
     // Answers a line that was read.
-    fn answer<K: Sink>(
-        &mut self,
-        number: u64,
-        line: &Line,
-        out: &mut K,
-    ) -> Result<Seen, StepFault>
+    fn answer<K: Sink>(&mut self, number: u64, line: &Line, out: &mut K) -> Result<Seen, StepFault>
         requires { HasMoments line.now }
         ensures stepped { IfOk result (λ seen. Stepped (λ turn. Answers self.old.limit self.old.machine number line.now turn) (K.held out.old) (K.held out.new) self.old self.new seen) }
         ensures same { OnErr result (self.new ≡ self.old) }
@@ -169,12 +164,7 @@ impl Session {
     }
 
     // Refuses or makes an edit.
-    fn edit<K: Sink>(
-        &mut self,
-        number: u64,
-        line: &Line,
-        out: &mut K,
-    ) -> Result<Seen, StepFault>
+    fn edit<K: Sink>(&mut self, number: u64, line: &Line, out: &mut K) -> Result<Seen, StepFault>
         requires edit { IsEdit line.now }
         requires moments { HasMoments line.now }
         ensures stepped { IfOk result (λ seen. Stepped (λ turn. Answers self.old.limit self.old.machine number line.now turn) (K.held out.old) (K.held out.new) self.old self.new seen) }
@@ -206,12 +196,7 @@ impl Session {
     }
 
     // Writes a refusal.
-    fn refuse<K: Sink>(
-        &self,
-        number: u64,
-        rule: RuleCode,
-        out: &mut K,
-    ) -> Result<Seen, StepFault>
+    fn refuse<K: Sink>(&self, number: u64, rule: RuleCode, out: &mut K) -> Result<Seen, StepFault>
         ensures seen { IfOk result (λ seen. seen ≡ RefusedSeen) }
         ensures written { OnOk result (Appends (K.held out.old) (K.held out.new) (refused_text number rule)) }
         ensures memory { IsErrOf result StepFault.Memory → ⊥ }

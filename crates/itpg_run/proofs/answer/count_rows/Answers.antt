@@ -1,4 +1,4 @@
-use Rattle.std.proofs.Common.{◌≡◌, ℕ, ◌+◌, length, sym, ap, ◌∙◌, arith}
+use Rattle.std.proofs.Common.{◌+◌, length, sym, ap, ◌∙◌, arith}
 use Rattle.itpg_run.specs.Listed.{spans_of, rows_below}
 use Rattle.itpg_run.proofs.RowTexts.{rows_none, count-more}
 use Rattle.itpg_run.proofs.answer.count_rows.Goals as goal

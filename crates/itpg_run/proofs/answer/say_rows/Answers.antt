@@ -1,6 +1,6 @@
-use Rattle.std.proofs.Common.{◌≡◌, ◌≤◌, ◌<◌, ◌++◌, [], List, ℕ, ap, sym, ◌∙◌, length, arith, rules}
+use Rattle.std.proofs.Common.{◌≡◌, ◌<◌, ◌++◌, ap, ◌∙◌, length, arith}
 use Rattle.itpg_base.specs.Graphs.{name_at}
-use Rattle.itpg_run.specs.Said.{Says, SaysSome}
+use Rattle.itpg_run.specs.Said.{SaysSome}
 use Rattle.itpg_run.specs.Listed.{spans_text, spans_of, rows_below}
 use Rattle.itpg_run.specs.Texts.{rows_text}
 use Rattle.itpg_run.proofs.Saying.{says_none, says_then, says_some, on_err}
@@ -18,7 +18,7 @@ returns-in_err-say_spans-clause-some g c =
     let parts = text_parts c.args.graph.now f (length c.args.graph.now.objects) k below in
     let said : spans_text c.name_of.result c.spans_shown-spans.result.now ≡ spans_text (name_at c.args.graph.now k) (f k) = ap (λ n. spans_text n c.spans_shown-spans.result.now) c.name_of.ensures ∙ ap (spans_text (name_at c.args.graph.now k)) c.spans_shown-spans.ensures.spans in
     let some : SaysSome (g.K.Sink.held c.args.out.now) (g.K.Sink.held c.say_spans.new.out) c.args.page.now (rows_text c.args.graph.now (rows_below f (length c.args.graph.now.objects))) =
-        says_some _ _ _ _ _ _ _ parts.0 _ c.loop-number.invariant.said c.in_err-say_spans.ensures.some (ap (λ t. rows_text c.args.graph.now (rows_below f k) ++ (t ++ parts.0)) said ∙ parts.1) in
+    says_some _ _ _ _ _ _ _ parts.0 _ c.loop-number.invariant.said c.in_err-say_spans.ensures.some (ap (λ t. rows_text c.args.graph.now (rows_below f k) ++ (t ++ parts.0)) said ∙ parts.1) in
     on_err _ _ some
 
 pub loop-number-preserved : goal.loop-number-preserved

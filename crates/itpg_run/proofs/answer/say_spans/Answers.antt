@@ -1,7 +1,6 @@
-use Rattle.std.proofs.Common.{◌≡◌, ◌≤◌, ◌++◌, [], take, drop, arith, rules, refl, append-nil}
-use Rattle.itpg_run.specs.Said.{Says, SaysSome}
+use Rattle.std.proofs.Common.{[], drop, arith, append-nil}
+use Rattle.itpg_run.specs.Said.{SaysSome}
 use Rattle.itpg_run.specs.Listed.{spans_text}
-use Rattle.itpg_run.specs.Texts.{row_text}
 use Rattle.itpg_run.proofs.Saying.{says_none, says_then, says_add, says_some, on_err}
 use Rattle.itpg_run.proofs.RowTexts.{spans_none, spans-more, spans_begin}
 use Rattle.itpg_run.proofs.answer.say_spans.Goals as goal
@@ -12,7 +11,7 @@ loop-span-init g c = record { said = says_none _ _ _ (spans_none c.args.name.now
 pub returns-in_err-make_room-clause-some : goal.returns-in_err-make_room-clause-some
 returns-in_err-make_room-clause-some g c =
     let some : SaysSome (g.K.Sink.held c.args.out.now) (g.K.Sink.held c.make_room.new.out) c.args.page.now (spans_text c.args.name.now c.args.spans.now) =
-        says_some _ _ _ _ _ _ [] (spans_text c.args.name.now (drop c.loop-span.span-index c.args.spans.now)) _ c.loop-span.invariant.said c.in_err-make_room.ensures.some (spans_begin c.args.name.now c.args.spans.now c.loop-span.span-index) in
+    says_some _ _ _ _ _ _ [] (spans_text c.args.name.now (drop c.loop-span.span-index c.args.spans.now)) _ c.loop-span.invariant.said c.in_err-make_room.ensures.some (spans_begin c.args.name.now c.args.spans.now c.loop-span.span-index) in
     on_err _ _ some
 
 pub loop-span-preserved : goal.loop-span-preserved

@@ -1,4 +1,4 @@
-use Rattle.std.proofs.Common.{◌≡◌, ◌++◌, [], ap, sym, ◌∙◌, subst, append-nil, length}
+use Rattle.std.proofs.Common.{◌≡◌, ◌++◌, [], ap, ◌∙◌, subst, append-nil, length}
 use Rattle.std.specs.Io.KnownBytes.{Appends}
 use Rattle.itpg_base.specs.Outside.{AppendsSome}
 use Rattle.itpg_run.specs.Said.{Said}
@@ -13,8 +13,8 @@ returns-in_err-say_rows-clause-some g c =
     let head : c.head-page.result ≡ head_text c.args.number (length rows) = c.head-page.ensures ∙ ap (head_text c.args.number) c.requires in
     let first : Said (g.K.Sink.held c.args.out.now) (g.K.Sink.held c.args.out.now) c.head-page.result c.head-page.result = said_first _ _ in
     let some : AppendsSome (g.K.Sink.held c.args.out.now) (g.K.Sink.held c.say_rows.new.out) (answer_text c.args.graph.now c.args.number rows) =
-        subst (λ h. AppendsSome (g.K.Sink.held c.args.out.now) (g.K.Sink.held c.say_rows.new.out) (h ++ rows_text c.args.graph.now rows)) head
-        (subst (λ t. AppendsSome (g.K.Sink.held c.args.out.now) (g.K.Sink.held c.say_rows.new.out) (c.head-page.result ++ t)) (append-nil _) (c.in_err-say_rows.ensures.some _ _ first [])) in
+    subst (λ h. AppendsSome (g.K.Sink.held c.args.out.now) (g.K.Sink.held c.say_rows.new.out) (h ++ rows_text c.args.graph.now rows)) head
+    (subst (λ t. AppendsSome (g.K.Sink.held c.args.out.now) (g.K.Sink.held c.say_rows.new.out) (c.head-page.result ++ t)) (append-nil _) (c.in_err-say_rows.ensures.some _ _ first [])) in
     on_err _ _ some
 
 pub returns-in_err-write-clause-some : goal.returns-in_err-write-clause-some
@@ -23,8 +23,8 @@ returns-in_err-write-clause-some g c =
     let head : c.head-page.result ≡ head_text c.args.number (length rows) = c.head-page.ensures ∙ ap (head_text c.args.number) c.requires in
     let first : Said (g.K.Sink.held c.args.out.now) (g.K.Sink.held c.args.out.now) c.head-page.result c.head-page.result = said_first _ _ in
     let some : AppendsSome (g.K.Sink.held c.args.out.now) (g.K.Sink.held c.write.new.out) (answer_text c.args.graph.now c.args.number rows) =
-        subst (λ h. AppendsSome (g.K.Sink.held c.args.out.now) (g.K.Sink.held c.write.new.out) (h ++ rows_text c.args.graph.now rows)) head
-        (subst (AppendsSome (g.K.Sink.held c.args.out.now) (g.K.Sink.held c.write.new.out)) (append-nil _) (said_some _ _ _ _ _ (c.in_ok-say_rows.ensures.said _ _ first) c.in_err-write.ensures.some [])) in
+    subst (λ h. AppendsSome (g.K.Sink.held c.args.out.now) (g.K.Sink.held c.write.new.out) (h ++ rows_text c.args.graph.now rows)) head
+    (subst (AppendsSome (g.K.Sink.held c.args.out.now) (g.K.Sink.held c.write.new.out)) (append-nil _) (said_some _ _ _ _ _ (c.in_ok-say_rows.ensures.said _ _ first) c.in_err-write.ensures.some [])) in
     on_err _ _ some
 
 pub returns-clause-written : goal.returns-clause-written

@@ -1,4 +1,4 @@
-use Rattle.std.proofs.Common.{subst, sym, rules, SFits, w64}
+use Rattle.std.proofs.Common.{subst, rules, SFits, w64}
 use Rattle.itpg_run.specs.Refusals.{Unbroken}
 use Rattle.itpg_run.proofs.Unbroken.{begin_back, live_back}
 use Rattle.itpg_run.proofs.edits.change.Goals as goal

@@ -1,4 +1,4 @@
-use Rattle.std.proofs.Common.{◌≡◌, ap, sym, ◌∙◌, subst, Some, rules}
+use Rattle.std.proofs.Common.{◌≡◌, sym, subst, Some, rules}
 use Rattle.itpg_base.specs.Graphs.{numbered}
 use Rattle.itpg_base.specs.Spans.{Within}
 use Rattle.itpg_base.specs.declared.rule_code.RuleCode.TheVariants.{Backwards}

@@ -1,11 +1,9 @@
-use Rattle.std.proofs.Common.{◌≡◌, ◌+◌, ◌*◌, ◌-◌, ◌<◌, ◌≤◌, Some, take, get_or, length, sym, ap, ◌∙◌, subst, rules, arith, true, false}
+use Rattle.std.proofs.Common.{◌≡◌, ◌+◌, ◌-◌, Some, take, get_or, sym, ap, ◌∙◌, rules, arith, true, false}
 use Rattle.std.proofs.lemmas.List.{take_all}
 use Rattle.std.specs.List.{list_all}
-use Rattle.std.specs.Char.{is_ascii_digit, digit_value}
+use Rattle.std.specs.Char.{is_ascii_digit}
 use Rattle.std.specs.Str.Parse.{digits_value}
-use Rattle.std.proofs.lemmas.Str.{digit_value_digit}
 use Rattle.std.proofs.lemmas.Int.Digits.{digits_value_more}
-use Rattle.std.proofs.lemmas.Grind.{common_steps}
 use Rattle.itpg_run.proofs.Digits.{all-more, not-all, value_grows, no_digits, too_great, is_small, digit_is}
 use Rattle.itpg_run.proofs.reading.read_digits.Goals as goal
 

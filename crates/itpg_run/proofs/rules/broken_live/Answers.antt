@@ -1,4 +1,4 @@
-use Rattle.std.proofs.Common.{◌≡◌, ◌≤ℤ◌, ap, sym, ◌∙◌, subst, rules, refl}
+use Rattle.std.proofs.Common.{◌≡◌, ◌≤ℤ◌, subst, rules}
 use Rattle.itpg_base.specs.Graphs.{ObjectIs}
 use Rattle.itpg_graph.specs.Kinds.{kind_of}
 use Rattle.itpg_graph.specs.declared.graph.Kind.TheVariants.{Node}

@@ -1,4 +1,4 @@
-use Rattle.std.proofs.Common.{◌<◌, ◌≤◌, arith}
+use Rattle.std.proofs.Common.{arith}
 use Rattle.std.proofs.lemmas.Grind.{common_steps}
 use Rattle.itpg_run.proofs.Families.{many_runs, few_runs}
 use Rattle.itpg_run.proofs.rules.has_many_runs.Goals as goal

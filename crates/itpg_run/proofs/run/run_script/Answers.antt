@@ -1,5 +1,5 @@
 use Rattle.std.proofs.Common.{Err, ap, subst, arith}
-use Rattle.itpg_run.specs.Served.{Served, max_rows}
+use Rattle.itpg_run.specs.Served.{max_rows}
 use Rattle.itpg_run.specs.Stands.{Ends}
 use Rattle.itpg_run.proofs.Pumped.{begins, finished, ends_well, never_usage}
 use Rattle.itpg_run.proofs.Begins.{served_each}

@@ -1,4 +1,4 @@
-use Rattle.std.proofs.Common.{◌≡◌, ◌<◌, ◌≤◌, ◌++◌, ◌∷◌, [], length, sym, ◌∙◌, arith, rules}
+use Rattle.std.proofs.Common.{◌≡◌, ◌<◌, ◌≤◌, ◌++◌, ◌∷◌, [], length, sym, ◌∙◌, rules}
 use Rattle.itpg_run.proofs.Kept.{keeps_short, keeps_full}
 use Rattle.itpg_run.proofs.reader.Reader.keep.Goals as goal
 

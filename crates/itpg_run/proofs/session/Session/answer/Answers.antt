@@ -1,4 +1,4 @@
-use Rattle.std.proofs.Common.{◌≡◌, sym, subst, rules}
+use Rattle.std.proofs.Common.{sym, subst}
 use Rattle.std.specs.Prelude.{IfOk}
 use Rattle.itpg_run.specs.declared.line.Line.{Line}
 use Rattle.itpg_run.specs.Machine.{Answers}

@@ -1,4 +1,4 @@
-use Rattle.std.proofs.Common.{◌≡◌, ap, sym, subst, rules}
+use Rattle.std.proofs.Common.{ap, subst}
 use Rattle.itpg_run.specs.declared.line.Line.TheVariants.{Ask}
 use Rattle.itpg_run.specs.Refusals.{First}
 use Rattle.itpg_run.proofs.Turns.{refusing, refusing_some}

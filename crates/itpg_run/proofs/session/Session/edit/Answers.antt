@@ -1,7 +1,5 @@
-use Rattle.std.proofs.Common.{◌≡◌, ap, sym, subst, rules}
-use Rattle.itpg_base.specs.Outside.{AppendsSome}
+use Rattle.std.proofs.Common.{ap, subst}
 use Rattle.itpg_run.specs.Refusals.{First, Unbroken}
-use Rattle.itpg_run.specs.Texts.{refused_text}
 use Rattle.itpg_run.proofs.Turns.{refusing, refusing_some, changing}
 use Rattle.itpg_run.proofs.session.Session.edit.Goals as goal
 

@@ -1,4 +1,4 @@
-use Rattle.std.proofs.Common.{◌≡◌, ◌<◌, ◌≤◌, length, ap, sym, ◌∙◌, subst, rules, arith}
+use Rattle.std.proofs.Common.{length, ap, ◌∙◌, subst, rules, arith}
 use Rattle.std.specs.Io.KnownBytes.{Appends}
 use Rattle.itpg_base.specs.Outside.{AppendsSome}
 use Rattle.itpg_base.specs.Graphs.{Good}
