@@ -1,0 +1,4 @@
+pub mod Sums
+pub mod MiddleMoment
+pub mod Turned
+pub mod Moving
