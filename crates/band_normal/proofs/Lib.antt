@@ -1,0 +1,15 @@
+pub mod Lists
+pub mod Unique
+pub mod Extended
+pub mod WellFormed
+pub mod Turns
+pub mod BandZone
+pub mod Stretches
+pub mod Merging
+pub mod Activity
+pub mod Prolonging
+pub mod Joining
+pub mod Sorting
+pub mod Zoning
+pub mod Sweeping
+pub mod Existence
