@@ -1,0 +1,5 @@
+pub mod Pairs
+pub mod Axes
+pub mod ShortWalks
+pub mod Powers
+pub mod Deciding

@@ -1,0 +1,4 @@
+pub mod Terms
+pub mod Sizes
+pub mod Walks
+pub mod Meaning

@@ -1,0 +1,78 @@
+//! Equal copies.
+
+ghost use Rattle.std.specs.Prelude.{◌≡◌, IfOk};
+ghost use Rattle.path_ast.specs.Terms.{path_term, test_term, query_term};
+
+use crate::ast::{Path, Query, Test};
+use std::alloc::{AllocError, Global};
+
+impl Query {
+    /// An equal query, in memory of its own.
+    ///
+    /// `Err` comes only for want of memory.
+    pub fn copy(&self, alloc: Global) -> Result<Query, AllocError>
+        ensures { IfOk result (λ query. query_term query ≡ query_term self.now) }
+    {
+        Ok(Query {
+            first: self.first,
+            last: self.last,
+            path: copy_path(alloc, &self.path)?,
+            graph_name: self.graph_name,
+        })
+    }
+}
+
+#[cycle(copies)]
+fn copy_path(alloc: Global, path: &Path) -> Result<Path, AllocError>
+    ensures { IfOk result (λ copy. path_term copy ≡ path_term path.now) }
+{
+    match path {
+        Path::Test(test) => Ok(Path::Test(boxed_test(alloc, test)?)),
+        Path::F => Ok(Path::F),
+        Path::B => Ok(Path::B),
+        Path::N => Ok(Path::N),
+        Path::P => Ok(Path::P),
+        Path::Seq(a, b) => Ok(Path::Seq(boxed_path(alloc, a)?, boxed_path(alloc, b)?)),
+        Path::Alt(a, b) => Ok(Path::Alt(boxed_path(alloc, a)?, boxed_path(alloc, b)?)),
+        Path::Repeat { body, least, most } => Ok(Path::Repeat {
+            body: boxed_path(alloc, body)?,
+            least: *least,
+            most: *most,
+        }),
+    }
+}
+
+#[cycle(copies)]
+fn boxed_path(alloc: Global, path: &Path) -> Result<Box<Path>, AllocError>
+    ensures { IfOk result (λ copy. path_term copy.value ≡ path_term path.now) }
+{
+    Ok(Box::new(alloc, copy_path(alloc, path)?)?)
+}
+
+#[cycle(copies)]
+fn copy_test(alloc: Global, test: &Test) -> Result<Test, AllocError>
+    ensures { IfOk result (λ copy. test_term copy ≡ test_term test.now) }
+{
+    match test {
+        Test::Node => Ok(Test::Node),
+        Test::Edge => Ok(Test::Edge),
+        Test::Label(label) => Ok(Test::Label(*label)),
+        Test::Value { prop, value } => Ok(Test::Value {
+            prop: *prop,
+            value: *value,
+        }),
+        Test::Before(k) => Ok(Test::Before(*k)),
+        Test::Exists => Ok(Test::Exists),
+        Test::Cond(path) => Ok(Test::Cond(boxed_path(alloc, path)?)),
+        Test::And(a, b) => Ok(Test::And(boxed_test(alloc, a)?, boxed_test(alloc, b)?)),
+        Test::Or(a, b) => Ok(Test::Or(boxed_test(alloc, a)?, boxed_test(alloc, b)?)),
+        Test::Not(a) => Ok(Test::Not(boxed_test(alloc, a)?)),
+    }
+}
+
+#[cycle(copies)]
+fn boxed_test(alloc: Global, test: &Test) -> Result<Box<Test>, AllocError>
+    ensures { IfOk result (λ copy. test_term copy.value ≡ test_term test.now) }
+{
+    Ok(Box::new(alloc, copy_test(alloc, test)?)?)
+}
