@@ -1,0 +1,6 @@
+pub mod Runs
+pub mod Rows
+pub mod Fronts
+pub mod Places
+pub mod OneList
+pub mod Digits
