@@ -1,0 +1,5 @@
+pub mod Lists
+pub mod Placing
+pub mod Scopes
+pub mod Within
+pub mod Listed

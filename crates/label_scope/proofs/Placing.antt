@@ -1,0 +1,133 @@
+-- Labels at their places in rising lists.
+use Rattle.std.proofs.Common.{◌≡◌, ℕ, zero, suc, List, [], ◌∷◌, ◌++◌, Bool, true, false, filter, take, drop, inl, inr, refl, sym, ap, subst, ◌∙◌, cond, length, ◌<◌, ◌+◌, get_or, arith}
+use Rattle.std.specs.Prelude.{Contains, nat_eq, insert}
+use Rattle.std.specs.Ordering.{nat_cmp, ordering_reverse}
+use Rattle.std.specs.Cmp.Lexicographic.{slice_cmp, nat_list_cmp_total}
+use Rattle.std.specs.FinMap.{slice_cmp-IsAntisymmetric, nat_cmp-IsAntisymmetric}
+use Rattle.std.specs.declared.cmp.Ordering.{Ordering}
+use Rattle.std.specs.declared.cmp.Ordering.TheVariants.{Less, Equal, Greater}
+use Rattle.itpg_base.specs.Words.{Word, IsBefore, StartsBefore, IsRising}
+use Rattle.label_scope.specs.Labels.{placed, with_label, labels_of_either, has_label, labels_of_both}
+use Rattle.std.proofs.lemmas.List.{append-nil}
+use Rattle.std.proofs.lemmas.List.Elements.{filter_more}
+use Rattle.label_scope.proofs.Lists.{first, more, first_or_more, nothing, tests_label, label_tested}
+
+turned : (a b : Word) → slice_cmp nat_cmp a b ≡ Greater → IsBefore b a
+turned a b e = nat_list_cmp_total.antisymm b a ∙ ap ordering_reverse e
+
+same_word : (a b : Word) → slice_cmp nat_cmp a b ≡ Equal → a ≡ b
+same_word a b e = slice_cmp-IsAntisymmetric nat_cmp-IsAntisymmetric a b e
+
+before_all : (a b c : Word) → IsBefore a b → IsBefore b c → IsBefore a c
+before_all a b c h k = nat_list_cmp_total.trans a b c h k
+
+-- what comes before the list and before the label comes before both
+starts_before : (a : Word) (ls : List Word) (m : Word) → IsBefore a m → StartsBefore a ls → StartsBefore a (with_label ls m)
+starts_before a [] m h k = h
+starts_before a (x ∷ rest) m h k = by_order (slice_cmp nat_cmp m x) h k
+  where
+    by_order : (o : Ordering) → IsBefore a m → IsBefore a x → StartsBefore a (placed o m x rest (with_label rest m))
+    by_order Less h k = h
+    by_order Equal h k = k
+    by_order Greater h k = k
+
+pub with_label-rising : (ls : List Word) (m : Word) → IsRising ls → IsRising (with_label ls m)
+with_label-rising [] m h = (tt, tt)
+with_label-rising (x ∷ rest) m h = by_order (slice_cmp nat_cmp m x) refl (with_label-rising rest m h.1)
+  where
+    by_order : (o : Ordering) → slice_cmp nat_cmp m x ≡ o → IsRising (with_label rest m) → IsRising (placed o m x rest (with_label rest m))
+    by_order Less e behind = (e, h)
+    by_order Equal e behind = h
+    by_order Greater e behind = (starts_before x rest m (turned m x e) h.0, behind)
+
+-- the label is there, and so is what was
+pub has_placed : (ls : List Word) (m : Word) → Contains (with_label ls m) m
+has_placed [] m = first m []
+has_placed (x ∷ rest) m = by_order (slice_cmp nat_cmp m x) refl (has_placed rest m)
+  where
+    by_order : (o : Ordering) → slice_cmp nat_cmp m x ≡ o → Contains (with_label rest m) m → Contains (placed o m x rest (with_label rest m)) m
+    by_order Less e behind = first m (x ∷ rest)
+    by_order Equal e behind = subst (Contains (x ∷ rest)) (sym (same_word m x e)) (first x rest)
+    by_order Greater e behind = more m x _ behind
+
+pub has_still : (ls : List Word) (m label : Word) → Contains ls label → Contains (with_label ls m) label
+has_still [] m label h = absurd (nothing label h)
+has_still (x ∷ rest) m label h = by_order (slice_cmp nat_cmp m x) (has_still rest m label)
+  where
+    by_order : (o : Ordering) → (Contains rest label → Contains (with_label rest m) label) → Contains (placed o m x rest (with_label rest m)) label
+    by_order Less behind = more label m (x ∷ rest) h
+    by_order Equal behind = h
+    by_order Greater behind = elim (first_or_more label x rest h) [ inl same ↦ subst (Contains (x ∷ with_label rest m)) same (first x (with_label rest m)) | inr later ↦ more label x _ (behind later) ]
+
+pub has_first_list : (ls ms : List Word) (label : Word) → Contains ls label → Contains (labels_of_either ls ms) label
+has_first_list ls [] label h = h
+has_first_list ls (m ∷ ms) label h = has_first_list (with_label ls m) ms label (has_still ls m label h)
+
+pub has_second_list : (ls ms : List Word) (label : Word) → Contains ms label → Contains (labels_of_either ls ms) label
+has_second_list ls [] label h = absurd (nothing label h)
+has_second_list ls (m ∷ ms) label h = elim (first_or_more label m ms h) [
+  | inl same ↦ has_first_list (with_label ls m) ms label (subst (Contains (with_label ls m)) same (has_placed ls m))
+  | inr later ↦ has_second_list (with_label ls m) ms label later
+]
+
+-- a list of which some labels are left rises still
+starts_before_kept : (p : Word → Bool) (a : Word) (ls : List Word) → StartsBefore a ls → IsRising ls → StartsBefore a (filter p ls)
+starts_before_kept p a [] h k = tt
+starts_before_kept p a (x ∷ rest) h k = by_test (p x) (starts_before_kept p a rest)
+  where
+    after : (ls : List Word) → StartsBefore x ls → StartsBefore a ls
+    after [] f = tt
+    after (y ∷ ys) f = before_all a x y h f
+
+    by_test : (b : Bool) → (StartsBefore a rest → IsRising rest → StartsBefore a (filter p rest)) → StartsBefore a (cond b (x ∷ filter p rest) (filter p rest))
+    by_test true later = h
+    by_test false later = later (after rest k.0) k.1
+
+pub filter-rising : (p : Word → Bool) (ls : List Word) → IsRising ls → IsRising (filter p ls)
+filter-rising p [] h = tt
+filter-rising p (x ∷ rest) h = by_test (p x) (filter-rising p rest h.1)
+  where
+    by_test : (b : Bool) → IsRising (filter p rest) → IsRising (cond b (x ∷ filter p rest) (filter p rest))
+    by_test true later = (starts_before_kept p x rest h.0 h.1, later)
+    by_test false later = later
+
+-- a label that comes after the first i labels of the list is put behind them
+abbrev pub put_behind : List Word → Word → ℕ → List Word
+put_behind ls m i = take i ls ++ with_label (drop i ls) m
+
+pub goes_on : (ls : List Word) (m d : Word) (i : ℕ) → i < length ls → slice_cmp nat_cmp m (get_or ls i d) ≡ Greater → put_behind ls m i ≡ put_behind ls m (suc i)
+goes_on [] m d i below e = absurd (omega (arith, below))
+goes_on (x ∷ rest) m d zero below e = ap (λ o. placed o m x rest (with_label rest m)) e
+goes_on (x ∷ rest) m d (suc i) below e = ap (λ zs. x ∷ zs) (goes_on rest m d i (omega (arith, below)) e)
+
+pub goes_in : (ls : List Word) (m d : Word) (i : ℕ) → i < length ls → slice_cmp nat_cmp m (get_or ls i d) ≡ Less → put_behind ls m i ≡ insert ls i m
+goes_in [] m d i below e = absurd (omega (arith, below))
+goes_in (x ∷ rest) m d zero below e = ap (λ o. placed o m x rest (with_label rest m)) e
+goes_in (x ∷ rest) m d (suc i) below e = ap (λ zs. x ∷ zs) (goes_in rest m d i (omega (arith, below)) e)
+
+pub is_there : (ls : List Word) (m d : Word) (i : ℕ) → i < length ls → slice_cmp nat_cmp m (get_or ls i d) ≡ Equal → put_behind ls m i ≡ ls
+is_there [] m d i below e = absurd (omega (arith, below))
+is_there (x ∷ rest) m d zero below e = ap (λ o. placed o m x rest (with_label rest m)) e
+is_there (x ∷ rest) m d (suc i) below e = ap (λ zs. x ∷ zs) (is_there rest m d i (omega (arith, below)) e)
+
+pub goes_last : (ls : List Word) (m : Word) → put_behind ls m (length ls) ≡ insert ls (length ls) m
+goes_last [] m = refl
+goes_last (x ∷ rest) m = ap (λ zs. x ∷ zs) (goes_last rest m)
+
+-- one more label of a list, which is kept where the other list has it
+pub kept_more : (names others : List Word) (i : ℕ) (label : Word) → i < length names → label ≡ get_or names i label → Contains others label
+    → filter (has_label others) (take i names) ++ label ∷ [] ≡ filter (has_label others) (take (i + 1) names)
+kept_more names others i label below is has =
+    let tested : has_label others (get_or names i label) ≡ true = ap (has_label others) (sym is) ∙ tests_label others label has in
+    sym (filter_more (has_label others) names i label below ∙ ap (λ b. filter (has_label others) (take i names) ++ cond b (get_or names i label ∷ []) []) tested
+    ∙ ap (λ x. filter (has_label others) (take i names) ++ x ∷ []) (sym is))
+
+pub left_more : (names others : List Word) (i : ℕ) (label : Word) → i < length names → label ≡ get_or names i label → (Contains others label → ⊥)
+    → filter (has_label others) (take i names) ≡ filter (has_label others) (take (i + 1) names)
+left_more names others i label below is hasnt =
+    let tested : has_label others (get_or names i label) ≡ false = ap (has_label others) (sym is) ∙ by_test (has_label others label) refl in
+    sym (filter_more (has_label others) names i label below ∙ ap (λ b. filter (has_label others) (take i names) ++ cond b (get_or names i label ∷ []) []) tested ∙ append-nil (filter (has_label others) (take i names)))
+  where
+    by_test : (b : Bool) → has_label others label ≡ b → has_label others label ≡ false
+    by_test true e = absurd (hasnt (label_tested others label e))
+    by_test false e = e

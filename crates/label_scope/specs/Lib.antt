@@ -1,0 +1,5 @@
+pub mod Labels
+pub mod Scopes
+pub mod Narrowing
+pub mod Members
+pub mod Examples

@@ -1,0 +1,36 @@
+//! The laws of scopes. Each is the contract of a function that does nothing.
+ghost use Rattle.std.specs.Prelude.{◌≡◌, ◌↔◌, ℕ, IsTrue};
+ghost use Rattle.itpg_base.specs.Decided.{Decided};
+ghost use Rattle.itpg_base.specs.Graphs.{Graph, Good};
+ghost use Rattle.itpg_base.specs.Points.{Point, IsAt};
+ghost use Rattle.path_ast.specs.Terms.{PathTerm, TestTerm};
+ghost use Rattle.path_ast.specs.Meaning.{Rel, Sat, keeps_object};
+ghost use Rattle.label_scope.specs.declared.scope.Scope.{Scope};
+ghost use Rattle.label_scope.specs.declared.scope.Scope.TheVariants.{All};
+ghost use Rattle.label_scope.specs.Scopes.{IsWithin, source_scope, target_scope, test_scope};
+ghost use Rattle.label_scope.specs.Narrowing.{Cut, narrowed};
+
+/// On a good graph a path leads from an object within its source scope to one within its target scope, and a test holds
+/// at points of objects within its scope alone. A path that keeps its object leads to the same object.
+pub fn law_of_scopes()
+    ensures sources { (p : PathTerm) (g : Graph) (x y : Point) → Good g → Rel p g x y → IsWithin (source_scope p) g x.object }
+    ensures targets { (p : PathTerm) (g : Graph) (x y : Point) → Good g → Rel p g x y → IsWithin (target_scope p) g y.object }
+    ensures tests { (c : TestTerm) (g : Graph) (x : Point) → Good g → IsAt g x → Sat c g x → IsWithin (test_scope c) g x.object }
+    ensures kept { (p : PathTerm) (g : Graph) (x y : Point) → IsTrue (keeps_object p) → Rel p g x y → x.object ≡ y.object }
+{}
+
+/// On a good graph a path leads between the same points before and after its scopes are narrowed.
+pub fn law_of_narrowing()
+    ensures { (p : PathTerm) (a b : Scope) (g : Graph) (x y : Point) → Good g →
+        Cut g p a b x y ↔ Cut g p (narrowed p a b).sources (narrowed p a b).targets x y }
+{}
+
+/// Between `All` and `All` nothing is cut off.
+pub fn law_of_cut()
+    ensures { (p : PathTerm) (g : Graph) (x y : Point) → Cut g p All All x y ↔ Rel p g x y }
+{}
+
+/// On every graph it is decided whether an object is within a scope.
+pub fn law_of_decided_scopes()
+    ensures { (scope : Scope) (g : Graph) (o : ℕ) → Decided (IsWithin scope g o) }
+{}

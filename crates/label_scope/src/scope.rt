@@ -1,0 +1,95 @@
+//! Scopes.
+ghost use Rattle.std.specs.Prelude.{◌≡◌, ◌↔◌, IsTrue, IfOk};
+ghost use Rattle.label_scope.specs.Scopes.{Has, met, joined, one_label};
+
+use crate::labels::Labels;
+use itpg_base::{LabelSet, Name};
+use std::alloc::{AllocError, Global};
+
+/// A set of objects by their labels: all objects, or those that have one of the labels.
+#[derive(Drop)]
+pub enum Scope {
+    /// Every object.
+    All,
+    /// The objects with one of these labels. With no label there is no object.
+    These(Labels),
+}
+
+impl Scope {
+    /// The objects with this label.
+    pub fn one(alloc: Global, label: Name) -> Result<Scope, AllocError>
+        ensures { IfOk result (λ scope. scope ≡ one_label label) }
+    {
+        Ok(Scope::These(Labels::one(alloc, label)))
+    }
+
+    /// Whether the scope has the set of labels: it is `All`, or has some label of the set.
+    pub fn has(&self, labels: &LabelSet) -> bool
+        ensures { IsTrue result ↔ Has self.now labels.now }
+    {
+        match self {
+            Scope::All => true,
+            Scope::These(names) => has_some(names, labels),
+        }
+    }
+
+    /// The objects of both scopes, where each object has one label: the labels of both lists, and `All` leaves the other
+    /// scope as it is.
+    ///
+    /// ```text
+    ///     {Person, Room} met with {Room, Tag}     {Room}
+    ///     {Person, Room} met with All             {Person, Room}
+    /// ```
+    pub fn meet(&self, alloc: Global, other: &Scope) -> Result<Scope, AllocError>
+        ensures { IfOk result (λ scope. scope ≡ met self.now other.now) }
+    {
+        match (self, other) {
+            (Scope::All, _) => other.copy(alloc),
+            (_, Scope::All) => self.copy(alloc),
+            (Scope::These(names), Scope::These(others)) => {
+                Ok(Scope::These(names.of_both(alloc, others)?))
+            }
+        }
+    }
+
+    /// The objects of either scope: the labels of either list, and `All` where one of the scopes is.
+    ///
+    /// ```text
+    ///     {Person, Room} joined with {Room, Tag}     {Person, Room, Tag}
+    ///     {Person, Room} joined with All             All
+    /// ```
+    pub fn join(&self, alloc: Global, other: &Scope) -> Result<Scope, AllocError>
+        ensures { IfOk result (λ scope. scope ≡ joined self.now other.now) }
+    {
+        match (self, other) {
+            (Scope::These(names), Scope::These(others)) => {
+                Ok(Scope::These(names.of_either(alloc, others)?))
+            }
+            _ => Ok(Scope::All),
+        }
+    }
+
+    /// An equal scope of its own.
+    pub fn copy(&self, alloc: Global) -> Result<Scope, AllocError>
+        ensures { IfOk result (λ copy. copy ≡ self.now) }
+    {
+        match self {
+            Scope::All => Ok(Scope::All),
+            Scope::These(names) => Ok(Scope::These(names.copy(alloc)?)),
+        }
+    }
+}
+
+// Whether the list has some label of the set.
+fn has_some(names: &Labels, labels: &LabelSet) -> bool
+    ensures { IsTrue result ↔ Has (Scope.These names.now) labels.now }
+{
+    for i in 0..labels.len() {
+        if let Some(label) = labels.get(i) {
+            if names.has(&label) {
+                return true;
+            }
+        }
+    }
+    false
+}
