@@ -56,11 +56,16 @@ module _ (g : Graph) (id : Word) (from to : ℤ) (place : Place) (is : IsPlace g
 
   pub live_unbroken : EndsExist g o place.span → FitFamily g o place.span → Unbroken g (Live id from to)
   live_unbroken all fit =
-      none_after (Breaks g (Live id from to)) (NoGraph ∷ Unknown ∷ Backwards ∷ Horizon ∷ []) (Ends ∷ Full ∷ []) none_placed
-      (ends_there all, ((λ full.
-        let many = subst (λ k. AreManySpans (λ t. Exists g k t ⊎ Within t s)) (same full.0 full.1) full.2 in
-        let few = at_place (FitFamily g o) fit many.spans many.are in
-        let more = many.many in omega arith), tt))
+      none_after (Breaks g (Live id from to)) (NoGraph ∷ Unknown ∷ Backwards ∷ Horizon ∷ []) (Ends ∷ Full ∷ []) none_placed (
+        ends_there all,
+        (
+          (λ full.
+              let many = subst (λ k. AreManySpans (λ t. Exists g k t ⊎ Within t s)) (same full.0 full.1) full.2 in
+              let few = at_place (FitFamily g o) fit many.spans many.are in
+              let more = many.many in omega arith),
+          tt,
+        ),
+      )
 
   -- `gone`
   not_held : IsFree g o place.span → IsHeld g id s → ⊥
@@ -78,12 +83,17 @@ module _ (g : Graph) (id : Word) (from to : ℤ) (place : Place) (is : IsPlace g
 
   pub gone_unbroken : IsFree g o place.span → FitCut g o place.span → Unbroken g (Gone id from to)
   gone_unbroken free fit =
-      none_after (Breaks g (Gone id from to)) (NoGraph ∷ Unknown ∷ Backwards ∷ Horizon ∷ []) (Held ∷ Full ∷ []) none_placed
-      (not_held free, ((λ full.
-        let many = subst (λ k. AreManySpans (ExistsOutside g k s) ⊎ ((prop : Word) × AreManyRuns (ValOutside g k s prop))) (same full.0 full.1) full.2 in
-        let few = at_place (FitCut g o) fit in
-        ⊎_elim (λ m. let n = few (length m.spans) (inl (m.spans, m.are, refl)) in let more = m.many in omega arith)
-        (λ m. let n = few (length m.1.runs) (inr (m.0, m.1.runs, m.1.are, refl)) in let more = m.1.many in omega arith) many), tt))
+      none_after (Breaks g (Gone id from to)) (NoGraph ∷ Unknown ∷ Backwards ∷ Horizon ∷ []) (Held ∷ Full ∷ []) none_placed (
+        not_held free,
+        (
+          (λ full.
+              let many = subst (λ k. AreManySpans (ExistsOutside g k s) ⊎ ((prop : Word) × AreManyRuns (ValOutside g k s prop))) (same full.0 full.1) full.2 in
+              let few = at_place (FitCut g o) fit in
+              ⊎_elim (λ m. let n = few (length m.spans) (inl (m.spans, m.are, refl)) in let more = m.many in omega arith)
+              (λ m. let n = few (length m.1.runs) (inr (m.0, m.1.runs, m.1.are, refl)) in let more = m.1.many in omega arith) many),
+          tt,
+        ),
+      )
 
   -- `set`
   not_absent : IsThere g o place.span → IsAbsent g id s → ⊥
@@ -104,10 +114,15 @@ module _ (g : Graph) (id : Word) (from to : ℤ) (place : Place) (is : IsPlace g
 
   pub put_unbroken : (prop value : Word) → IsThere g o place.span → FitPut g o prop value place.span → HasPlace g o prop → Unbroken g (Put id prop value from to)
   put_unbroken prop value all fit has =
-      none_after (Breaks g (Put id prop value from to)) (NoGraph ∷ Unknown ∷ Backwards ∷ Horizon ∷ []) (Absent ∷ Full ∷ []) none_placed
-      (not_absent all, ((λ full.
-        let many = subst (λ k. AreManyRuns (ValPut g k s value prop) ⊎ HasNoPlace g k prop) (same full.0 full.1) full.2 in
-        ⊎_elim (λ m. let few = at_place (FitPut g o prop value) fit m.runs m.are in let more = m.many in omega arith) (λ none. room prop has none) many), tt))
+      none_after (Breaks g (Put id prop value from to)) (NoGraph ∷ Unknown ∷ Backwards ∷ Horizon ∷ []) (Absent ∷ Full ∷ []) none_placed (
+        not_absent all,
+        (
+          (λ full.
+              let many = subst (λ k. AreManyRuns (ValPut g k s value prop) ⊎ HasNoPlace g k prop) (same full.0 full.1) full.2 in
+              ⊎_elim (λ m. let few = at_place (FitPut g o prop value) fit m.runs m.are in let more = m.many in omega arith) (λ none. room prop has none) many),
+          tt,
+        ),
+      )
 
   -- `unset`
   pub clear_full : (prop : Word) → AreManyRuns (ValOutside g o place.span prop) → Broken g (Clear id prop from to) Full
@@ -117,11 +132,13 @@ module _ (g : Graph) (id : Word) (from to : ℤ) (place : Place) (is : IsPlace g
 
   pub clear_unbroken : (prop : Word) → FitClear g o prop place.span → Unbroken g (Clear id prop from to)
   clear_unbroken prop fit =
-      none_after (Breaks g (Clear id prop from to)) (NoGraph ∷ Unknown ∷ Backwards ∷ Horizon ∷ []) (Full ∷ []) none_placed
-      ((λ full.
-        let many = subst (λ k. AreManyRuns (ValOutside g k s prop)) (same full.0 full.1) full.2 in
-        let few = at_place (FitClear g o prop) fit many.runs many.are in
-        let more = many.many in omega arith), tt)
+      none_after (Breaks g (Clear id prop from to)) (NoGraph ∷ Unknown ∷ Backwards ∷ Horizon ∷ []) (Full ∷ []) none_placed (
+        (λ full.
+            let many = subst (λ k. AreManyRuns (ValOutside g k s prop)) (same full.0 full.1) full.2 in
+            let few = at_place (FitClear g o prop) fit many.runs many.are in
+            let more = many.many in omega arith),
+        tt,
+      )
 
 -- `drop`
 module _ (g : Graph) (id : Word) (o : ℕ) (good : Good g) (begun : IsSome g.begun) (named : Named g o id) where
@@ -137,8 +154,16 @@ module _ (g : Graph) (id : Word) (from to : ℤ) (o : ObjNo) (h span : Span) (go
   pub outside : ((t : ℤ) × Within t span × (Within t h → ⊥)) → FirstOf (PlaceBreaks g id from to) (NoGraph ∷ Unknown ∷ Backwards ∷ Horizon ∷ []) Horizon
   outside l =
       let some = begun_some g.begun h horizon in
-      inr ((λ none. not_both g.begun some none), inr ((λ u. u o.0 named), inr ((λ lt. omega (arith, ints)),
-      inl (record { moment = l.0; within = subst (Within l.0) is l.1; outside = λ w. l.2 (out_of_horizon g.begun h l.0 horizon w) }, refl))))
+      inr (
+        (λ none. not_both g.begun some none),
+        inr (
+          (λ u. u o.0 named),
+          inr (
+            (λ lt. omega (arith, ints)),
+            inl (record { moment = l.0; within = subst (Within l.0) is l.1; outside = λ w. l.2 (out_of_horizon g.begun h l.0 horizon w) }, refl),
+          ),
+        ),
+      )
 
   pub inside : ((t : ℤ) → Within t span → Within t h) → IsPlace g id from to (record { object = o; span = span })
   inside all = record {

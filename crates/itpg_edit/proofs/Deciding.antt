@@ -151,16 +151,22 @@ some_name (x ∷ xs) P each = elim (each x) [
 family : (ps : List Property) → AreFamilies ps → IsRising (property_names ps) → (n : Word) → (runs : List Valued) × AreRunsOf (λ t v. PropertiesHave ps n t v) runs
 family [] are rising n = ([], record { whole = λ t v h. absurd h; only = λ t v h. absurd h; coalesced = tt })
 family (p ∷ ps) are rising n = elim (same_word p.name n) [
-  | inl e ↦ (p.runs, record {
+  | inl e ↦ (
+    p.runs,
+    record {
       whole = λ t v h. ⊎_elim (λ own. own.1) (λ later. absurd (not_before_itself n (subst (λ m. IsBefore m n) e (has_after p.name n t v ps (after_first p ps rising) later)))) h;
       only = λ t v h. inl (e, h);
       coalesced = are.0.runs;
-    })
-  | inr other ↦ let rest = family ps are.1 rising.1 n in (rest.0, record {
+    },
+  )
+  | inr other ↦ let rest = family ps are.1 rising.1 n in (
+    rest.0,
+    record {
       whole = λ t v h. ⊎_elim (λ own. absurd (other own.0)) (λ later. rest.1.whole t v later) h;
       only = λ t v h. inr (rest.1.only t v h);
       coalesced = rest.1.coalesced;
-    })
+    },
+  )
 ]
 
 module _ (g : Graph) (good : Good g) (o : ℕ) (x : Object) (at : slice_get g.objects o ≡ Some x) where

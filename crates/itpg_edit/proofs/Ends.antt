@@ -18,7 +18,7 @@ to_end g o e h = let t = there g.objects e _ h in here g.objects e _ t.0 t.1 (t.
 -- an edge at a node leads from it or to it
 pub end_leads : (g : Graph) (o e : ℕ) → HasEnd g e o → LeadsFrom g o e ⊎ LeadsTo g o e
 end_leads g o e h = let t = there g.objects e _ h in by_ends t.0.ends t.2.1
-      (λ k. here g.objects e _ t.0 t.1 (t.2.0, k)) (λ k. here g.objects e _ t.0 t.1 (t.2.0, k))
+    (λ k. here g.objects e _ t.0 t.1 (t.2.0, k)) (λ k. here g.objects e _ t.0 t.1 (t.2.0, k))
   where
     by_ends : (n : Option Ends) → IsSomeAnd n (λ n. (n.source ≡ o) ⊎ (n.target ≡ o)) → (IsSomeAnd n (λ n. n.source ≡ o) → LeadsFrom g o e) → (IsSomeAnd n (λ n. n.target ≡ o) → LeadsTo g o e) → LeadsFrom g o e ⊎ LeadsTo g o e
     by_ends None k from to = absurd k

@@ -94,10 +94,14 @@ next_good g new (Gone id from to) good moments labels u next =
     let s = span_of from to in
     let j = next.2 in
     subst Good (sym j.is) (good_cut g next.0 s j.live j.properties j.runs j.values good (named_stands g next.0 id next.1) (is_free g next.0 id s next.1 u.1.1.1.1.0)
-    (λ n family. at_most n 4096 (λ many. u.1.1.1.1.1.0 (next.0, next.1, elim family [
-      | inl live ↦ inl (record { spans = live.0; are = live.1; many = (let e = live.2 in omega arith) })
-      | inr prop ↦ inr (prop.0, record { runs = prop.1; are = prop.2; many = (let e = prop.3 in omega arith) })
-    ]))))
+    (λ n family. at_most n 4096 (λ many. u.1.1.1.1.1.0 (
+      next.0,
+      next.1,
+      elim family [
+        | inl live ↦ inl (record { spans = live.0; are = live.1; many = (let e = live.2 in omega arith) })
+        | inr prop ↦ inr (prop.0, record { runs = prop.1; are = prop.2; many = (let e = prop.3 in omega arith) })
+      ],
+    ))))
 next_good g new (Put id prop value from to) good moments labels u next =
     let s = span_of from to in
     let j = next.2 in

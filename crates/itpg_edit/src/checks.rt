@@ -12,8 +12,8 @@ ghost use Rattle.itpg_edit.specs.declared.edit.Edit.TheVariants as edits;
 
 use crate::edit::Edit;
 use crate::facts::{
-    clears_too_many, cuts_too_many, is_absent, is_held, is_incident, joins_too_many, lacks_end, leaves,
-    puts_too_many,
+    clears_too_many, cuts_too_many, is_absent, is_held, is_incident, joins_too_many, lacks_end,
+    leaves, puts_too_many,
 };
 use crate::place::Place;
 use interval_set::Span;
@@ -37,14 +37,21 @@ pub fn broken(graph: &Graph, edit: &Edit) -> Option<RuleCode>
     match edit {
         Edit::Begin { name, lo, hi } => check_begin(graph, name, lo, hi).err(),
         Edit::AddNode { id, labels } => check_node(graph, id, labels).err(),
-        Edit::AddEdge { id, labels, source, target } => {
-            check_edge(graph, id, labels, source, target).err()
-        }
+        Edit::AddEdge {
+            id,
+            labels,
+            source,
+            target,
+        } => { check_edge(graph, id, labels, source, target).err() }
         Edit::Live { id, from, to } => check_live(graph, id, from, to).err(),
         Edit::Gone { id, from, to } => check_gone(graph, id, from, to).err(),
-        Edit::Put { id, prop, value, from, to } => {
-            check_put(graph, id, prop, value, from, to).err()
-        }
+        Edit::Put {
+            id,
+            prop,
+            value,
+            from,
+            to,
+        } => { check_put(graph, id, prop, value, from, to).err() }
         Edit::Clear { id, prop, from, to } => check_clear(graph, id, prop, from, to).err(),
         Edit::Remove { id } => check_remove(graph, id).err(),
     }

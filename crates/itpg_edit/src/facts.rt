@@ -56,7 +56,8 @@ pub(crate) fn is_held(graph: &Graph, node: ObjNo, span: Span) -> bool
     ensures free { result ≡ false → (e : ℕ) (t : ℤ) → HasEnd graph.now e node.0 → Within t span → Exists graph.now e t → ⊥ }
     ensures held { result ≡ true → (e : ℕ) × HasEnd graph.now e node.0 × ((t : ℤ) × Within t span × Exists graph.now e t) }
 {
-    some_exists(graph, graph.out_edges(node), span) || some_exists(graph, graph.in_edges(node), span)
+    some_exists(graph, graph.out_edges(node), span)
+        || some_exists(graph, graph.in_edges(node), span)
 }
 
 // Whether one of the objects exists at some moment of the span.

@@ -5,7 +5,6 @@
 //! an edit that breaks none leaves the one graph that differs as the edit says.
 #![tactic(auto)]
 
-
 mod checks;
 mod edit;
 mod facts;
@@ -13,7 +12,8 @@ mod fault;
 mod laws;
 mod making;
 mod place;
-
+#[cfg(test)]
+mod tests;
 
 pub use checks::broken;
 pub use edit::Edit;

@@ -8,7 +8,8 @@ ghost use Rattle.itpg_edit.specs.declared.edit.Edit.TheVariants as edits;
 ghost use Rattle.itpg_edit.specs.declared.fault.EditFault.TheVariants.{Rule as ByRule};
 
 use crate::checks::{
-    check_begin, check_clear, check_edge, check_gone, check_live, check_node, check_put, check_remove,
+    check_begin, check_clear, check_edge, check_gone, check_live, check_node, check_put,
+    check_remove,
 };
 use crate::edit::Edit;
 use crate::fault::EditFault;
@@ -33,10 +34,21 @@ pub fn apply(graph: &mut Graph, edit: &Edit) -> Result<Touch, EditFault>
     match edit {
         Edit::Begin { name, lo, hi } => begin(graph, name, lo, hi),
         Edit::AddNode { id, labels } => add_node(graph, id, labels),
-        Edit::AddEdge { id, labels, source, target } => add_edge(graph, id, labels, source, target),
+        Edit::AddEdge {
+            id,
+            labels,
+            source,
+            target,
+        } => add_edge(graph, id, labels, source, target),
         Edit::Live { id, from, to } => join_live(graph, id, from, to),
         Edit::Gone { id, from, to } => cut_live(graph, id, from, to),
-        Edit::Put { id, prop, value, from, to } => put_value(graph, id, prop, value, from, to),
+        Edit::Put {
+            id,
+            prop,
+            value,
+            from,
+            to,
+        } => put_value(graph, id, prop, value, from, to),
         Edit::Clear { id, prop, from, to } => clear_value(graph, id, prop, from, to),
         Edit::Remove { id } => remove(graph, id),
     }
