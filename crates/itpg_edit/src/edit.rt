@@ -13,9 +13,16 @@ use itpg_base::{LabelSet, Name};
 #[derive(Clone, Copy)]
 pub enum Edit {
     /// Begins the graph with this name and the horizon from `lo` to `hi`.
-    Begin { name: Name, lo: i64, hi: i64 },
+    Begin {
+        name: Name,
+        lo: i64,
+        hi: i64,
+    },
     /// Declares a node.
-    AddNode { id: Name, labels: LabelSet },
+    AddNode {
+        id: Name,
+        labels: LabelSet,
+    },
     /// Declares an edge from the node `source` to the node `target`.
     AddEdge {
         id: Name,
@@ -24,9 +31,17 @@ pub enum Edit {
         target: Name,
     },
     /// Lets the object exist at each moment of the span.
-    Live { id: Name, from: i64, to: i64 },
+    Live {
+        id: Name,
+        from: i64,
+        to: i64,
+    },
     /// Lets the object exist at no moment of the span, and takes its values there away.
-    Gone { id: Name, from: i64, to: i64 },
+    Gone {
+        id: Name,
+        from: i64,
+        to: i64,
+    },
     /// Gives the property this value at each moment of the span.
     Put {
         id: Name,
@@ -43,5 +58,7 @@ pub enum Edit {
         to: i64,
     },
     /// Drops the object: it no longer stands, and its name may be declared anew.
-    Remove { id: Name },
+    Remove {
+        id: Name,
+    },
 }

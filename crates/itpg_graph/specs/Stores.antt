@@ -1,16 +1,19 @@
 -- What a store is seen as.
-use Rattle.std.specs.Prelude.{◌≡◌, ℕ, List, [], map, Option, Some, None, option_map, nat_eq}
+use Rattle.std.specs.Prelude.{◌≡◌, ℕ, List, map, Option, Some, option_map, nat_eq}
 use Rattle.std.specs.Cmp.Lexicographic.{pointwise}
 use Rattle.std.specs.declared.hash.FoldHasher.{FoldHasher}
 use Rattle.std.specs.declared.hash.BuildHasherDefault.{BuildHasherDefault}
 use Rattle.indexmap.specs.IndexMap.{get, IndexMap}
 use Rattle.itpg_base.specs.Words.{Word}
 use Rattle.itpg_base.specs.Graphs.{Graph, Object, Begun, Good, Named, ObjectIs}
+use Rattle.itpg_base.specs.declared.object_number.ObjNo.{ObjNo}
+use Rattle.itpg_graph.specs.Kinds.{ends_of}
+use Rattle.itpg_graph.specs.Links.{AreLinks}
 use Rattle.itpg_graph.specs.declared.stored.Stored.{Stored}
 use Rattle.itpg_graph.specs.declared.stored.Opened.{Opened}
 
 abbrev pub object_of : Stored → Object
-object_of s = record { name = s.name; labels = s.labels; ends = None; standing = s.standing; live = s.live; properties = [] }
+object_of s = record { name = s.name; labels = s.labels; ends = ends_of s.ends; standing = s.standing; live = s.live; properties = s.properties }
 
 abbrev pub begun_of : Opened → Begun
 begun_of b = record { name = b.name; horizon = b.horizon }
@@ -30,6 +33,9 @@ pub record IsIndexed (numbers : Table) (g : Graph) : Type 0 where
   pub whole : (name : Word) (o : ℕ) → Named g o name → listed numbers name ≡ Some o
   pub only : (name : Word) (o : ℕ) → listed numbers name ≡ Some o → ObjectIs g o (λ x. x.name ≡ name)
 
-pub record IsStore (opened : Option Opened) (objects : List Stored) (numbers : Table) : Type 0 where
-  pub good : Good (graph_of opened objects)
-  pub indexed : IsIndexed numbers (graph_of opened objects)
+-- the graph is good, names are found, and so are the edges that leave an object and that come into it
+pub record IsStore (g : Graph) (numbers : Table) (out into : List (List ObjNo)) : Type 0 where
+  pub good : Good g
+  pub indexed : IsIndexed numbers g
+  pub sources : AreLinks (λ n. n.source) g out
+  pub targets : AreLinks (λ n. n.target) g into

@@ -1,13 +1,19 @@
 // The store.
 ghost use Rattle.std.specs.Prelude.{◌≡◌, ℤ, ◌<◌, ◌≤◌, ◌↔◌, [], length, ℕ, List, None, Some, option_map, IsTrue, IsNone, IsSome, IfSome, IfOk, OnOk, OnErr};
+ghost use Rattle.itpg_base.specs.Words.{Word};
 ghost use Rattle.itpg_base.specs.Spans.{IsMoment, Within};
-ghost use Rattle.itpg_base.specs.Graphs.{Good, Named, Stands, Exists, HasEnd, InHorizon, ObjectIs, name_at};
-ghost use Rattle.itpg_graph.specs.Changes.{begun_as, with_node, JoinsLive, FitFamily};
+ghost use Rattle.itpg_base.specs.Graphs.{Good, Named, Stands, Exists, Val, HasEnd, InHorizon, ObjectIs, name_at};
+ghost use Rattle.interval_set.specs.Runs.{AreRunsOf};
+ghost use Rattle.itpg_graph.specs.Edges.{LeadsFrom, LeadsTo, AreNumbers};
+ghost use Rattle.itpg_graph.specs.Families.{HasCutFamily, FitCut, FitPut, FitClear, HasPlace};
+ghost use Rattle.itpg_graph.specs.Changes.{begun_as, with_node, with_edge, without, JoinsLive, FitFamily, CutsLive, PutsValue, ClearsValue};
 
+use crate::links::Links;
 use crate::numbers::{list, number_of};
+use crate::properties::Properties;
 use crate::stored::{Opened, Stored};
 use indexmap::IndexMap;
-use interval_set::{IntervalSet, Span};
+use interval_set::{IntervalSet, Span, ValuedSet};
 use itpg_base::{LabelSet, MAX_LABELS, Name, ObjNo};
 use std::alloc::{AllocError, Global};
 use std::marker::Model;
@@ -32,21 +38,24 @@ pub struct Graph {
     opened: Option<Opened>,
     objects: Vec<Stored>,
     numbers: IndexMap<Name, u32>,
+    out: Links,
+    into: Links,
 }
 
 impl Model for Graph {
     ghost use Rattle.itpg_base.specs.Graphs.{Graph as PlainGraph};
     ghost use Rattle.itpg_graph.specs.Stores.{graph_of, IsStore};
+    ghost use Rattle.itpg_graph.specs.Links.{links_of};
 
     ghost Value = { PlainGraph };
 
     ghost view = { λ g. graph_of g.opened g.objects.items };
 
-    ghost invariant = { λ g. IsStore g.opened g.objects.items g.numbers };
+    ghost invariant = { λ g. IsStore (graph_of g.opened g.objects.items) g.numbers (links_of g.out) (links_of g.into) };
 }
 
 impl Graph {
-    ghost use Rattle.itpg_graph.specs.Kinds.{kind_of};
+    ghost use Rattle.itpg_graph.specs.Kinds.{kind_of, ends_of, IsNode};
 
     /// The graph that isn't begun and has no object. It takes no memory.
     pub fn new(alloc: Global) -> Graph
@@ -56,6 +65,8 @@ impl Graph {
             opened: None,
             objects: Vec::new(alloc),
             numbers: IndexMap::new(alloc),
+            out: Links::new(alloc),
+            into: Links::new(alloc),
         }
     }
 
@@ -106,14 +117,24 @@ impl Graph {
         }
     }
 
-    /// Whether the object is a node or an edge. Until edges are built, each is a node.
+    /// Whether the object is a node or an edge.
     pub fn kind(&self, o: ObjNo) -> Kind
         requires { Stands self.now o.0 }
-        ensures kind { ObjectIs self.now o.0 (λ x. result ≡ kind_of x) }
-        ensures node { result ≡ Kind.Node }
+        ensures { ObjectIs self.now o.0 (λ x. result ≡ kind_of x) }
     {
-        let _ = &self.objects;
-        Kind::Node
+        match self.objects[o.0 as usize].ends {
+            Some(_) => Kind::Edge,
+            None => Kind::Node,
+        }
+    }
+
+    /// The source and the target of an edge; `None` exactly for a node.
+    pub fn ends(&self, o: ObjNo) -> Option<(ObjNo, ObjNo)>
+        requires { Stands self.now o.0 }
+        ensures ends { ObjectIs self.now o.0 (λ x. ends_of result ≡ x.ends) }
+        ensures nodes { IfSome result (λ n. IsNode self.now n.0.0 × IsNode self.now n.1.0) }
+    {
+        self.objects[o.0 as usize].ends
     }
 
     /// The labels of the object.
@@ -131,6 +152,68 @@ impl Graph {
         ensures few { length result.now ≤ 4096 }
     {
         &self.objects[o.0 as usize].live
+    }
+
+    /// The values of a property over time, in at most 4,096 runs; `None` exactly where the object has no value of it at any
+    /// moment.
+    pub fn value(&self, o: ObjNo, prop: &Name) -> Option<&ValuedSet>
+        requires { Stands self.now o.0 }
+        ensures some { IfSome result (λ values. AreRunsOf (Val self.now o.0 prop.now) values.now) }
+        ensures none { IsNone result ↔ ((t : ℤ) (value : Word) → ¬ Val self.now o.0 prop.now t value) }
+        ensures few { IfSome result (λ values. length values.now ≤ 4096) }
+    {
+        self.objects[o.0 as usize].properties.get(prop)
+    }
+
+    /// How many properties the object has, each of which has a value at some moment: at most 64.
+    pub fn prop_count(&self, o: ObjNo) -> usize
+        requires { Stands self.now o.0 }
+        ensures count { ObjectIs self.now o.0 (λ x. result ≡ length x.properties) }
+        ensures few { result ≤ 64 }
+    {
+        self.objects[o.0 as usize].properties.count()
+    }
+
+    /// The standing edges whose source is the object, by rising number.
+    ///
+    /// ```text
+    ///     a --m--> b      out_edges(a) is [m, s]
+    ///     a --s--> a      in_edges(a) is [s], in_edges(b) is [m]
+    /// ```
+    pub fn out_edges(&self, o: ObjNo) -> &[ObjNo]
+        requires { Stands self.now o.0 }
+        ensures { AreNumbers (LeadsFrom self.now o.0) result.now }
+    {
+        self.out.at(o)
+    }
+
+    /// The standing edges whose target is the object, by rising number.
+    pub fn in_edges(&self, o: ObjNo) -> &[ObjNo]
+        requires { Stands self.now o.0 }
+        ensures { AreNumbers (LeadsTo self.now o.0) result.now }
+    {
+        self.into.at(o)
+    }
+
+    /// The greatest number of spans that any family of the object, its existence or a property, would have after its life
+    /// in the span ended.
+    ///
+    /// ```text
+    ///     existence    [0..20                 ]
+    ///     low          [0..9     ]
+    ///     high                   [10..20      ]
+    ///     s                 [5..6]                 existence would have 2 spans, low 2, high 1: the answer is 2
+    /// ```
+    pub fn widest_cut(&self, o: ObjNo, s: Span) -> usize
+        requires { Stands self.now o.0 }
+        ensures some { HasCutFamily self.now o.0 s result }
+        ensures most { (n : ℕ) → HasCutFamily self.now o.0 s n → n ≤ result }
+    {
+        let object = &self.objects[o.0 as usize];
+        object
+            .properties
+            .widest_cut(s)
+            .max(object.live.count_cut(s))
     }
 
     /// The name under which the number was declared, also after a drop.
@@ -162,16 +245,47 @@ impl Graph {
         ensures err { OnErr result (self.new ≡ self.old) }
     {
         prove!(labels.len() <= MAX_LABELS);
-        let number = self.objects.len() as u32;
+        let number = ObjNo(self.objects.len() as u32);
         self.objects.reserve(1)?;
-        list(&mut self.numbers, name, number)?;
-        self.objects.push_reserved(Stored {
-            name,
-            labels,
-            standing: true,
-            live: IntervalSet::new(*self.objects.allocator()),
-        });
-        Ok(ObjNo(number))
+        self.out.reserve()?;
+        self.into.reserve()?;
+        list(&mut self.numbers, name, number.0)?;
+        self.out.push();
+        self.into.push();
+        let node = Stored::new(*self.objects.allocator(), name, labels, None);
+        self.objects.push_reserved(node);
+        Ok(number)
+    }
+
+    /// Declares an edge between two standing nodes, which may be one and the same. It gets the next number and exists at no
+    /// moment so far. Without memory nothing changes.
+    pub fn add_edge(
+        &mut self,
+        name: Name,
+        labels: LabelSet,
+        source: ObjNo,
+        target: ObjNo,
+    ) -> Result<ObjNo, AllocError>
+        requires free { (o : ℕ) → Named self.old o name → ⊥ }
+        requires source { IsNode self.old source.0 }
+        requires target { IsNode self.old target.0 }
+        requires room { length self.old.objects < MAX_OBJECTS }
+        ensures number { IfOk result (λ o. o.0 ≡ length self.old.objects) }
+        ensures ok { OnOk result (self.new ≡ with_edge self.old name labels source.0 target.0) }
+        ensures err { OnErr result (self.new ≡ self.old) }
+    {
+        prove!(labels.len() <= MAX_LABELS);
+        let number = ObjNo(self.objects.len() as u32);
+        self.objects.reserve(1)?;
+        self.out.reserve_at(source)?;
+        self.into.reserve_at(target)?;
+        list(&mut self.numbers, name, number.0)?;
+        self.out.push_at(source, number);
+        self.into.push_at(target, number);
+        let ends = Some((source, target));
+        let edge = Stored::new(*self.objects.allocator(), name, labels, ends);
+        self.objects.push_reserved(edge);
+        Ok(number)
     }
 
     /// Lets the object exist at the moments of the span too. Without memory nothing changes.
@@ -186,5 +300,80 @@ impl Graph {
         let object = &mut self.objects[o.0 as usize];
         object.live.join_span(s)?;
         Ok(())
+    }
+
+    /// Ends the object's life in the span: it exists at no moment of it, and its values there are gone. A property left
+    /// with no value is gone too. Without memory nothing changes.
+    ///
+    /// ```text
+    ///     existence    [0..20                 ]
+    ///     risk         [low 0..9     ]
+    ///     s                 [5..12       ]
+    ///     afterwards   [0..4]        [13..20 ], and risk is low at [0..4]
+    /// ```
+    pub fn cut_live(&mut self, o: ObjNo, s: Span) -> Result<(), AllocError>
+        requires stands { Stands self.old o.0 }
+        requires held { (e : ℕ) (t : ℤ) → HasEnd self.old e o.0 → Within t s → Exists self.old e t → ⊥ }
+        requires room { FitCut self.old o.0 s }
+        ensures ok { OnOk result (CutsLive self.old o.0 s self.new) }
+        ensures err { OnErr result (self.new ≡ self.old) }
+    {
+        let object = &mut self.objects[o.0 as usize];
+        let properties = object.properties.cut(s)?;
+        object.live.cut_span(s)?;
+        object.properties = properties;
+        Ok(())
+    }
+
+    /// Gives the property the value at each moment of the span, whatever it was there. Without memory nothing changes.
+    pub fn put_value(
+        &mut self,
+        o: ObjNo,
+        prop: Name,
+        value: Name,
+        s: Span,
+    ) -> Result<(), AllocError>
+        requires stands { Stands self.old o.0 }
+        requires present { (t : ℤ) → Within t s → Exists self.old o.0 t }
+        requires room { FitPut self.old o.0 prop value s }
+        requires place { HasPlace self.old o.0 prop }
+        ensures ok { OnOk result (PutsValue self.old o.0 prop value s self.new) }
+        ensures err { OnErr result (self.new ≡ self.old) }
+    {
+        let object = &mut self.objects[o.0 as usize];
+        object.properties.put(prop, value, s)?;
+        Ok(())
+    }
+
+    /// Takes the values of the property in the span away. A property left with no value is gone. Without memory nothing
+    /// changes.
+    pub fn clear_value(&mut self, o: ObjNo, prop: Name, s: Span) -> Result<(), AllocError>
+        requires stands { Stands self.old o.0 }
+        requires room { FitClear self.old o.0 prop s }
+        ensures ok { OnOk result (ClearsValue self.old o.0 prop s self.new) }
+        ensures err { OnErr result (self.new ≡ self.old) }
+    {
+        let object = &mut self.objects[o.0 as usize];
+        object.properties.clear(&prop, s)?;
+        Ok(())
+    }
+
+    /// Drops the object: it no longer stands, and exists nowhere. Its number stays, and its name may be declared anew with
+    /// another. It takes no memory.
+    pub fn remove(&mut self, o: ObjNo)
+        requires stands { Stands self.old o.0 }
+        requires free { (e : ℕ) → HasEnd self.old e o.0 → ⊥ }
+        ensures { self.new ≡ without self.old o.0 }
+    {
+        let alloc = *self.objects.allocator();
+        let object = &mut self.objects[o.0 as usize];
+        let ends = object.ends;
+        object.standing = false;
+        object.live = IntervalSet::new(alloc);
+        object.properties = Properties::new(alloc);
+        if let Some((source, target)) = ends {
+            self.out.remove(source, o);
+            self.into.remove(target, o);
+        }
     }
 }

@@ -1,6 +1,13 @@
 // What is kept of a graph and of an object.
+ghost use Rattle.std.specs.Prelude.{◌≡◌};
+ghost use Rattle.itpg_graph.specs.Changes.{new_object};
+ghost use Rattle.itpg_graph.specs.Kinds.{ends_of};
+ghost use Rattle.itpg_graph.specs.Stores.{object_of};
+
+use crate::properties::Properties;
 use interval_set::{IntervalSet, Span};
-use itpg_base::{LabelSet, Name};
+use itpg_base::{LabelSet, Name, ObjNo};
+use std::alloc::Global;
 
 /// The name and the horizon that a graph was begun with.
 #[derive(Drop)]
@@ -14,6 +21,30 @@ pub(crate) struct Opened {
 pub(crate) struct Stored {
     pub(crate) name: Name,
     pub(crate) labels: LabelSet,
+    /// Of an edge, its source and its target.
+    pub(crate) ends: Option<(ObjNo, ObjNo)>,
     pub(crate) standing: bool,
     pub(crate) live: IntervalSet,
+    pub(crate) properties: Properties,
+}
+
+impl Stored {
+    /// A new object, which exists at no moment. It takes no memory.
+    pub(crate) fn new(
+        alloc: Global,
+        name: Name,
+        labels: LabelSet,
+        ends: Option<(ObjNo, ObjNo)>,
+    ) -> Stored
+        ensures { object_of result ≡ new_object name labels (ends_of ends) }
+    {
+        Stored {
+            name,
+            labels,
+            ends,
+            standing: true,
+            live: IntervalSet::new(alloc),
+            properties: Properties::new(alloc),
+        }
+    }
 }

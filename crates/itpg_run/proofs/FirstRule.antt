@@ -1,20 +1,18 @@
 -- The first rule that a line breaks.
-use Rattle.std.proofs.Common.{◌≡◌, ℕ, ◌<◌, ◌≤◌, ℤ, ◌≤ℤ◌, ◌<ℤ◌, [], ◌⊎◌, length, Option, Some, None, true, refl, sym, subst, arith}
-use Rattle.std.specs.Prelude.{IsSome, IsNone, IsSomeAnd}
+use Rattle.std.proofs.Common.{◌≡◌, ℕ, ◌<◌, ◌≤◌, ℤ, ◌≤ℤ◌, ◌<ℤ◌, ◌⊎◌, length, Option, Some, None, refl, sym, subst, arith}
+use Rattle.std.specs.Prelude.{IsSome, IsNone}
 use Rattle.std.proofs.lemmas.Int.{ints}
 use Rattle.itpg_base.specs.Words.{Word}
 use Rattle.itpg_base.specs.Spans.{Within}
-use Rattle.itpg_base.specs.Graphs.{Graph, Ends, Named, Stands, Exists, HasEnd, InHorizon, ObjectIs, numbered}
+use Rattle.itpg_base.specs.Graphs.{Graph, Named, Stands, Exists, HasEnd, InHorizon, numbered}
 use Rattle.itpg_base.specs.Rules.{rule_place}
 use Rattle.itpg_base.specs.declared.rule_code.RuleCode.{RuleCode}
 use Rattle.itpg_base.specs.declared.rule_code.RuleCode.TheVariants.{NoGraph, Again, Taken, Unknown, Kind, Backwards, Horizon, Ends as EndsRule, Absent, Held, Incident, Full, GraphName, Later}
 use Rattle.itpg_base.proofs.Objects.{there, here, same_some}
 use Rattle.itpg_graph.specs.Changes.{FitFamily}
-use Rattle.itpg_graph.specs.Kinds.{kind_of}
-use Rattle.itpg_graph.specs.declared.graph.Kind.TheVariants.{Node}
 use Rattle.itpg_run.specs.declared.line.Line.{Line}
 use Rattle.itpg_run.specs.declared.line.Line.TheVariants.{Begin, AddNode, Live, Ask}
-use Rattle.itpg_run.specs.Refusals.{Breaks, Unbroken, First, HasManyRuns, LeavesHorizon, span_of}
+use Rattle.itpg_run.specs.Refusals.{Breaks, Unbroken, First, HasManyRuns, LacksEnd, LeavesHorizon, span_of}
 
 -- what is so for each rule that a form of line can break is so for each that it breaks
 pub begin_breaks : (g : Graph) (name : Word) (lo hi : ℤ) (Q : RuleCode → Type 0) → (IsSome g.begun → Q Again) → (hi <ℤ lo → Q Backwards) → (rule : RuleCode) → Breaks g (Begin name lo hi) rule → Q rule
@@ -156,37 +154,32 @@ first_horizon g id from to some named before leaves = record {
   earlier = λ other lt b. live_breaks g id from to (λ r. rule_place r < 7 → ⊥) (λ none l. some_or_none g.begun some none) (λ free l. some_or_none (numbered g id) named free) (λ after l. omega (arith, ints)) (λ _ l. omega arith) (λ _ l. omega arith) (λ _ l. omega arith) other b lt;
 }
 
--- a node has no end
-pub node_has_no_end : (g : Graph) (o a : ℕ) → ObjectIs g o (λ x. Node ≡ kind_of x) → HasEnd g o a → ⊥
-node_has_no_end g o a node has =
-    let n = there g.objects o _ node in
-    let h = there g.objects o _ has in
-    let same : h.0 ≡ n.0 = same_some _ _ _ h.1 n.1 in
-    no_end n.0.ends n.2 (subst (λ x. IsSomeAnd x.ends (λ e. (e.source ≡ a) ⊎ (e.target ≡ a))) same h.2.1)
-  where
-    no_end : (e : Option Ends) → Node ≡ kind_of (record { name = []; labels = []; ends = e; standing = true; live = []; properties = [] }) → IsSomeAnd e (λ e. (e.source ≡ a) ⊎ (e.target ≡ a)) → ⊥
-    no_end None k h = h
-    no_end (Some e) k h = let no : ⊥ = cc in no
-
-module _ (g : Graph) (id : Word) (from to : ℤ) (o : ℕ) (some : IsSome g.begun) (number : numbered g id ≡ Some o) (before : from ≤ℤ to) (inside : (t : ℤ) → Within t (span_of from to) → InHorizon g t) (node : ObjectIs g o (λ x. Node ≡ kind_of x)) where
+module _ (g : Graph) (id : Word) (from to : ℤ) (o : ℕ) (some : IsSome g.begun) (number : numbered g id ≡ Some o) (before : from ≤ℤ to) (inside : (t : ℤ) → Within t (span_of from to) → InHorizon g t) where
   numbered_some : IsSome (numbered g id)
   numbered_some = subst IsSome (sym number) refl
-
-  no_missing_end : Breaks g (Live id from to) EndsRule → ⊥
-  no_missing_end b = let same : o ≡ b.0 = same_some _ _ _ number b.1 in node_has_no_end g o b.2.end node (subst (λ n. HasEnd g n b.2.end) (sym same) b.2.has)
 
   no_leaving : LeavesHorizon g (span_of from to) → ⊥
   no_leaving l = l.outside (inside l.moment l.within)
 
-  pub first_live_full : HasManyRuns (λ t. Exists g o t ⊎ Within t (span_of from to)) → First g (Live id from to) Full
-  first_live_full many = record {
-    breaks = (o, number, many);
-    earlier = λ other lt b. live_breaks g id from to (λ r. rule_place r < 12 → ⊥) (λ none l. some_or_none g.begun some none) (λ free l. some_or_none (numbered g id) numbered_some free) (λ after l. omega (arith, ints)) (λ leaves l. no_leaving leaves) (λ ends l. no_missing_end ends) (λ _ l. omega arith) other b lt;
+  pub first_live_ends : LacksEnd g o (span_of from to) → First g (Live id from to) EndsRule
+  first_live_ends lacks = record {
+    breaks = (o, number, lacks);
+    earlier = λ other lt b. live_breaks g id from to (λ r. rule_place r < 8 → ⊥) (λ none l. some_or_none g.begun some none) (λ free l. some_or_none (numbered g id) numbered_some free) (λ after l. omega (arith, ints)) (λ leaves l. no_leaving leaves) (λ _ l. omega arith) (λ _ l. omega arith) other b lt;
   }
 
-  pub live_unbroken : FitFamily g o (span_of from to) → Unbroken g (Live id from to)
-  live_unbroken fit = λ rule b. live_breaks g id from to (λ _. ⊥) (λ none. some_or_none g.begun some none) (λ free. some_or_none (numbered g id) numbered_some free) (λ after. omega (arith, ints)) no_leaving no_missing_end
-      (λ full. let same : full.0 ≡ o = same_some _ _ _ full.1 number in let many = subst (λ n. HasManyRuns (λ t. Exists g n t ⊎ Within t (span_of from to))) same full.2 in let few = fit many.spans many.runs in omega (arith, many.many)) rule b
+  module _ (whole : (a : ℕ) → HasEnd g o a → (t : ℤ) → Within t (span_of from to) → Exists g a t) where
+    no_missing_end : Breaks g (Live id from to) EndsRule → ⊥
+    no_missing_end b = let same : o ≡ b.0 = same_some _ _ _ number b.1 in b.2.missing (whole b.2.end (subst (λ n. HasEnd g n b.2.end) (sym same) b.2.has) b.2.moment b.2.within)
+
+    pub first_live_full : HasManyRuns (λ t. Exists g o t ⊎ Within t (span_of from to)) → First g (Live id from to) Full
+    first_live_full many = record {
+      breaks = (o, number, many);
+      earlier = λ other lt b. live_breaks g id from to (λ r. rule_place r < 12 → ⊥) (λ none l. some_or_none g.begun some none) (λ free l. some_or_none (numbered g id) numbered_some free) (λ after l. omega (arith, ints)) (λ leaves l. no_leaving leaves) (λ ends l. no_missing_end ends) (λ _ l. omega arith) other b lt;
+    }
+
+    pub live_unbroken : FitFamily g o (span_of from to) → Unbroken g (Live id from to)
+    live_unbroken fit = λ rule b. live_breaks g id from to (λ _. ⊥) (λ none. some_or_none g.begun some none) (λ free. some_or_none (numbered g id) numbered_some free) (λ after. omega (arith, ints)) no_leaving no_missing_end
+        (λ full. let same : full.0 ≡ o = same_some _ _ _ full.1 number in let many = subst (λ n. HasManyRuns (λ t. Exists g n t ⊎ Within t (span_of from to))) same full.2 in let few = fit many.spans many.runs in omega (arith, many.many)) rule b
 
 pub named_stands : (g : Graph) (o : ℕ) (name : Word) → Named g o name → Stands g o
 named_stands g o name h = let t = there g.objects o _ h in here g.objects o _ t.0 t.1 t.2.0

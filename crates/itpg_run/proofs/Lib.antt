@@ -3,6 +3,7 @@ pub mod Words
 pub mod Digits
 pub mod FirstRule
 pub mod Families
+pub mod LackedEnds
 pub mod LiveLines
 pub mod Saying
 pub mod Shown

@@ -3,14 +3,12 @@ use Rattle.std.proofs.Common.{◌≡◌, ℕ, ℤ, ◌≤ℤ◌, Option, Some, N
 use Rattle.std.specs.Prelude.{IsSome, IsSomeAnd, option_map, ◌⊎◌}
 use Rattle.itpg_base.specs.Words.{Word}
 use Rattle.itpg_base.specs.Spans.{Span, Within}
-use Rattle.itpg_base.specs.Graphs.{Graph, Begun, Exists, InHorizon, ObjectIs, numbered}
-use Rattle.itpg_base.specs.declared.rule_code.RuleCode.TheVariants.{Horizon, Full}
+use Rattle.itpg_base.specs.Graphs.{Graph, Begun, Exists, InHorizon, HasEnd, numbered}
+use Rattle.itpg_base.specs.declared.rule_code.RuleCode.TheVariants.{Horizon, Ends, Full}
 use Rattle.itpg_graph.specs.Changes.{FitFamily}
-use Rattle.itpg_graph.specs.Kinds.{kind_of}
-use Rattle.itpg_graph.specs.declared.graph.Kind.TheVariants.{Node}
 use Rattle.itpg_run.specs.declared.line.Line.TheVariants.{Live}
-use Rattle.itpg_run.specs.Refusals.{Unbroken, First, HasManyRuns, span_of}
-use Rattle.itpg_run.proofs.FirstRule.{first_horizon, first_live_full, live_unbroken}
+use Rattle.itpg_run.specs.Refusals.{Unbroken, First, LacksEnd, HasManyRuns, span_of}
+use Rattle.itpg_run.proofs.FirstRule.{first_horizon, first_live_ends, first_live_full, live_unbroken}
 
 pub into_horizon : (b : Option Begun) (h : Span) (t : ℤ) → Some h ≡ option_map (λ b. b.horizon) b → Within t h → IsSomeAnd b (λ b. Within t b.horizon)
 into_horizon None h t e w = let no : ⊥ = cc in absurd no
@@ -32,8 +30,14 @@ module _ (g : Graph) (id : Word) (from to : ℤ) (h span : Span) (o : ℕ) (hori
   staying : ((t : ℤ) → Within t span → Within t h) → (t : ℤ) → Within t (span_of from to) → InHorizon g t
   staying inside t w = into_horizon g.begun h t horizon (inside t (subst (Within t) (sym is) w))
 
-  pub filling : ((t : ℤ) → Within t span → Within t h) → ObjectIs g o (λ x. Node ≡ kind_of x) → HasManyRuns (λ t. Exists g o t ⊎ Within t span) → First g (Live id from to) Full
-  filling inside node many = first_live_full g id from to o (begun_some g.begun h horizon) number before (staying inside) node (subst (λ s. HasManyRuns (λ t. Exists g o t ⊎ Within t s)) is many)
+  pub lacking : ((t : ℤ) → Within t span → Within t h) → LacksEnd g o span → First g (Live id from to) Ends
+  lacking inside lacks = first_live_ends g id from to o (begun_some g.begun h horizon) number before (staying inside) (subst (LacksEnd g o) is lacks)
 
-  pub passing : ((t : ℤ) → Within t span → Within t h) → ObjectIs g o (λ x. Node ≡ kind_of x) → FitFamily g o span → Unbroken g (Live id from to)
-  passing inside node fit = live_unbroken g id from to o (begun_some g.begun h horizon) number before (staying inside) node (subst (FitFamily g o) is fit)
+  ends_exist : ((a : ℕ) → HasEnd g o a → (t : ℤ) → Within t span → Exists g a t) → (a : ℕ) → HasEnd g o a → (t : ℤ) → Within t (span_of from to) → Exists g a t
+  ends_exist whole a has t w = whole a has t (subst (Within t) (sym is) w)
+
+  pub filling : ((t : ℤ) → Within t span → Within t h) → ((a : ℕ) → HasEnd g o a → (t : ℤ) → Within t span → Exists g a t) → HasManyRuns (λ t. Exists g o t ⊎ Within t span) → First g (Live id from to) Full
+  filling inside whole many = first_live_full g id from to o (begun_some g.begun h horizon) number before (staying inside) (ends_exist whole) (subst (λ s. HasManyRuns (λ t. Exists g o t ⊎ Within t s)) is many)
+
+  pub passing : ((t : ℤ) → Within t span → Within t h) → ((a : ℕ) → HasEnd g o a → (t : ℤ) → Within t span → Exists g a t) → FitFamily g o span → Unbroken g (Live id from to)
+  passing inside whole fit = live_unbroken g id from to o (begun_some g.begun h horizon) number before (staying inside) (ends_exist whole) (subst (FitFamily g o) is fit)

@@ -63,7 +63,7 @@ decide_none : {X : Type 0} (o : Option X) → Decided (IsNone o)
 decide_none None = inl refl
 decide_none (Some x) = inr (λ e. let no_one : ⊥ = cc in no_one)
 
-decide_exists : (g : Graph) (o : ℕ) (t : ℤ) → Decided (Exists g o t)
+pub decide_exists : (g : Graph) (o : ℕ) (t : ℤ) → Decided (Exists g o t)
 decide_exists g o t = if_some (slice_get g.objects o) (λ x. Covers x.live t) (λ x. decide_covers x.live t)
 
 decide_leaves : (g : Graph) (from to : ℤ) → Decided (LeavesHorizon g (span_of from to))
@@ -121,7 +121,7 @@ decide_one : (g : Graph) (s : Span) (x : Object) → Decided (LacksOne g s x)
 unfolding LacksOne
 decide_one g s x = both (is_true x.standing) (if_some x.ends _ (λ n. either (decide_misses g n.source s) (decide_misses g n.target s)))
 
-decide_lacks : (g : Graph) (o : ℕ) (s : Span) → Decided (LacksEnd g o s)
+pub decide_lacks : (g : Graph) (o : ℕ) (s : Span) → Decided (LacksEnd g o s)
 decide_lacks g o s = as_well (lacks_end g o s) (end_lacks g o s) (if_some (slice_get g.objects o) (LacksOne g s) (decide_one g s))
 
 -- the runs of an object that exists in a span too

@@ -99,10 +99,9 @@ fn spans_shown<'a>(graph: &'a Graph, label: &Name, object: ObjNo) -> &'a [Span]
     ensures spans { result.now ≡ spans_of graph.now label.now object.0 }
     ensures few { length result.now ≤ 4096 }
 {
-    if !graph.standing(object) {
+    if !graph.standing(object) || graph.kind(object) == Kind::Edge {
         return &[];
     }
-    prove!(graph.kind(object) == Kind::Node);
     if graph.labels(object).has(label) {
         graph.live(object).spans()
     } else {

@@ -11,7 +11,7 @@ use crate::line::Line;
 use crate::rules::find;
 use interval_set::Span;
 use itpg_base::{LabelSet, Name};
-use itpg_graph::{Graph, Kind};
+use itpg_graph::Graph;
 use std::alloc::AllocError;
 
 /// Makes an edit that breaks no rule. Without memory the graph stays as it was.
@@ -59,7 +59,6 @@ fn join_live(graph: &mut Graph, id: &Name, from: i64, to: i64) -> Result<(), All
 {
     let object = find(graph, id).unwrap();
     let span = Span::new(from, to).unwrap();
-    prove!(graph.kind(object) == Kind::Node);
     graph.join_live(object, span)?;
     Ok(())
 }

@@ -1,15 +1,15 @@
 // The first rule that a line breaks.
-ghost use Rattle.std.specs.Prelude.{◌≡◌, ◌⊎◌, ℤ, true, false, option_map, IfSome, MatchOption};
+ghost use Rattle.std.specs.Prelude.{◌≡◌, ◌⊎◌, ℕ, ℤ, true, false, option_map, IfSome, MatchOption};
 ghost use Rattle.itpg_base.specs.Spans.{Within};
-ghost use Rattle.itpg_base.specs.Graphs.{Stands, Exists, numbered};
+ghost use Rattle.itpg_base.specs.Graphs.{Stands, Exists, HasEnd, numbered};
 ghost use Rattle.itpg_graph.specs.Changes.{FitFamily};
-ghost use Rattle.itpg_run.specs.Refusals.{Unbroken, First, HasManyRuns};
+ghost use Rattle.itpg_run.specs.Refusals.{Unbroken, First, LacksEnd, HasManyRuns};
 ghost use Rattle.itpg_run.specs.declared.line.Line.TheVariants.{Begin as BeginLine, AddNode as NodeLine, Live as LiveLine, Ask as AskLine};
 
 use crate::line::Line;
 use interval_set::Span;
 use itpg_base::{Name, ObjNo, RuleCode};
-use itpg_graph::{Graph, Kind, MAX_OBJECTS};
+use itpg_graph::{Graph, MAX_OBJECTS};
 
 // How many spans a family has at most.
 const MAX_SPANS: usize = 4_096;
@@ -75,9 +75,10 @@ fn broken_live(graph: &Graph, id: &Name, from: i64, to: i64) -> Option<RuleCode>
     let Some(span) = Span::new(from, to) else {
         return Some(RuleCode::Backwards);
     };
-    prove!(graph.kind(object) == Kind::Node);
     if leaves(span, horizon) {
         Some(RuleCode::Horizon)
+    } else if lacks_end(graph, object, span) {
+        Some(RuleCode::Ends)
     } else if has_many_runs(graph, object, span) {
         Some(RuleCode::Full)
     } else {
@@ -99,6 +100,20 @@ fn leaves(span: Span, horizon: Span) -> bool
     ensures outside { result ≡ true → (t : ℤ) × Within t span × (Within t horizon → ⊥) }
 {
     span.from() < horizon.from() || horizon.to() < span.to()
+}
+
+/// Whether one of the two ends of the object doesn't exist at some moment of the span.
+fn lacks_end(graph: &Graph, object: ObjNo, span: Span) -> bool
+    requires { Stands graph.now object.0 }
+    ensures lacking { result ≡ true → LacksEnd graph.now object.0 span }
+    ensures whole { result ≡ false → (a : ℕ) → HasEnd graph.now object.0 a → (t : ℤ) → Within t span → Exists graph.now a t }
+{
+    match graph.ends(object) {
+        Some((source, target)) => {
+            !(graph.live(source).covers(span) && graph.live(target).covers(span))
+        }
+        None => false,
+    }
 }
 
 /// Whether the object would have more runs than a family may have, if it existed in the span too.

@@ -5,6 +5,7 @@ use Rattle.itpg_base.specs.declared.rule_code.RuleCode.TheVariants.{Backwards}
 use Rattle.itpg_graph.specs.Changes.{FitFamily}
 use Rattle.itpg_run.specs.Refusals.{span_of}
 use Rattle.itpg_run.proofs.Unbroken.{not_after, ordered_back, found_some, within_horizon, room_for_spans}
+use Rattle.itpg_run.proofs.LackedEnds.{ends_exist}
 use Rattle.itpg_run.proofs.edits.join_live.Goals as goal
 
 pub unwrap-object-requires : goal.unwrap-object-requires
@@ -23,3 +24,9 @@ join_live-requires-clause-room c =
     let is : c.unwrap-span.result ≡ span_of c.args.from c.args.to = search rules in
     let number : numbered c.args.graph.now c.args.id.now ≡ Some c.unwrap-object.result.0 = search rules in
     subst (FitFamily c.args.graph.now c.unwrap-object.result.0) (sym is) (room_for_spans c.args.graph.now c.args.id.now c.args.from c.args.to c.unwrap-object.result.0 c.requires number)
+
+pub join_live-requires-clause-ends : goal.join_live-requires-clause-ends
+join_live-requires-clause-ends c = λ a has t w.
+    let is : c.unwrap-span.result ≡ span_of c.args.from c.args.to = search rules in
+    let number : numbered c.args.graph.now c.args.id.now ≡ Some c.unwrap-object.result.0 = search rules in
+    ends_exist c.args.graph.now c.args.id.now c.args.from c.args.to c.unwrap-object.result.0 c.requires number a has t (subst (Within t) is w)

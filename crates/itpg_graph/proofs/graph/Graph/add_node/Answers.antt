@@ -1,20 +1,30 @@
-use Rattle.std.proofs.Common.{◌≡◌, ◌∷◌, ◌++◌, [], ℕ, Some, ap, ◌∙◌, true, sym, subst, rules}
+use Rattle.std.proofs.Common.{◌≡◌, ◌∷◌, ◌++◌, [], ℕ, Some, length, map, ap, ◌∙◌, ◌<◌, sym, subst, rules}
 use Rattle.std.specs.Prelude.{IsSome}
-use Rattle.std.specs.Prelude.{length}
-use Rattle.std.proofs.Common.{◌<◌}
-use Rattle.itpg_base.specs.Graphs.{Named}
-use Rattle.itpg_graph.specs.declared.stored.Stored.{Stored}
-use Rattle.itpg_graph.specs.Stores.{IsStore, listed}
-use Rattle.itpg_graph.proofs.Views.{added_store}
+use Rattle.itpg_base.specs.Graphs.{Graph, Named}
+use Rattle.itpg_graph.specs.Links.{links_of}
+use Rattle.itpg_graph.specs.Stores.{object_of, graph_of, IsStore, listed}
+use Rattle.itpg_graph.proofs.Lists.{length_mapped}
+use Rattle.itpg_graph.specs.Changes.{with_node}
+use Rattle.itpg_graph.proofs.Goodness.{pushed}
+use Rattle.itpg_graph.proofs.Views.{node_store, added}
 use Rattle.itpg_graph.proofs.graph.Graph.add_node.Goals as goal
 
 pub invariant_of-self-2 : goal.invariant_of-self-2
 invariant_of-self-2 c =
     let is = sym c.self.view_is in
-    let node : Stored = record { name = c.args.name; labels = c.args.labels; standing = true; live = [] } in
-    let items : c.push_reserved.new.self.items ≡ c.self.inside.objects.items ++ node ∷ [] = search rules in
-    let count : c.len-number.result ≡ length c.self.inside.objects.items = search rules in
-    let table : listed c.list.new.numbers c.args.name ≡ Some (length c.self.inside.objects.items) = c.in_ok-list.ensures.ok ∙ ap Some count in
-    subst (λ xs. IsStore c.self.inside.opened xs c.list.new.numbers) (sym items)
-    (added_store c.args.name c.args.labels c.self.inside.opened c.self.inside.objects.items c.self.inside.numbers c.list.new.numbers c.self.invariant
-    (subst (λ g. IsSome g.begun) is c.requires.begun) (subst (λ g. (o : ℕ) → Named g o c.args.name → ⊥) is c.requires.free) (subst (λ g. length g.objects < 200000) is c.requires.room) c.len.ensures.set table c.in_ok-list.ensures.others)
+    let old = c.self.inside.objects.items in
+    let g : Graph = graph_of c.self.inside.opened old in
+    let node = c.new-node.result in
+    let items : c.push_reserved.new.self.items ≡ old ++ node ∷ [] = search rules in
+    let count : c.len-2.result ≡ length old = search rules in
+    let table : listed c.list.new.numbers c.args.name ≡ Some (length (map object_of old)) = c.in_ok-list.ensures.ok ∙ ap Some (count ∙ sym (length_mapped object_of old)) in
+    let out = links_of c.self.inside.out in
+    let into = links_of c.self.inside.into in
+    let more_out : links_of c.push.new.self ≡ out ++ [] ∷ [] = c.push.ensures ∙ ap (λ ls. ls ++ [] ∷ []) c.reserve-2.ensures.same in
+    let more_into : links_of c.push-2.new.self ≡ into ++ [] ∷ [] = c.push-2.ensures ∙ ap (λ ls. ls ++ [] ∷ []) c.reserve-3.ensures.same in
+    let store = node_store g c.args.name c.args.labels c.self.inside.numbers c.list.new.numbers out into c.self.invariant c.len.ensures.set
+    (subst (λ g. (o : ℕ) → Named g o c.args.name → ⊥) is c.requires.free) (subst (λ g. length g.objects < 200000) is c.requires.room) table c.in_ok-list.ensures.others
+    (subst (λ g. IsSome g.begun) is c.requires.begun) in
+    subst (λ h. IsStore h c.list.new.numbers (links_of c.push.new.self) (links_of c.push-2.new.self)) (sym (ap (graph_of c.self.inside.opened) items ∙ added c.self.inside.opened old node ∙ ap (pushed g) c.new-node.ensures))
+    (subst (λ ls. IsStore (with_node g c.args.name c.args.labels) c.list.new.numbers ls (links_of c.push-2.new.self)) (sym more_out)
+    (subst (λ ls. IsStore (with_node g c.args.name c.args.labels) c.list.new.numbers (out ++ [] ∷ []) ls) (sym more_into) store))

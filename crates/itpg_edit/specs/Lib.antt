@@ -1,0 +1,4 @@
+pub mod Facts
+pub mod Rules
+pub mod Next
+pub mod Places

@@ -1,0 +1,55 @@
+-- Edits of what an object has over a span.
+use Rattle.std.specs.Prelude.{◌≡◌, ℕ, ℤ, ◌≤ℤ◌, List, IsSome}
+use Rattle.itpg_base.specs.Words.{Word, IsLabels}
+use Rattle.itpg_base.specs.Spans.{Span, IsMoment, Within}
+use Rattle.itpg_base.specs.Graphs.{Graph, Good, Named, Stands, Exists, HasEnd, InHorizon}
+use Rattle.itpg_base.specs.declared.object_number.ObjNo.{ObjNo}
+use Rattle.itpg_graph.specs.Edges.{HasNumber}
+use Rattle.itpg_edit.specs.declared.edit.Edit.{Edit}
+use Rattle.itpg_edit.specs.declared.edit.Edit.TheVariants.{Begin, AddNode, AddEdge, Live, Gone, Put, Clear, Remove}
+use Rattle.itpg_edit.specs.declared.place.Place.{Place}
+use Rattle.itpg_edit.specs.Facts.{span_of}
+
+-- in a good graph, the standing object of this name, and the span of the two moments, each in the horizon
+pub record IsPlace (g : Graph) (id : Word) (from to : ℤ) (place : Place) : Type 0 where
+  pub good : Good g
+  pub begun : IsSome g.begun
+  pub named : Named g place.object.0 id
+  pub span : place.span ≡ span_of from to
+  pub ordered : from ≤ℤ to
+  pub inside : (t : ℤ) → Within t (span_of from to) → InHorizon g t
+
+-- each end of the object exists at each moment of the span
+abbrev pub EndsExist : Graph → ℕ → Span → Type 0
+EndsExist g o s = (a : ℕ) → HasEnd g o a → (t : ℤ) → Within t s → Exists g a t
+
+-- no edge at the object exists at a moment of the span
+abbrev pub IsFree : Graph → ℕ → Span → Type 0
+IsFree g o s = (e : ℕ) (t : ℤ) → HasEnd g e o → Within t s → Exists g e t → ⊥
+
+-- the object exists at each moment of the span
+abbrev pub IsThere : Graph → ℕ → Span → Type 0
+IsThere g o s = (t : ℤ) → Within t s → Exists g o t
+
+-- both are moments
+abbrev pub AreMoments : ℤ → ℤ → Type 0
+AreMoments from to = IsMoment from × IsMoment to
+
+-- each number of the edit is a moment
+abbrev pub HasMoments : Edit → Type 0
+HasMoments (Begin name lo hi) = AreMoments lo hi
+HasMoments (Live id from to) = AreMoments from to
+HasMoments (Gone id from to) = AreMoments from to
+HasMoments (Put id prop value from to) = AreMoments from to
+HasMoments (Clear id prop from to) = AreMoments from to
+HasMoments edit = Unit {0}
+
+-- each set of labels of the edit is one
+abbrev pub HasLabels : Edit → Type 0
+HasLabels (AddNode id labels) = IsLabels labels
+HasLabels (AddEdge id labels source target) = IsLabels labels
+HasLabels edit = Unit {0}
+
+-- each object of the list stands
+abbrev pub AllStand : Graph → List ObjNo → Type 0
+AllStand g objects = (e : ℕ) → HasNumber objects e → Stands g e

@@ -1,0 +1,31 @@
+//! Why an edit isn't made.
+ghost use Rattle.std.specs.Prelude.{◌≡◌};
+ghost use Rattle.itpg_edit.specs.declared.fault.EditFault.TheVariants.{Memory as OutOfMemory, Rule as ByRule};
+
+use itpg_base::RuleCode;
+use std::alloc::AllocError;
+
+/// Why an edit wasn't made. The graph is as it was.
+#[derive(Clone, Copy, Debug, PartialEq, Eq)]
+pub enum EditFault {
+    /// Memory was wanting. The edit breaks no rule.
+    Memory,
+    /// The first rule that the edit breaks.
+    Rule(RuleCode),
+}
+
+impl From<AllocError> for EditFault {
+    ghost from_gives = { λ _ e. e ≡ OutOfMemory };
+
+    fn from(_: AllocError) -> Self {
+        EditFault::Memory
+    }
+}
+
+impl From<RuleCode> for EditFault {
+    ghost from_gives = { λ rule e. e ≡ ByRule rule };
+
+    fn from(rule: RuleCode) -> Self {
+        EditFault::Rule(rule)
+    }
+}

@@ -1,0 +1,38 @@
+use Rattle.std.proofs.Common.{◌≡◌, ◌∷◌, ◌++◌, [], ℕ, Some, List, length, map, ap, ◌∙◌, ◌<◌, sym, subst, rules}
+use Rattle.itpg_base.specs.Graphs.{Graph, Named}
+use Rattle.itpg_base.specs.declared.object_number.ObjNo.{ObjNo}
+use Rattle.itpg_graph.specs.Links.{links_of}
+use Rattle.itpg_graph.specs.Stores.{object_of, graph_of, IsStore, listed}
+use Rattle.itpg_graph.proofs.Lists.{length_mapped}
+use Rattle.itpg_base.specs.Graphs.{changed_at}
+use Rattle.itpg_graph.specs.Kinds.{IsNode}
+use Rattle.itpg_graph.specs.Changes.{with_edge}
+use Rattle.itpg_graph.proofs.Goodness.{pushed}
+use Rattle.itpg_graph.proofs.Views.{edge_store, added}
+use Rattle.itpg_graph.proofs.graph.Graph.add_edge.Goals as goal
+
+pub invariant_of-self-2 : goal.invariant_of-self-2
+invariant_of-self-2 c =
+    let is = sym c.self.view_is in
+    let old = c.self.inside.objects.items in
+    let g : Graph = graph_of c.self.inside.opened old in
+    let edge = c.new-edge.result in
+    let number : ObjNo = record { 0 = c.len-2.result } in
+    let items : c.push_reserved.new.self.items ≡ old ++ edge ∷ [] = search rules in
+    let count : c.len-2.result ≡ length old = search rules in
+    let next : number.0 ≡ length (map object_of old) = count ∙ sym (length_mapped object_of old) in
+    let table : listed c.list.new.numbers c.args.name ≡ Some (length (map object_of old)) = c.in_ok-list.ensures.ok ∙ ap Some next in
+    let out = links_of c.self.inside.out in
+    let into = links_of c.self.inside.into in
+    let add : List ObjNo → List ObjNo = λ list. list ++ number ∷ [] in
+    let now_out = changed_at out c.args.source.0 add ++ [] ∷ [] in
+    let now_into = changed_at into c.args.target.0 add ++ [] ∷ [] in
+    let more_out : links_of c.push_at.new.self ≡ now_out = c.push_at.ensures ∙ ap (λ ls. changed_at ls c.args.source.0 add ++ [] ∷ []) c.reserve_at.ensures.same in
+    let more_into : links_of c.push_at-2.new.self ≡ now_into = c.push_at-2.ensures ∙ ap (λ ls. changed_at ls c.args.target.0 add ++ [] ∷ []) c.reserve_at-2.ensures.same in
+    let now = with_edge g c.args.name c.args.labels c.args.source.0 c.args.target.0 in
+    let store = edge_store g c.args.name c.args.labels c.self.inside.numbers c.list.new.numbers out into c.self.invariant c.len.ensures.set
+    (subst (λ g. (o : ℕ) → Named g o c.args.name → ⊥) is c.requires.free) (subst (λ g. length g.objects < 200000) is c.requires.room) table c.in_ok-list.ensures.others
+    c.args.source c.args.target number next (subst (λ g. IsNode g c.args.source.0) is c.requires.source) (subst (λ g. IsNode g c.args.target.0) is c.requires.target) in
+    subst (λ h. IsStore h c.list.new.numbers (links_of c.push_at.new.self) (links_of c.push_at-2.new.self)) (sym (ap (graph_of c.self.inside.opened) items ∙ added c.self.inside.opened old edge ∙ ap (pushed g) c.new-edge.ensures))
+    (subst (λ ls. IsStore now c.list.new.numbers ls (links_of c.push_at-2.new.self)) (sym more_out)
+    (subst (λ ls. IsStore now c.list.new.numbers now_out ls) (sym more_into) store))

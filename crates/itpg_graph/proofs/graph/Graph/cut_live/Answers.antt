@@ -1,0 +1,34 @@
+use Rattle.std.proofs.Common.{◌≡◌, ℕ, ℤ, Some, length, refl, sym, subst}
+use Rattle.std.specs.Prelude.{slice_get, slice_set}
+use Rattle.std.proofs.lemmas.Option.{slice_get_read}
+use Rattle.itpg_base.specs.Spans.{Within}
+use Rattle.itpg_base.specs.Graphs.{Graph, Stands, HasEnd, Exists}
+use Rattle.itpg_graph.specs.Families.{FitCut}
+use Rattle.itpg_graph.specs.Changes.{CutsLive}
+use Rattle.itpg_graph.specs.Links.{links_of}
+use Rattle.itpg_graph.specs.Stores.{graph_of}
+use Rattle.itpg_graph.proofs.Views.{is_within, cuts, cut_store}
+use Rattle.itpg_graph.proofs.graph.Graph.cut_live.Goals as goal
+
+pub invariant_of-self-2 : goal.invariant_of-self-2
+invariant_of-self-2 c =
+    let items = c.self.inside.objects.items in
+    let o = c.args.o.0 in
+    let s = c.index_mut-object.result.now in
+    let is = sym c.self.view_is in
+    let stands = subst (λ g. Stands g o) is c.requires.stands in
+    let at : slice_get items o ≡ Some s = slice_get_read items (length items) o s refl (is_within c.self.inside.opened items o _ stands) c.index_mut-object.ensures.value in
+    cut_store c.self.inside.opened items o s at c.args.s c.in_ok-properties.properties c.cut_span.new.self c.in_ok-cut_span.ensures.ok c.in_ok-properties.ensures c.self.inside.numbers (links_of c.self.inside.out) (links_of c.self.inside.into) c.self.invariant stands
+    (subst (λ g. (e : ℕ) (t : ℤ) → HasEnd g e o → Within t c.args.s → Exists g e t → ⊥) is c.requires.held)
+    (subst (λ g. FitCut g o c.args.s) is c.requires.room)
+
+pub returns-clause-ok : goal.returns-clause-ok
+returns-clause-ok c =
+    let items = c.self.inside.objects.items in
+    let o = c.args.o.0 in
+    let s = c.index_mut-object.result.now in
+    let is = sym c.self.view_is in
+    let stands = subst (λ g. Stands g o) is c.requires.stands in
+    let at : slice_get items o ≡ Some s = slice_get_read items (length items) o s refl (is_within c.self.inside.opened items o _ stands) c.index_mut-object.ensures.value in
+    let new : Graph = graph_of c.self.inside.opened (slice_set items o (record s { live = c.cut_span.new.self; properties = c.in_ok-properties.properties })) in
+    subst (λ g. CutsLive g o c.args.s new) c.self.view_is (cuts c.self.inside.opened items o s at c.args.s c.in_ok-properties.properties c.cut_span.new.self c.in_ok-cut_span.ensures.ok c.in_ok-properties.ensures)

@@ -1,0 +1,35 @@
+use Rattle.std.proofs.Common.{◌≡◌, ℤ, Some, length, refl, sym, subst}
+use Rattle.std.specs.Prelude.{slice_get, slice_set}
+use Rattle.std.proofs.lemmas.Option.{slice_get_read}
+use Rattle.itpg_base.specs.Spans.{Within}
+use Rattle.itpg_base.specs.Graphs.{Graph, Stands, Exists}
+use Rattle.itpg_graph.specs.Families.{FitPut, HasPlace}
+use Rattle.itpg_graph.specs.Changes.{PutsValue}
+use Rattle.itpg_graph.specs.Links.{links_of}
+use Rattle.itpg_graph.specs.Stores.{graph_of}
+use Rattle.itpg_graph.proofs.Views.{is_within, puts, put_store}
+use Rattle.itpg_graph.proofs.graph.Graph.put_value.Goals as goal
+
+pub invariant_of-self-2 : goal.invariant_of-self-2
+invariant_of-self-2 c =
+    let items = c.self.inside.objects.items in
+    let o = c.args.o.0 in
+    let s = c.index_mut-object.result.now in
+    let is = sym c.self.view_is in
+    let stands = subst (λ g. Stands g o) is c.requires.stands in
+    let at : slice_get items o ≡ Some s = slice_get_read items (length items) o s refl (is_within c.self.inside.opened items o _ stands) c.index_mut-object.ensures.value in
+    put_store c.self.inside.opened items o s at c.args.s c.put.new.self c.args.prop c.args.value c.in_ok-put.ensures.ok c.self.inside.numbers (links_of c.self.inside.out) (links_of c.self.inside.into) c.self.invariant stands
+    (subst (λ g. (t : ℤ) → Within t c.args.s → Exists g o t) is c.requires.present)
+    (subst (λ g. FitPut g o c.args.prop c.args.value c.args.s) is c.requires.room)
+    (subst (λ g. HasPlace g o c.args.prop) is c.requires.place)
+
+pub returns-clause-ok : goal.returns-clause-ok
+returns-clause-ok c =
+    let items = c.self.inside.objects.items in
+    let o = c.args.o.0 in
+    let s = c.index_mut-object.result.now in
+    let is = sym c.self.view_is in
+    let stands = subst (λ g. Stands g o) is c.requires.stands in
+    let at : slice_get items o ≡ Some s = slice_get_read items (length items) o s refl (is_within c.self.inside.opened items o _ stands) c.index_mut-object.ensures.value in
+    let new : Graph = graph_of c.self.inside.opened (slice_set items o (record s { properties = c.put.new.self })) in
+    subst (λ g. PutsValue g o c.args.prop c.args.value c.args.s new) c.self.view_is (puts c.self.inside.opened items o s at c.args.s c.put.new.self c.args.prop c.args.value c.in_ok-put.ensures.ok)

@@ -1,0 +1,81 @@
+// The edges at each object.
+ghost use Rattle.std.specs.Prelude.{◌≡◌, ◌<◌, ◌∷◌, ◌++◌, [], length, slice_get, Some, OnOk};
+ghost use Rattle.itpg_base.specs.Graphs.{changed_at};
+ghost use Rattle.itpg_graph.specs.Links.{links_of, HasRoom, HasRoomAt, LosesNumber};
+
+use itpg_base::ObjNo;
+use std::alloc::{AllocError, Global};
+
+/// For each object ever declared, by its number, the rising numbers of edges at it.
+#[derive(Drop)]
+pub(crate) struct Links {
+    pub(crate) lists: Vec<Vec<ObjNo>>,
+}
+
+impl Links {
+    /// The table of no object. It takes no memory.
+    pub(crate) fn new(alloc: Global) -> Links
+        ensures { links_of result ≡ [] }
+    {
+        Links {
+            lists: Vec::new(alloc),
+        }
+    }
+
+    /// The edges at an object.
+    pub(crate) fn at(&self, o: ObjNo) -> &[ObjNo]
+        requires { o.0 < length (links_of self.now) }
+        ensures { slice_get (links_of self.now) o.0 ≡ Some result.now }
+    {
+        &self.lists[o.0 as usize]
+    }
+
+    /// Makes room for one more object.
+    pub(crate) fn reserve(&mut self) -> Result<(), AllocError>
+        ensures same { links_of self.new ≡ links_of self.old }
+        ensures room { OnOk result (HasRoom self.new) }
+    {
+        self.lists.reserve(1)
+    }
+
+    /// Makes room for one more object, and for one more edge at `o`.
+    pub(crate) fn reserve_at(&mut self, o: ObjNo) -> Result<(), AllocError>
+        requires { o.0 < length (links_of self.old) }
+        ensures same { links_of self.new ≡ links_of self.old }
+        ensures room { OnOk result (HasRoom self.new) }
+        ensures room_at { OnOk result (HasRoomAt self.new o.0) }
+    {
+        self.lists.reserve(1)?;
+        self.lists[o.0 as usize].reserve(1)
+    }
+
+    /// Adds an object with no edge at it.
+    pub(crate) fn push(&mut self)
+        requires { HasRoom self.old }
+        ensures { links_of self.new ≡ links_of self.old ++ [] ∷ [] }
+    {
+        let alloc = *self.lists.allocator();
+        self.lists.push_reserved(Vec::new(alloc));
+    }
+
+    /// Adds an object with no edge at it, and an edge at `o`, whose number is the greatest.
+    pub(crate) fn push_at(&mut self, o: ObjNo, edge: ObjNo)
+        requires room { HasRoom self.old }
+        requires room_at { HasRoomAt self.old o.0 }
+        ensures { links_of self.new ≡ changed_at (links_of self.old) o.0 (λ list. list ++ edge ∷ []) ++ [] ∷ [] }
+    {
+        self.lists[o.0 as usize].push_reserved(edge);
+        self.push();
+    }
+
+    /// Takes an edge at `o` away.
+    pub(crate) fn remove(&mut self, o: ObjNo, edge: ObjNo)
+        requires { o.0 < length (links_of self.old) }
+        ensures { LosesNumber (links_of self.old) o.0 edge.0 (links_of self.new) }
+    {
+        let list = &mut self.lists[o.0 as usize];
+        if let Ok(place) = list.binary_search_by_key(&edge.0, |number| number.0) {
+            list.remove(place);
+        }
+    }
+}

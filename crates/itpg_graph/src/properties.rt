@@ -1,0 +1,163 @@
+// The properties of an object, each with its values.
+ghost use Rattle.std.specs.Prelude.{◌≡◌, ◌↔◌, ℤ, [], length, IsNone, IfSome, IfOk, IfErr, OnOk, OnErr};
+ghost use Rattle.itpg_base.specs.Words.{Word};
+ghost use Rattle.itpg_base.specs.Spans.{Within};
+ghost use Rattle.itpg_base.specs.Graphs.{PropertiesHave};
+ghost use Rattle.interval_set.specs.Runs.{AreRunsOf};
+ghost use Rattle.itpg_graph.specs.Families.{AreProperties};
+ghost use Rattle.itpg_graph.specs.Tables.{IsPlace, IsGap, HasLess, HasMore, IsWidest};
+
+use interval_set::{Span, ValuedSet};
+use itpg_base::Name;
+use std::alloc::{AllocError, Global};
+use std::marker::Model;
+
+/// A property and its values.
+#[derive(Drop)]
+pub(crate) struct Property {
+    name: Name,
+    values: ValuedSet,
+}
+
+impl Model for Property {
+    ghost use Rattle.itpg_base.specs.Graphs.{Property as PlainProperty};
+
+    ghost Value = { PlainProperty };
+
+    ghost view = { λ p. record { name = p.name; runs = p.values } };
+}
+
+/// The properties that an object has at some moment, by rising name.
+///
+/// A contract sees them as the list of properties of the plain graph.
+#[derive(Drop)]
+pub(crate) struct Properties {
+    list: Vec<Property>,
+}
+
+impl Model for Properties {
+    ghost use Rattle.std.specs.Prelude.{List};
+    ghost use Rattle.itpg_base.specs.Graphs.{Property as PlainProperty};
+    ghost use Rattle.itpg_graph.specs.Families.{IsOrderly};
+
+    ghost Value = { List PlainProperty };
+
+    ghost view = { λ a. a.list.items };
+
+    ghost invariant = { λ a. IsOrderly a.list.items };
+}
+
+impl Properties {
+    /// No property. It takes no memory.
+    pub(crate) fn new(alloc: Global) -> Properties
+        ensures { result ≡ [] }
+    {
+        Properties {
+            list: Vec::new(alloc),
+        }
+    }
+
+    /// How many properties have a value.
+    pub(crate) fn count(&self) -> usize
+        ensures { result ≡ length self.now }
+    {
+        self.list.len()
+    }
+
+    /// The values of a property; `None` exactly where it has none.
+    pub(crate) fn get(&self, name: &Name) -> Option<&ValuedSet>
+        ensures some { IfSome result (λ values. AreRunsOf (PropertiesHave self.now name.now) values.now) }
+        ensures none { IsNone result ↔ ((t : ℤ) (value : Word) → ¬ PropertiesHave self.now name.now t value) }
+    {
+        match self.search(name) {
+            Ok(place) => {
+                let property = &self.list[place];
+                Some(&property.values)
+            }
+            Err(_) => None,
+        }
+    }
+
+    /// The place of a property, or the place that it would have.
+    fn search(&self, name: &Name) -> Result<usize, usize>
+        ensures found { IfOk result (IsPlace self.now name.now) }
+        ensures missing { IfErr result (IsGap self.now name.now) }
+    {
+        self.list
+            .binary_search_by(|property| property.name.cmp(name))
+    }
+
+    /// Gives the property the value at each moment of the span. Without memory nothing changes.
+    pub(crate) fn put(&mut self, name: Name, value: Name, s: Span) -> Result<(), AllocError>
+        ensures ok { OnOk result (AreProperties (HasMore self.old name value s) self.new) }
+        ensures err { OnErr result (self.new ≡ self.old) }
+    {
+        prove!(s.from() <= s.to());
+        match self.search(&name) {
+            Ok(place) => {
+                let property = &mut self.list[place];
+                property.values.put(s, value)?;
+                Ok(())
+            }
+            Err(place) => self.add(place, name, value, s),
+        }
+    }
+
+    /// Adds a property at its place, with the value at each moment of the span. Without memory nothing changes.
+    fn add(&mut self, place: usize, name: Name, value: Name, s: Span) -> Result<(), AllocError>
+        requires { IsGap self.old name place }
+        ensures ok { OnOk result (AreProperties (HasMore self.old name value s) self.new) }
+        ensures err { OnErr result (self.new ≡ self.old) }
+    {
+        prove!(s.from() <= s.to());
+        let mut values = ValuedSet::new(*self.list.allocator());
+        values.put(s, value)?;
+        self.list.insert(place, Property { name, values })?;
+        Ok(())
+    }
+
+    /// Takes the values of the property in the span away. Without memory nothing changes.
+    pub(crate) fn clear(&mut self, name: &Name, s: Span) -> Result<(), AllocError>
+        ensures ok { OnOk result (AreProperties (HasLess self.old name.now s) self.new) }
+        ensures err { OnErr result (self.new ≡ self.old) }
+    {
+        let Ok(place) = self.search(name) else {
+            return Ok(());
+        };
+        let property = &mut self.list[place];
+        property.values.clear(s)?;
+        if property.values.runs().is_empty() {
+            self.list.remove(place);
+        }
+        Ok(())
+    }
+
+    /// The properties without their values in the span.
+    pub(crate) fn cut(&self, s: Span) -> Result<Properties, AllocError>
+        ensures { IfOk result (AreProperties (λ name t value. PropertiesHave self.now name t value × (¬ Within t s))) }
+    {
+        let mut list = Vec::with_capacity(*self.list.allocator(), self.list.len())?;
+        for property in &self.list {
+            let mut values = property.values.copy()?;
+            values.clear(s)?;
+            if !values.runs().is_empty() {
+                list.push(Property {
+                    name: property.name,
+                    values,
+                })?;
+            }
+        }
+        Ok(Properties { list })
+    }
+
+    /// The greatest number of runs of a property without its values in the span; 0 where there is no property.
+    pub(crate) fn widest_cut(&self, s: Span) -> usize
+        ensures { IsWidest self.now s result }
+    {
+        let mut widest = 0;
+        for property in &self.list {
+            widest = property.values.count_clear(s).max(widest);
+        }
+        widest
+    }
+}
