@@ -1,0 +1,16 @@
+//! The laws of lines.
+ghost use Rattle.std.specs.Prelude.{◌≡◌, ◌↔◌, ℕ, List, Result, take};
+ghost use Rattle.itpg_base.specs.declared.text_code.TextCode.{TextCode};
+ghost use Rattle.edit_reader.specs.Readings.{Reading};
+ghost use Rattle.edit_reader.specs.Lines.{LineOf};
+
+/// Each line is exactly one thing: it asks for something, or has a first fault.
+pub fn law_of_lines()
+    ensures some { (line : List ℕ) → (result : Result Reading TextCode) × LineOf line result }
+    ensures one { (line : List ℕ) (a b : Result Reading TextCode) → LineOf line a → LineOf line b → a ≡ b }
+{}
+
+/// A line is what its first 65,538 bytes are: of a longer one no more need be kept.
+pub fn law_of_long_lines()
+    ensures { (line : List ℕ) (result : Result Reading TextCode) → LineOf (take 65538 line) result ↔ LineOf line result }
+{}
