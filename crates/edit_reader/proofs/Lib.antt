@@ -8,3 +8,4 @@ pub mod PartFaults
 pub mod Firsts
 pub mod Whole
 pub mod LongLines
+pub mod InRange

@@ -21,10 +21,10 @@ great_moment : (below_zero : Bool) (n : ℕ) → 1000000000000 < n → ¬ IsMome
 great_moment true n great m = absurd (omega (arith, ints, m.least))
 great_moment false n great m = absurd (omega (arith, ints, m.greatest))
 
-near_moment : (number : List ℕ) → is_near number ≡ true → IsMoment (number_value number)
+pub near_moment : (number : List ℕ) → is_near number ≡ true → IsMoment (number_value number)
 near_moment number e = small_moment (nat_eq (slice_index number 0) 45) (digits_value 10 (digits_of number)) (leb-true _ _ e)
 
-far_moment : (number : List ℕ) → is_near number ≡ false → ¬ IsMoment (number_value number)
+pub far_moment : (number : List ℕ) → is_near number ≡ false → ¬ IsMoment (number_value number)
 far_moment number e = great_moment (nat_eq (slice_index number 0) 45) (digits_value 10 (digits_of number)) (leb-false _ _ e)
 
 -- some number is too far, or none is

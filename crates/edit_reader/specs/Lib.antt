@@ -3,6 +3,7 @@ pub mod Commands
 pub mod Forms
 pub mod Faults
 pub mod Lines
+pub mod Moments
 pub mod Steps
 pub mod Telling
 pub mod Scans

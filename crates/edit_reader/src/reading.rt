@@ -1,9 +1,10 @@
 // Reading a line.
-ghost use Rattle.std.specs.Prelude.{◌≡◌, ℕ, List, None, Result, drop, slice_get};
+ghost use Rattle.std.specs.Prelude.{◌≡◌, ℕ, List, None, Result, IfOk, drop, slice_get};
 ghost use Rattle.itpg_base.specs.declared.text_code.TextCode.{TextCode};
-ghost use Rattle.edit_reader.specs.Readings.{Reading, told};
+ghost use Rattle.edit_reader.specs.Readings.{Reading, reading_of, told};
 ghost use Rattle.edit_reader.specs.Forms.{form, form_of, lexemes, before_query, parts_of, bytes_behind};
 ghost use Rattle.edit_reader.specs.Lines.{LineOf};
+ghost use Rattle.edit_reader.specs.Moments.{AsksOfMoments};
 ghost use Rattle.edit_reader.specs.Steps.{show_told, unwatch_told, tick_told, watch_told};
 ghost use Rattle.edit_reader.specs.Telling.{form_told};
 ghost use Rattle.edit_reader.specs.Answers.{Tells};
@@ -19,7 +20,16 @@ use itpg_base::TextCode;
 // How many bytes a line has at most, without one last CR.
 const MAX_LINE: usize = 65_536;
 
-/// What a script line asks for. The line is handed in without its LF; where it ends with a CR, this call drops that one byte.
+/// What a script line asks for. The line is handed in without its LF; where it ends with a CR, this call drops that one
+/// byte.
+///
+/// ```text
+///     live a 0 20            Edit: Live { id: a, from: 0, to: 20 }
+///     set a p 'in use' 0 9   Edit: Put { id: a, prop: p, value: in use, from: 0, to: 9 }
+///     watch w (x:Person)     Watch w, " (x:Person)"
+///     live a 0 - 9           fault Byte: the `-` stands directly before no digit
+///     show                   fault Text
+/// ```
 ///
 /// # Errors
 ///
@@ -37,6 +47,7 @@ const MAX_LINE: usize = 65_536;
 pub fn read_line(line: &[u8]) -> Result<Line<'_>, TextCode>
     ensures line { LineOf line.now (told result) }
     ensures only { (other : Result Reading TextCode) → LineOf line.now other → other ≡ told result }
+    ensures moments { IfOk result (λ line. AsksOfMoments (reading_of line)) }
 {
     let line = without_end(line);
     if line.len() > MAX_LINE {

@@ -5,6 +5,7 @@ use Rattle.edit_reader.specs.Readings.{told}
 use Rattle.edit_reader.specs.Faults.{without_end}
 use Rattle.edit_reader.specs.Lines.{TakenAs}
 use Rattle.edit_reader.proofs.Firsts.{long_line, taken_once}
+use Rattle.edit_reader.proofs.InRange.{told_moments}
 use Rattle.edit_reader.proofs.Whole.{fault_read, form_read}
 use Rattle.edit_reader.proofs.reading.read_line.Goals as goal
 
@@ -33,3 +34,6 @@ returns-clause-line c =
 
 pub returns-clause-only : goal.returns-clause-only
 returns-clause-only c = λ other is. taken_once (without_end c.args.line.now) other (told c.read_form.result) is (returns-clause-line c)
+
+pub returns-clause-moments : goal.returns-clause-moments
+returns-clause-moments c = told_moments (without_end c.args.line.now) c.read_form.result (returns-clause-line c)
