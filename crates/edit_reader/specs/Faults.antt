@@ -49,14 +49,19 @@ HasLongName (AQuote text ∷ rest) = (max_name < length text) ⊎ HasLongName re
 HasLongName (ANumber number ∷ rest) = HasLongName rest
 HasLongName (AMark mark ∷ rest) = HasLongName rest
 
--- the line, which is taken without its end, has this fault: it is too long; or, where it is neither blank nor a comment,
--- its tokens end at a bad byte; they are too many; a quoted text isn't closed, or the tokens are no form; a number of the
--- form is no moment; a word or a quoted text of the form is too long for a name
+-- the line, which is taken without its end, has this fault
 abbrev pub HasFault : List ℕ → TextCode → Type 0
+-- it has too many bytes
 HasFault line TextCode.Long = max_line < length line
+-- it is neither blank nor a comment, as for all that follow, and its tokens end at a bad byte
 HasFault line TextCode.Byte = OfTokens line (λ tokens end. end ≡ Some TextCode.Byte)
+-- there are too many tokens
 HasFault line TextCode.Tokens = OfTokens line (λ tokens end. max_tokens < length tokens)
+-- a quoted text isn't closed, or the tokens are no form
 HasFault line TextCode.Text = OfTokens line (λ tokens end. (end ≡ Some TextCode.Text) ⊎ (form_of line tokens ≡ None))
+-- a number of the form is no moment
 HasFault line TextCode.Number = OfTokens line (λ tokens end. HasFarNumber (parts_of tokens))
+-- a word or a quoted text of the form is too long for a name
 HasFault line TextCode.Name = OfTokens line (λ tokens end. HasLongName (parts_of tokens))
+-- the other codes are those of query texts
 HasFault line _ = ⊥

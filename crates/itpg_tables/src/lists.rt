@@ -1,6 +1,6 @@
 //! The table of lists of zones with their bands.
 
-use crate::lines::{Line, read_line};
+use crate::list_lines::{Line, read_line};
 use anyhow::Result;
 use band_normal::normal;
 use std::{fs, mem};

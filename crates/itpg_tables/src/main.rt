@@ -4,7 +4,7 @@
 //! call gives something else, and how many cases are alike.
 #![tactic(auto)]
 
-mod lines;
+mod list_lines;
 mod lists;
 mod script_lines;
 
