@@ -298,6 +298,17 @@ by_hand = [
     ([(1, "ask "), (65532, "a"), (1, "\r")], "ask 3 65536"),
     ([(1, "ask "), (65533, "a")], "fault long"),
     ([(70000, "x")], "fault long"),
+    # lines of whole scripts
+    ([(1, "# contacts"), (1, "\r")], "blank"),
+    ([(1, "live a 0 20"), (1, "\r")], "live a 0 20"),
+    ([(1, "graph g 0 1000000000001")], "fault number"),
+    ([(1, f"node {A65} T")], "fault name"),
+    ([(1, "node a"), (1, "\x01"), (1, " "), (1, "T")], "fault byte"),
+    ([(1, "ask MATCH x")], "ask 3 11"),
+    ([(1, "ask MATCH (x {risk = 'hi})")], "fault text"),
+    ([(1, "ask MATCH (x:Person {risk = 'high'})-/FWD/:meets/FWD/NEXT[0,12]/-(y:Person)")], "ask 3 75"),
+    ([(1, "ask"), (1, " "), (4096, "(")], "fault tokens"),
+    ([(1, "ask"), (1, " "), (4095, "(")], "ask 3 4099"),
     # two faults, of which the earlier counts
     ([(65537, "!")], "fault long"),
     ([(65536, "!")], "fault byte"),
