@@ -21,17 +21,17 @@ shorter_by_one line = by_end (nat_eq (slice_index line (length line - 1)) 13)
 too_long : (line : List ℕ) → max_line + 1 < length line → LineOf line (Err TextCode.Long)
 too_long line many = let short = shorter_by_one line in long_line (without_end line) (omega (arith, short))
 
-pub front_decides : (line : List ℕ) (result : Result Reading TextCode) → LineOf (take 65538 line) result ↔ LineOf line result
-front_decides line result = elim (cases_lt 65538 (length line)) [
+pub front_decides : (line : List ℕ) (n : ℕ) (result : Result Reading TextCode) → 65538 ≤ n → LineOf (take n line) result ↔ LineOf line result
+front_decides line n result enough = elim (cases_lt n (length line)) [
   | inl longer ↦
-      let kept = length-take-le 65538 line (omega arith) in
-      let front : LineOf (take 65538 line) (Err TextCode.Long) = too_long (take 65538 line) (omega (arith, kept)) in
+      let kept = length-take-le n line (omega arith) in
+      let front : LineOf (take n line) (Err TextCode.Long) = too_long (take n line) (omega (arith, kept)) in
       let whole : LineOf line (Err TextCode.Long) = too_long line (omega arith) in (
-        λ is. subst (LineOf line) (taken_once (without_end (take 65538 line)) (Err TextCode.Long) result front is) whole,
-        λ is. subst (LineOf (take 65538 line)) (taken_once (without_end line) (Err TextCode.Long) result whole is) front,
+        λ is. subst (LineOf line) (taken_once (without_end (take n line)) (Err TextCode.Long) result front is) whole,
+        λ is. subst (LineOf (take n line)) (taken_once (without_end line) (Err TextCode.Long) result whole is) front,
       )
   | inr fits ↦
-      let same : take 65538 line ≡ line = take_all 65538 line fits in (
+      let same : take n line ≡ line = take_all n line fits in (
         λ is. subst (λ (l : List ℕ). LineOf l result) same is,
         λ is. subst (λ (l : List ℕ). LineOf l result) (sym same) is,
       )

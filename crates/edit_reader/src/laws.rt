@@ -1,5 +1,5 @@
 //! The laws of lines.
-ghost use Rattle.std.specs.Prelude.{◌≡◌, ◌↔◌, ℕ, List, Result, Ok, take};
+ghost use Rattle.std.specs.Prelude.{◌≡◌, ◌≤◌, ◌↔◌, ℕ, List, Result, Ok, take};
 ghost use Rattle.itpg_base.specs.declared.text_code.TextCode.{TextCode};
 ghost use Rattle.edit_reader.specs.Readings.{Reading};
 ghost use Rattle.edit_reader.specs.Lines.{LineOf};
@@ -16,7 +16,7 @@ pub fn law_of_moments()
     ensures { (line : List ℕ) (reading : Reading) → LineOf line (Ok reading) → AsksOfMoments reading }
 {}
 
-/// A line is what its first 65,538 bytes are: of a longer one no more need be kept.
+/// A line is what its first 65,538 bytes are, or any longer front: of a longer line no more need be kept.
 pub fn law_of_long_lines()
-    ensures { (line : List ℕ) (result : Result Reading TextCode) → LineOf (take 65538 line) result ↔ LineOf line result }
+    ensures { (line : List ℕ) (n : ℕ) (result : Result Reading TextCode) → 65538 ≤ n → LineOf (take n line) result ↔ LineOf line result }
 {}
