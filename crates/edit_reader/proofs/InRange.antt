@@ -1,0 +1,70 @@
+-- The numbers of a line that has no fault are moments.
+use Rattle.std.proofs.Common.{◌≡◌, inl, inr, ℕ, List, [], ◌∷◌, Bool, true, false, Option, Some, None, Result, Ok, Err, refl, sym, subst}
+use Rattle.std.specs.Prelude.{IfOk, slice_get}
+use Rattle.std.specs.Option.{option_and_then, option_map_or}
+use Rattle.itpg_base.specs.Spans.{IsMoment}
+use Rattle.itpg_base.specs.declared.text_code.TextCode.{TextCode}
+use Rattle.script_lex.specs.Lexemes.{Lexeme, AWord, ANumber, AQuote}
+use Rattle.script_lex.specs.Lines.{Placed}
+use Rattle.script_lex.specs.Numbers.{number_value}
+use Rattle.edit_reader.specs.declared.command.Command.{Command}
+use Rattle.edit_reader.specs.declared.line.Line.{Line}
+use Rattle.edit_reader.specs.Readings.{Reading, reading_of, told}
+use Rattle.edit_reader.specs.Commands.{command_at}
+use Rattle.edit_reader.specs.Forms.{form, form_of, before_query, parts_of, lexemes, bytes_behind}
+use Rattle.edit_reader.specs.Faults.{HasFarNumber}
+use Rattle.edit_reader.specs.Lines.{ReadsAs, TakenAs}
+use Rattle.edit_reader.specs.Moments.{AsksOfMoments}
+use Rattle.edit_reader.specs.Steps.{is_near}
+use Rattle.edit_reader.proofs.PartFaults.{near_moment, far_moment}
+
+-- a number that isn't no moment is one
+moment_there : (number : List ℕ) → ¬ (¬ IsMoment (number_value number)) → IsMoment (number_value number)
+moment_there number some = by_test (is_near number) refl
+  where
+    by_test : (t : Bool) → is_near number ≡ t → IsMoment (number_value number)
+    by_test true e = near_moment number e
+    by_test false e = absurd (some (far_moment number e))
+
+-- two numbers behind parts that have none
+two_there : (a b : List ℕ) → ¬ HasFarNumber (ANumber a ∷ ANumber b ∷ []) → IsMoment (number_value a) × IsMoment (number_value b)
+two_there a b none = (moment_there a (λ far. none (inl far)), moment_there b (λ far. none (inr (inl far))))
+
+same_moments : {a b : Reading} → Some a ≡ Some b → AsksOfMoments a → AsksOfMoments b
+same_moments {a = a} {b = b} e moments = let same : a ≡ b = cc in subst AsksOfMoments same moments
+
+form_moments : (text : ℕ → List ℕ) (command : Command) (parts : List Lexeme) (reading : Reading) → form text command parts ≡ Some reading → ¬ HasFarNumber (before_query command parts) → AsksOfMoments reading
+form_moments text Command.Graph (AWord name ∷ ANumber a ∷ ANumber b ∷ []) reading e none = same_moments e (two_there a b none)
+form_moments text Command.Node (AWord id ∷ AWord label ∷ []) reading e none = same_moments e tt
+form_moments text Command.Edge (AWord id ∷ AWord label ∷ AWord source ∷ AWord target ∷ []) reading e none = same_moments e tt
+form_moments text Command.Live (AWord id ∷ ANumber a ∷ ANumber b ∷ []) reading e none = same_moments e (two_there a b none)
+form_moments text Command.Gone (AWord id ∷ ANumber a ∷ ANumber b ∷ []) reading e none = same_moments e (two_there a b none)
+form_moments text Command.Set (AWord id ∷ AWord prop ∷ AQuote value ∷ ANumber a ∷ ANumber b ∷ []) reading e none = same_moments e (two_there a b none)
+form_moments text Command.Unset (AWord id ∷ AWord prop ∷ ANumber a ∷ ANumber b ∷ []) reading e none = same_moments e (two_there a b none)
+form_moments text Command.Drop (AWord id ∷ []) reading e none = same_moments e tt
+form_moments text Command.Ask parts reading e none = same_moments e tt
+form_moments text Command.Watch (AWord name ∷ rest) reading e none = same_moments e tt
+form_moments text Command.Show (AWord name ∷ []) reading e none = same_moments e tt
+form_moments text Command.Unwatch (AWord name ∷ []) reading e none = same_moments e tt
+form_moments text Command.Tick [] reading e none = same_moments e tt
+form_moments text _ _ reading e none = absurd (let never : ⊥ = cc in never)
+
+tokens_moments : (line : List ℕ) (tokens : List Placed) (reading : Reading) → form_of line tokens ≡ Some reading → ¬ HasFarNumber (parts_of tokens) → AsksOfMoments reading
+tokens_moments line [] reading e none = absurd (let never : ⊥ = cc in never)
+tokens_moments line (t ∷ ts) reading e none = by_command (command_at t.what) e none
+  where
+    by_command : (o : Option Command) → option_and_then (λ command. form (λ n. bytes_behind line (slice_get (t ∷ ts) n)) command (lexemes ts)) o ≡ Some reading → ¬ HasFarNumber (option_map_or (λ command. before_query command (lexemes ts)) o []) → AsksOfMoments reading
+    by_command (Some command) is good = form_moments (λ n. bytes_behind line (slice_get (t ∷ ts) n)) command (lexemes ts) reading is good
+    by_command None is good = absurd (let never : ⊥ = cc in never)
+
+pub taken_moments : (line : List ℕ) (reading : Reading) → TakenAs line (Ok reading) → AsksOfMoments reading
+taken_moments line reading taken = by_reading taken.1
+  where
+    by_reading : ReadsAs line reading → AsksOfMoments reading
+    by_reading (inl silent) = subst AsksOfMoments (sym silent.1) tt
+    by_reading (inr (loud, (tokens, (end, (are, is))))) = tokens_moments line tokens reading is (λ far. taken.0 TextCode.Number (loud, (tokens, (end, (are, far)))))
+
+-- the same of an answer of the code
+pub told_moments : (line : List ℕ) (answer : Result Line TextCode) → TakenAs line (told answer) → IfOk answer (λ asked. AsksOfMoments (reading_of asked))
+told_moments line (Ok asked) taken = taken_moments line (reading_of asked) taken
+told_moments line (Err code) taken = tt

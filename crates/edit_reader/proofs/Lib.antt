@@ -1,0 +1,11 @@
+pub mod Silence
+pub mod Counting
+pub mod Taking
+pub mod Stepping
+pub mod FormSteps
+pub mod Ordered
+pub mod PartFaults
+pub mod Firsts
+pub mod Whole
+pub mod LongLines
+pub mod InRange

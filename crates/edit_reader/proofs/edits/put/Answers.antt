@@ -1,0 +1,41 @@
+use Rattle.std.proofs.Common.{SFits, w64, to_z-of_z, rules, Ok, sym, ◌∙◌}
+use Rattle.std.proofs.lemmas.Result.{err_from_is_err_and}
+use Rattle.itpg_base.specs.Words.{Word}
+use Rattle.itpg_edit.specs.declared.edit.Edit.{Edit}
+use Rattle.edit_reader.specs.Readings.{Changes}
+use Rattle.edit_reader.specs.Steps.{name_then}
+use Rattle.edit_reader.proofs.FormSteps.{put_steps}
+use Rattle.edit_reader.proofs.edits.put.Goals as goal
+
+pub returns-in_err-id-2 : goal.returns-in_err-id-2
+returns-in_err-id-2 c = λ tokens are.
+    let p = err_from_is_err_and c.from_residual-in_err-id-2.result c.from_residual-in_err-id-2.ensures.1 in
+    let t = c.in_ok-id.ensures tokens are in
+    let u = c.in_ok-prop.ensures t.rest t.behind in
+    let v = c.in_ok-value.ensures u.rest u.behind in
+    rw (p.1, p.2) (sym (put_steps t u v c.in_ok-from.from c.in_ok-from.to (c.in_ok-from.ensures v.rest v.behind) ∙ c.in_err-id-2.ensures (λ (a : Word). name_then c.in_ok-prop.prop.now (λ b. name_then c.in_ok-value.value.now (λ v. Ok (Changes (Edit.Put a b v c.in_ok-from.from c.in_ok-from.to)))))))
+
+pub returns-in_err-prop-2 : goal.returns-in_err-prop-2
+returns-in_err-prop-2 c = λ tokens are.
+    let p = err_from_is_err_and c.from_residual-in_err-prop-2.result c.from_residual-in_err-prop-2.ensures.1 in
+    let t = c.in_ok-id.ensures tokens are in
+    let u = c.in_ok-prop.ensures t.rest t.behind in
+    let v = c.in_ok-value.ensures u.rest u.behind in
+    rw (p.1, p.2) (sym (put_steps t u v c.in_ok-from.from c.in_ok-from.to (c.in_ok-from.ensures v.rest v.behind) ∙ c.in_ok-id-2.ensures (λ (a : Word). name_then c.in_ok-prop.prop.now (λ b. name_then c.in_ok-value.value.now (λ v. Ok (Changes (Edit.Put a b v c.in_ok-from.from c.in_ok-from.to))))) ∙ c.in_err-prop-2.ensures (λ (b : Word). name_then c.in_ok-value.value.now (λ v. Ok (Changes (Edit.Put c.in_ok-id-2.id b v c.in_ok-from.from c.in_ok-from.to))))))
+
+pub returns-in_err-value-2 : goal.returns-in_err-value-2
+returns-in_err-value-2 c = λ tokens are.
+    let p = err_from_is_err_and c.from_residual-in_err-value-2.result c.from_residual-in_err-value-2.ensures.1 in
+    let t = c.in_ok-id.ensures tokens are in
+    let u = c.in_ok-prop.ensures t.rest t.behind in
+    let v = c.in_ok-value.ensures u.rest u.behind in
+    rw (p.1, p.2) (sym (put_steps t u v c.in_ok-from.from c.in_ok-from.to (c.in_ok-from.ensures v.rest v.behind) ∙ c.in_ok-id-2.ensures (λ (a : Word). name_then c.in_ok-prop.prop.now (λ b. name_then c.in_ok-value.value.now (λ v. Ok (Changes (Edit.Put a b v c.in_ok-from.from c.in_ok-from.to))))) ∙ c.in_ok-prop-2.ensures (λ (b : Word). name_then c.in_ok-value.value.now (λ v. Ok (Changes (Edit.Put c.in_ok-id-2.id b v c.in_ok-from.from c.in_ok-from.to)))) ∙ c.in_err-value-2.ensures (λ (v : Word). Ok (Changes (Edit.Put c.in_ok-id-2.id c.in_ok-prop-2.prop v c.in_ok-from.from c.in_ok-from.to)))))
+
+pub returns : goal.returns
+returns c = λ tokens are.
+    let t = c.in_ok-id.ensures tokens are in
+    let u = c.in_ok-prop.ensures t.rest t.behind in
+    let v = c.in_ok-value.ensures u.rest u.behind in
+    let from : SFits w64 c.in_ok-from.from = search rules in
+    let to : SFits w64 c.in_ok-from.to = search rules in
+    simp to_z-of_z (sym (put_steps t u v c.in_ok-from.from c.in_ok-from.to (c.in_ok-from.ensures v.rest v.behind) ∙ c.in_ok-id-2.ensures (λ (a : Word). name_then c.in_ok-prop.prop.now (λ b. name_then c.in_ok-value.value.now (λ v. Ok (Changes (Edit.Put a b v c.in_ok-from.from c.in_ok-from.to))))) ∙ c.in_ok-prop-2.ensures (λ (b : Word). name_then c.in_ok-value.value.now (λ v. Ok (Changes (Edit.Put c.in_ok-id-2.id b v c.in_ok-from.from c.in_ok-from.to)))) ∙ c.in_ok-value-2.ensures (λ (v : Word). Ok (Changes (Edit.Put c.in_ok-id-2.id c.in_ok-prop-2.prop v c.in_ok-from.from c.in_ok-from.to)))))

@@ -1,0 +1,38 @@
+-- The thirteen command words.
+use Rattle.std.specs.Prelude.{ℕ, nat_eq, List, [], ◌∷◌, codes, Option, None}
+use Rattle.std.specs.Cmp.Lexicographic.{pointwise}
+use Rattle.std.specs.List.{find}
+use Rattle.script_lex.specs.Lexemes.{Lexeme, AWord, ANumber, AQuote, AMark}
+use Rattle.edit_reader.specs.declared.command.Command.{Command}
+
+-- the word of each command, in lower case
+abbrev pub command_word : Command → List ℕ
+command_word Command.Graph = codes "graph"
+command_word Command.Node = codes "node"
+command_word Command.Edge = codes "edge"
+command_word Command.Live = codes "live"
+command_word Command.Gone = codes "gone"
+command_word Command.Set = codes "set"
+command_word Command.Unset = codes "unset"
+command_word Command.Drop = codes "drop"
+command_word Command.Ask = codes "ask"
+command_word Command.Watch = codes "watch"
+command_word Command.Show = codes "show"
+command_word Command.Unwatch = codes "unwatch"
+command_word Command.Tick = codes "tick"
+
+-- all commands
+abbrev pub commands : List Command
+commands =
+    Command.Graph ∷ Command.Node ∷ Command.Edge ∷ Command.Live ∷ Command.Gone ∷ Command.Set ∷ Command.Unset ∷ Command.Drop ∷ Command.Ask ∷ Command.Watch ∷ Command.Show ∷ Command.Unwatch ∷ Command.Tick ∷ []
+
+-- the command that has this word
+unfoldable pub command_of : List ℕ → Option Command
+command_of word = find (λ c. pointwise nat_eq (command_word c) word) commands
+
+-- the command that a token is, where it is one of these words
+abbrev pub command_at : Lexeme → Option Command
+command_at (AWord word) = command_of word
+command_at (ANumber number) = None
+command_at (AQuote text) = None
+command_at (AMark mark) = None

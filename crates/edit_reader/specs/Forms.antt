@@ -1,0 +1,54 @@
+-- The forms of a line.
+use Rattle.std.specs.Prelude.{ℕ, List, [], ◌∷◌, map, drop, take, Option, Some, None, slice_get}
+use Rattle.std.specs.Option.{option_and_then, option_map_or}
+use Rattle.itpg_edit.specs.declared.edit.Edit.{Edit}
+use Rattle.script_lex.specs.Lexemes.{Lexeme, AWord, ANumber, AQuote}
+use Rattle.script_lex.specs.Lines.{Placed}
+use Rattle.script_lex.specs.Numbers.{number_value}
+use Rattle.edit_reader.specs.declared.command.Command.{Command}
+use Rattle.edit_reader.specs.Readings.{Reading, Changes, Asks, Watches, Shows, Unwatches, Ticks}
+use Rattle.edit_reader.specs.Commands.{command_at}
+
+-- what stands behind each command word, token by token, and what the line then asks for; no other tokens are a form.
+-- `text n` is the text of the line behind the token with the number n, where the command word has the number 0
+abbrev pub form : (ℕ → List ℕ) → Command → List Lexeme → Option Reading
+form text Command.Graph (AWord name ∷ ANumber lo ∷ ANumber hi ∷ []) = Some (Changes (Edit.Begin name (number_value lo) (number_value hi)))
+form text Command.Node (AWord id ∷ AWord label ∷ []) = Some (Changes (Edit.AddNode id (label ∷ [])))
+form text Command.Edge (AWord id ∷ AWord label ∷ AWord source ∷ AWord target ∷ []) = Some (Changes (Edit.AddEdge id (label ∷ []) source target))
+form text Command.Live (AWord id ∷ ANumber from ∷ ANumber to ∷ []) = Some (Changes (Edit.Live id (number_value from) (number_value to)))
+form text Command.Gone (AWord id ∷ ANumber from ∷ ANumber to ∷ []) = Some (Changes (Edit.Gone id (number_value from) (number_value to)))
+form text Command.Set (AWord id ∷ AWord prop ∷ AQuote value ∷ ANumber from ∷ ANumber to ∷ []) =
+    Some (Changes (Edit.Put id prop value (number_value from) (number_value to)))
+form text Command.Unset (AWord id ∷ AWord prop ∷ ANumber from ∷ ANumber to ∷ []) = Some (Changes (Edit.Clear id prop (number_value from) (number_value to)))
+form text Command.Drop (AWord id ∷ []) = Some (Changes (Edit.Remove id))
+form text Command.Ask _ = Some (Asks (text 0))
+form text Command.Watch (AWord name ∷ _) = Some (Watches name (text 1))
+form text Command.Show (AWord name ∷ []) = Some (Shows name)
+form text Command.Unwatch (AWord name ∷ []) = Some (Unwatches name)
+form text Command.Tick [] = Some Ticks
+form text _ _ = None
+
+-- which tokens those are, without their places
+abbrev pub lexemes : List Placed → List Lexeme
+lexemes tokens = map (λ t. t.what) tokens
+
+-- the bytes of a line behind a token
+abbrev pub bytes_behind : List ℕ → Option Placed → List ℕ
+bytes_behind line (Some t) = drop t.to line
+bytes_behind line None = []
+
+-- what a line of these tokens asks for, where they are a form: a command word and what stands behind it
+abbrev pub form_of : List ℕ → List Placed → Option Reading
+form_of line [] = None
+form_of line (t ∷ ts) = option_and_then (λ command. form (λ n. bytes_behind line (slice_get (t ∷ ts) n)) command (lexemes ts)) (command_at t.what)
+
+-- those of the tokens behind a command word that are no part of a query text
+abbrev pub before_query : Command → List Lexeme → List Lexeme
+before_query Command.Ask parts = []
+before_query Command.Watch parts = take 1 parts
+before_query _ parts = parts
+
+-- the tokens of a line behind its command word, but without those of a query text
+abbrev pub parts_of : List Placed → List Lexeme
+parts_of [] = []
+parts_of (t ∷ ts) = option_map_or (λ command. before_query command (lexemes ts)) (command_at t.what) []

@@ -1,0 +1,11 @@
+pub mod Readings
+pub mod Commands
+pub mod Forms
+pub mod Faults
+pub mod Lines
+pub mod Moments
+pub mod Steps
+pub mod Telling
+pub mod Scans
+pub mod Taken
+pub mod Answers

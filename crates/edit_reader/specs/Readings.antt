@@ -1,0 +1,32 @@
+-- What a line asks for, as plain data.
+use Rattle.std.specs.Prelude.{ℕ, List, Result, Ok, Err}
+use Rattle.itpg_base.specs.Words.{Word}
+use Rattle.itpg_base.specs.declared.text_code.TextCode.{TextCode}
+use Rattle.itpg_edit.specs.declared.edit.Edit.{Edit}
+use Rattle.edit_reader.specs.declared.line.Line.{Line}
+
+-- nothing, a change of the graph, the answer to a query text, to watch a query text under a name, a watch's answer, to
+-- forget a watch, or the changes of all watches
+pub data Reading : Type 0 where
+  Nothing : Reading
+  Changes : Edit → Reading
+  Asks : List ℕ → Reading
+  Watches : Word → List ℕ → Reading
+  Shows : Word → Reading
+  Unwatches : Word → Reading
+  Ticks : Reading
+
+-- what a line of the code asks for
+abbrev pub reading_of : Line → Reading
+reading_of Line.Blank = Nothing
+reading_of (Line.Edit edit) = Changes edit
+reading_of (Line.Ask query) = Asks query.now
+reading_of (Line.Watch name query) = Watches name query.now
+reading_of (Line.Show name) = Shows name
+reading_of (Line.Unwatch name) = Unwatches name
+reading_of Line.Tick = Ticks
+
+-- the answer of the code as plain data: what the line asks for, or its fault
+abbrev pub told : Result Line TextCode → Result Reading TextCode
+told (Ok line) = Ok (reading_of line)
+told (Err code) = Err code

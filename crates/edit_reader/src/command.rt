@@ -1,0 +1,68 @@
+// The command words.
+ghost use Rattle.std.specs.Prelude.{◌≡◌};
+ghost use Rattle.edit_reader.specs.Commands.{command_word, command_of};
+
+#[derive(Clone, Copy)]
+pub(crate) enum Command {
+    Graph,
+    Node,
+    Edge,
+    Live,
+    Gone,
+    Set,
+    Unset,
+    Drop,
+    Ask,
+    Watch,
+    Show,
+    Unwatch,
+    Tick,
+}
+
+const COMMANDS: [Command; 13] = [
+    Command::Graph,
+    Command::Node,
+    Command::Edge,
+    Command::Live,
+    Command::Gone,
+    Command::Set,
+    Command::Unset,
+    Command::Drop,
+    Command::Ask,
+    Command::Watch,
+    Command::Show,
+    Command::Unwatch,
+    Command::Tick,
+];
+
+impl Command {
+    // The command that has this word.
+    pub(crate) fn of(word: &[u8]) -> Option<Command>
+        ensures { result ≡ command_of word.now }
+    {
+        COMMANDS
+            .iter()
+            .copied()
+            .find(|command| command.word() == word)
+    }
+
+    fn word(self) -> &'static [u8]
+        ensures { result.now ≡ command_word self }
+    {
+        match self {
+            Command::Graph => b"graph",
+            Command::Node => b"node",
+            Command::Edge => b"edge",
+            Command::Live => b"live",
+            Command::Gone => b"gone",
+            Command::Set => b"set",
+            Command::Unset => b"unset",
+            Command::Drop => b"drop",
+            Command::Ask => b"ask",
+            Command::Watch => b"watch",
+            Command::Show => b"show",
+            Command::Unwatch => b"unwatch",
+            Command::Tick => b"tick",
+        }
+    }
+}

@@ -1,0 +1,22 @@
+//! The laws of lines.
+ghost use Rattle.std.specs.Prelude.{◌≡◌, ◌≤◌, ◌↔◌, ℕ, List, Result, Ok, take};
+ghost use Rattle.itpg_base.specs.declared.text_code.TextCode.{TextCode};
+ghost use Rattle.edit_reader.specs.Readings.{Reading};
+ghost use Rattle.edit_reader.specs.Lines.{LineOf};
+ghost use Rattle.edit_reader.specs.Moments.{AsksOfMoments};
+
+/// Each line is exactly one thing: it asks for something, or has a first fault.
+pub fn law_of_lines()
+    ensures some { (line : List ℕ) → (result : Result Reading TextCode) × LineOf line result }
+    ensures one { (line : List ℕ) (a b : Result Reading TextCode) → LineOf line a → LineOf line b → a ≡ b }
+{}
+
+/// Where a line asks for a change, each of its numbers is a moment.
+pub fn law_of_moments()
+    ensures { (line : List ℕ) (reading : Reading) → LineOf line (Ok reading) → AsksOfMoments reading }
+{}
+
+/// A line is what its first 65,538 bytes are, or any longer front: of a longer line no more need be kept.
+pub fn law_of_long_lines()
+    ensures { (line : List ℕ) (n : ℕ) (result : Result Reading TextCode) → 65538 ≤ n → LineOf (take n line) result ↔ LineOf line result }
+{}

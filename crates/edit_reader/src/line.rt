@@ -1,0 +1,28 @@
+// What a line asks for.
+use itpg_base::Name;
+use itpg_edit::Edit;
+
+/// What a script line asks for. A query text is a part of the line.
+///
+/// ```text
+///     node a Person                    Edit: AddNode { id: a, labels: {Person} }
+///     ask MATCH (x:Person)             Ask:  " MATCH (x:Person)"
+///     watch w MATCH (x:Person)         Watch w, " MATCH (x:Person)"
+/// ```
+#[derive(Clone, Copy)]
+pub enum Line<'a> {
+    /// Nothing: the line is blank or a comment.
+    Blank,
+    /// A change of the graph.
+    Edit(Edit),
+    /// The answer to a query text: the bytes behind the word `ask`, up to the end of the line.
+    Ask(&'a [u8]),
+    /// To watch a query text under this name: the bytes behind the name, up to the end of the line.
+    Watch(Name, &'a [u8]),
+    /// The answer of the watch of this name.
+    Show(Name),
+    /// To forget the watch of this name.
+    Unwatch(Name),
+    /// The changes of all watches.
+    Tick,
+}

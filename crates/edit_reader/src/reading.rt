@@ -1,0 +1,129 @@
+// Reading a line.
+ghost use Rattle.std.specs.Prelude.{◌≡◌, ℕ, List, None, Result, IfOk, drop, slice_get};
+ghost use Rattle.itpg_base.specs.declared.text_code.TextCode.{TextCode};
+ghost use Rattle.edit_reader.specs.Readings.{Reading, reading_of, told};
+ghost use Rattle.edit_reader.specs.Forms.{form, form_of, lexemes, before_query, parts_of, bytes_behind};
+ghost use Rattle.edit_reader.specs.Lines.{LineOf};
+ghost use Rattle.edit_reader.specs.Moments.{AsksOfMoments};
+ghost use Rattle.edit_reader.specs.Steps.{show_told, unwatch_told, tick_told, watch_told};
+ghost use Rattle.edit_reader.specs.Telling.{form_told};
+ghost use Rattle.edit_reader.specs.Answers.{Tells};
+ghost use Rattle.edit_reader.specs.Taken.{OfRest};
+
+use crate::command::Command;
+use crate::edits::{begin, clear, edge, gone, live, node, put, remove};
+use crate::faults::{check_tokens, is_silent, without_end};
+use crate::line::Line;
+use crate::parts::{Parts, name};
+use itpg_base::TextCode;
+
+// How many bytes a line has at most, without one last CR.
+const MAX_LINE: usize = 65_536;
+
+/// What a script line asks for. The line is handed in without its LF; where it ends with a CR, this call drops that one
+/// byte.
+///
+/// ```text
+///     live a 0 20            Edit: Live { id: a, from: 0, to: 20 }
+///     set a p 'in use' 0 9   Edit: Put { id: a, prop: p, value: in use, from: 0, to: 9 }
+///     watch w (x:Person)     Watch w, " (x:Person)"
+///     live a 0 - 9           fault Byte: the `-` stands directly before no digit
+///     show                   fault Text
+/// ```
+///
+/// # Errors
+///
+/// The first of these that the line has, in this order:
+///
+/// - `Long`: more than 65,536 bytes, without the CR.
+/// - `Byte`: a byte with which no token begins, or that may not stand in a quoted text, wherever it stands.
+/// - `Tokens`: more than 4,096 tokens.
+/// - `Text`: a quoted text that isn't closed, or tokens that are none of the forms.
+/// - `Number`: a number of the form outside -10^12 to 10^12.
+/// - `Name`: a word or a quoted text of the form longer than 64 bytes.
+///
+/// A blank line or a comment has no fault but `Long`, and the bytes of a query text are looked at only as tokens: its
+/// numbers and words may have any size.
+pub fn read_line(line: &[u8]) -> Result<Line<'_>, TextCode>
+    ensures line { LineOf line.now (told result) }
+    ensures only { (other : Result Reading TextCode) → LineOf line.now other → other ≡ told result }
+    ensures moments { IfOk result (λ line. AsksOfMoments (reading_of line)) }
+{
+    let line = without_end(line);
+    if line.len() > MAX_LINE {
+        return Err(TextCode::Long);
+    }
+    if is_silent(line) {
+        return Ok(Line::Blank);
+    }
+    check_tokens(line)?;
+    read_form(line)
+}
+
+// What a line of good tokens asks for, where they are one of the forms.
+fn read_form(line: &[u8]) -> Result<Line<'_>, TextCode>
+    ensures { OfRest line.now 0 (λ tokens.
+        told result ≡ form_told (form_of line.now tokens) (parts_of tokens)) }
+{
+    let (word, parts) = Parts::new(line).word()?;
+    match Command::of(word) {
+        Some(command) => read_command(command, parts),
+        None => Err(TextCode::Text),
+    }
+}
+
+// What a line with this command word asks for, where what stands behind the word is a form.
+fn read_command(command: Command, parts: Parts<'_>) -> Result<Line<'_>, TextCode>
+    ensures { OfRest parts.entry.line.now parts.entry.at (λ tokens. (text : ℕ → List ℕ) →
+        text 0 ≡ drop parts.entry.at parts.entry.line.now →
+        text 1 ≡ bytes_behind parts.entry.line.now (slice_get tokens 0) →
+        told result ≡ form_told (form text command (lexemes tokens))
+        (before_query command (lexemes tokens))) }
+{
+    match command {
+        Command::Graph => begin(parts),
+        Command::Node => node(parts),
+        Command::Edge => edge(parts),
+        Command::Live => live(parts),
+        Command::Gone => gone(parts),
+        Command::Set => put(parts),
+        Command::Unset => clear(parts),
+        Command::Drop => remove(parts),
+        Command::Ask => Ok(Line::Ask(parts.text())),
+        Command::Watch => watch(parts),
+        Command::Show => show(parts),
+        Command::Unwatch => unwatch(parts),
+        Command::Tick => tick(parts),
+    }
+}
+
+// `NAME QUERY`
+fn watch(parts: Parts<'_>) -> Result<Line<'_>, TextCode>
+    ensures { OfRest parts.entry.line.now parts.entry.at (λ tokens. told result
+        ≡ watch_told (bytes_behind parts.entry.line.now (slice_get tokens 0)) (lexemes tokens)) }
+{
+    let (word, rest) = parts.word()?;
+    Ok(Line::Watch(name(word)?, rest.text()))
+}
+
+// `NAME`
+fn show(parts: Parts<'_>) -> Result<Line<'_>, TextCode>
+    ensures { Tells parts.entry.line.now parts.entry.at show_told result }
+{
+    Ok(Line::Show(parts.only_name()?))
+}
+
+// `NAME`
+fn unwatch(parts: Parts<'_>) -> Result<Line<'_>, TextCode>
+    ensures { Tells parts.entry.line.now parts.entry.at unwatch_told result }
+{
+    Ok(Line::Unwatch(parts.only_name()?))
+}
+
+// nothing
+fn tick(parts: Parts<'_>) -> Result<Line<'_>, TextCode>
+    ensures { Tells parts.entry.line.now parts.entry.at tick_told result }
+{
+    parts.end()?;
+    Ok(Line::Tick)
+}

@@ -1,0 +1,383 @@
+"""Script lines, and what each asks for or its first fault.
+
+Writes script_lines.txt. A case is the pieces of its line, then `is READING`. A piece is `text COUNT TEXT`, the text
+written COUNT times, or `byte COUNT NUMBER`, this byte COUNT times.
+
+    blank                          begin NAME LO HI                   ask FROM TO
+    fault CODE                     node ID LABEL                      watch NAME FROM TO
+    show NAME                      edge ID LABEL SOURCE TARGET        put ID PROP 'VALUE' FROM TO
+    unwatch NAME                   live ID FROM TO                    clear ID PROP FROM TO
+    tick                           gone ID FROM TO                    remove ID
+
+The two numbers of a query text are its first byte's place in the line and the place behind its last.
+
+Each case of `by_hand` stands beside its reading, worked out from the rules; the reader below is by regular expressions,
+and has to agree. The last cases are made up, and have their readings from it alone.
+"""
+import random
+import re
+
+TOKEN = re.compile(
+    rb"(?P<w>[A-Za-z][A-Za-z0-9_]*)|(?P<i>-?[0-9]+)|'(?P<q>[\x20-\x26\x28-\x7e]*)'"
+    rb"|(?P<m>-/|/-|>=|[(){}\[\]:,+*/?=<_])"
+)
+OPEN_QUOTE = re.compile(rb"'[\x20-\x26\x28-\x7e]*\Z")
+FORMS = {
+    b"graph": ("wii", "begin {} {} {}"),
+    b"node": ("ww", "node {} {}"),
+    b"edge": ("wwww", "edge {} {} {} {}"),
+    b"live": ("wii", "live {} {} {}"),
+    b"gone": ("wii", "gone {} {} {}"),
+    b"set": ("wwqii", "put {} {} '{}' {} {}"),
+    b"unset": ("wwii", "clear {} {} {} {}"),
+    b"drop": ("w", "remove {}"),
+    b"show": ("w", "show {}"),
+    b"unwatch": ("w", "unwatch {}"),
+    b"tick": ("", "tick"),
+}
+
+
+def value_of(number):
+    digits = int(number.lstrip(b"-").lstrip(b"0") or b"0")
+    return -digits if number.startswith(b"-") else digits
+
+
+def reading_of(line):
+    if line.endswith(b"\r"):
+        line = line[:-1]
+    if len(line) > 65536:
+        return "fault long"
+    if re.fullmatch(rb"[ \t]*(#.*)?", line, re.DOTALL):
+        return "blank"
+    tokens, at, fault = [], 0, None
+    while True:
+        at += len(re.match(rb"[ \t]*", line[at:]).group())
+        if at == len(line):
+            break
+        found = TOKEN.match(line, at)
+        if not found:
+            fault = "text" if OPEN_QUOTE.match(line, at) else "byte"
+            break
+        tokens.append((found.lastgroup, found.group(found.lastgroup), found.end()))
+        at = found.end()
+    if fault == "byte":
+        return "fault byte"
+    if len(tokens) > 4096:
+        return "fault tokens"
+    if fault == "text" or not tokens or tokens[0][0] != "w":
+        return "fault text"
+    command, parts = tokens[0][1], tokens[1:]
+    if command == b"ask":
+        return f"ask {tokens[0][2]} {len(line)}"
+    if command == b"watch":
+        if not parts or parts[0][0] != "w":
+            return "fault text"
+        if len(parts[0][1]) > 64:
+            return "fault name"
+        return f"watch {parts[0][1].decode()} {parts[0][2]} {len(line)}"
+    if command not in FORMS or "".join(kind for kind, _, _ in parts) != FORMS[command][0]:
+        return "fault text"
+    if any(kind == "i" and abs(value_of(text)) > 10**12 for kind, text, _ in parts):
+        return "fault number"
+    if any(kind != "i" and len(text) > 64 for kind, text, _ in parts):
+        return "fault name"
+    return FORMS[command][1].format(*[value_of(text) if kind == "i" else text.decode() for kind, text, _ in parts])
+
+
+A64, A65 = "a" * 64, "a" * 65
+MOST = 10**12
+
+by_hand = [
+    # blank lines and comments
+    ([], "blank"),
+    ([(3, " "), (2, "\t")], "blank"),
+    ([(1, "\r")], "blank"),
+    ([(1, " "), (1, "\r")], "blank"),
+    ([(2, "\r")], "fault byte"),
+    ([(1, "\r"), (1, " ")], "fault byte"),
+    ([(1, "\n")], "fault byte"),
+    ([(1, "#")], "blank"),
+    ([(1, " "), (1, "\t"), (1, "# live"), (1, "\x00"), (1, "'"), (1, "\xff")], "blank"),
+    ([(1, "# two"), (2, "\r")], "blank"),
+    ([(1, "tick # x")], "fault byte"),
+    # the thirteen forms
+    ([(1, "graph g -5 100")], "begin g -5 100"),
+    ([(1, "node a Person")], "node a Person"),
+    ([(1, "edge m meets a b")], "edge m meets a b"),
+    ([(1, "live a 0 20")], "live a 0 20"),
+    ([(1, "gone a 5 6")], "gone a 5 6"),
+    ([(1, "set a risk 'high' 0 9")], "put a risk 'high' 0 9"),
+    ([(1, "unset a risk 3 8")], "clear a risk 3 8"),
+    ([(1, "drop a")], "remove a"),
+    ([(1, "ask MATCH (x:Person)")], "ask 3 20"),
+    ([(1, "watch w MATCH (x:Person)")], "watch w 7 24"),
+    ([(1, "show w")], "show w"),
+    ([(1, "unwatch w")], "unwatch w"),
+    ([(1, "tick")], "tick"),
+    # each with a CR, and with blanks round its tokens
+    ([(1, "graph g 0 1"), (1, "\r")], "begin g 0 1"),
+    ([(1, "node a L"), (1, "\r")], "node a L"),
+    ([(1, "ask x"), (1, "\r")], "ask 3 5"),
+    ([(1, "watch w x"), (1, "\r")], "watch w 7 9"),
+    ([(1, "show w"), (1, "\r")], "show w"),
+    ([(1, "tick"), (1, "\r")], "tick"),
+    ([(1, "tick"), (2, "\r")], "fault byte"),
+    ([(1, "ask x"), (2, "\r")], "fault byte"),
+    ([(1, "tick"), (1, "\r"), (1, "x")], "fault byte"),
+    ([(2, " "), (1, "live"), (2, "\t"), (1, "a"), (1, " "), (1, "0  9"), (3, " ")], "live a 0 9"),
+    ([(2, " "), (1, "ask"), (2, " "), (1, "x"), (2, "\t")], "ask 5 10"),
+    ([(1, "\t"), (1, "watch  w"), (3, " ")], "watch w 9 12"),
+    # tokens that need no blank between them
+    ([(1, "set a p'v'0 9")], "put a p 'v' 0 9"),
+    ([(1, "set a p'v'-1-2")], "put a p 'v' -1 -2"),
+    ([(1, "live a-3-2")], "live a -3 -2"),
+    ([(1, "live a0 1")], "fault text"),
+    ([(1, "ask(x)")], "ask 3 6"),
+    ([(1, "watch w(x)")], "watch w 7 10"),
+    ([(1, "ask'x'")], "ask 3 6"),
+    ([(1, "ask")], "ask 3 3"),
+    ([(1, "ask"), (1, " ")], "ask 3 4"),
+    ([(1, "watch w")], "watch w 7 7"),
+    # command words as names, and words that are nearly commands
+    ([(1, "live live 0 9")], "live live 0 9"),
+    ([(1, "node node edge")], "node node edge"),
+    ([(1, "edge set unset drop tick")], "edge set unset drop tick"),
+    ([(1, "graph graph 0 0")], "begin graph 0 0"),
+    ([(1, "set set set 'set' 0 0")], "put set set 'set' 0 0"),
+    ([(1, "drop drop")], "remove drop"),
+    ([(1, "show show")], "show show"),
+    ([(1, "unwatch watch")], "unwatch watch"),
+    ([(1, "watch ask ask")], "watch ask 9 13"),
+    ([(1, "Tick")], "fault text"),
+    ([(1, "TICK")], "fault text"),
+    ([(1, "ticks")], "fault text"),
+    ([(1, "tic")], "fault text"),
+    ([(1, "unse a p 0 9")], "fault text"),
+    ([(1, "lives a 0 9")], "fault text"),
+    ([(1, "asks x")], "fault text"),
+    ([(1, "foo")], "fault text"),
+    ([(1, "7")], "fault text"),
+    ([(1, "'tick'")], "fault text"),
+    ([(1, "(tick)")], "fault text"),
+    ([(1, "_tick")], "fault text"),
+    # too few parts, too many, and parts of another kind
+    ([(1, "graph g 0")], "fault text"),
+    ([(1, "graph g 0 1 2")], "fault text"),
+    ([(1, "graph 0 1 g")], "fault text"),
+    ([(1, "graph 'g' 0 1")], "fault text"),
+    ([(1, "node a")], "fault text"),
+    ([(1, "node a b c")], "fault text"),
+    ([(1, "node a 'b'")], "fault text"),
+    ([(1, "edge m meets a")], "fault text"),
+    ([(1, "edge m meets a b c")], "fault text"),
+    ([(1, "live a 0")], "fault text"),
+    ([(1, "live a 0 9 9")], "fault text"),
+    ([(1, "live a b 0 9")], "fault text"),
+    ([(1, "gone a")], "fault text"),
+    ([(1, "set a p v 0 9")], "fault text"),
+    ([(1, "set a p 'v' 0")], "fault text"),
+    ([(1, "set a p 'v' 0 9 9")], "fault text"),
+    ([(1, "set a 'v' 0 9")], "fault text"),
+    ([(1, "unset a p 'v' 0 9")], "fault text"),
+    ([(1, "unset a 0 9")], "fault text"),
+    ([(1, "drop")], "fault text"),
+    ([(1, "drop a b")], "fault text"),
+    ([(1, "watch")], "fault text"),
+    ([(1, "watch 'w' x")], "fault text"),
+    ([(1, "watch 7 x")], "fault text"),
+    ([(1, "watch(w)")], "fault text"),
+    ([(1, "show")], "fault text"),
+    ([(1, "show a b")], "fault text"),
+    ([(1, "show 7")], "fault text"),
+    ([(1, "unwatch")], "fault text"),
+    ([(1, "unwatch a b")], "fault text"),
+    ([(1, "tick 1")], "fault text"),
+    ([(1, "tick tick")], "fault text"),
+    # bad bytes and open quotes
+    ([(1, "live a 0 - 9")], "fault byte"),
+    ([(1, "live a 0 -")], "fault byte"),
+    ([(1, "ask a-b")], "fault byte"),
+    ([(1, "ask a>b")], "fault byte"),
+    ([(1, "ask a>=b")], "ask 3 8"),
+    ([(1, "ask x;")], "fault byte"),
+    ([(1, "ask "), (1, "\xe9")], "fault byte"),
+    ([(1, "ask "), (1, "\x00")], "fault byte"),
+    ([(1, "ask x"), (1, "\x7f")], "fault byte"),
+    ([(1, "ask 'a"), (1, "\t"), (1, "b'")], "fault byte"),
+    ([(1, "ask 'a"), (1, "\x7f"), (1, "b'")], "fault byte"),
+    ([(1, "ask 'a"), (1, "\x80"), (1, "b")], "fault byte"),
+    ([(1, "ask 'a"), (1, "\r"), (1, "b'")], "fault byte"),
+    ([(1, "ask 'a"), (1, "\r")], "fault text"),
+    ([(1, "ask 'a"), (2, "\r")], "fault byte"),
+    ([(1, "ask x 'open")], "fault text"),
+    ([(1, "ask x '")], "fault text"),
+    ([(1, "watch w 'open")], "fault text"),
+    ([(1, "set a p 'v 0 9")], "fault text"),
+    ([(1, "set a p '' 0 9")], "put a p '' 0 9"),
+    ([(1, "set a p 'in use # (~' 0 9")], "put a p 'in use # (~' 0 9"),
+    ([(1, "set a p 'it''s' 0 9")], "fault text"),
+    ([(1, "tick '")], "fault text"),
+    ([(1, "'")], "fault text"),
+    # numbers
+    ([(1, f"live a -{MOST} {MOST}")], f"live a -{MOST} {MOST}"),
+    ([(1, f"live a 0 {MOST + 1}")], "fault number"),
+    ([(1, f"live a -{MOST + 1} 0")], "fault number"),
+    ([(1, f"graph g {MOST + 1} {MOST + 1}")], "fault number"),
+    ([(1, f"gone a 0 {MOST + 1}")], "fault number"),
+    ([(1, f"set a p 'v' 0 {MOST + 1}")], "fault number"),
+    ([(1, f"set a p 'v' -{MOST + 1} 0")], "fault number"),
+    ([(1, f"unset a p 0 {MOST + 1}")], "fault number"),
+    ([(1, f"unset a p {MOST} -{MOST}")], f"clear a p {MOST} -{MOST}"),
+    ([(1, "live a 0 18446744073709551616")], "fault number"),
+    ([(1, "live a 0 "), (400, "9")], "fault number"),
+    ([(1, "live a -0 0")], "live a 0 0"),
+    ([(1, "live a 007 -0010")], "live a 7 -10"),
+    ([(1, "live a 0 "), (65000, "0"), (1, "7")], "live a 0 7"),
+    ([(1, "live a 0 "), (60, "0"), (1, f"{MOST}")], f"live a 0 {MOST}"),
+    ([(1, "live a 0 "), (60, "0"), (1, f"{MOST + 1}")], "fault number"),
+    ([(1, "live a 9 0")], "live a 9 0"),
+    # names and values
+    ([(1, f"node {A64} L")], f"node {A64} L"),
+    ([(1, f"node {A65} L")], "fault name"),
+    ([(1, f"node a {A64}")], f"node a {A64}"),
+    ([(1, f"node a {A65}")], "fault name"),
+    ([(1, f"graph {A64} 0 1")], f"begin {A64} 0 1"),
+    ([(1, f"graph {A65} 0 1")], "fault name"),
+    ([(1, f"edge {A64} {A64} {A64} {A64}")], f"edge {A64} {A64} {A64} {A64}"),
+    ([(1, f"edge {A65} b c d")], "fault name"),
+    ([(1, f"edge a {A65} c d")], "fault name"),
+    ([(1, f"edge a b {A65} d")], "fault name"),
+    ([(1, f"edge a b c {A65}")], "fault name"),
+    ([(1, f"live {A64} 0 1")], f"live {A64} 0 1"),
+    ([(1, f"live {A65} 0 1")], "fault name"),
+    ([(1, f"gone {A65} 0 1")], "fault name"),
+    ([(1, f"set {A64} {A64} '{A64}' 0 1")], f"put {A64} {A64} '{A64}' 0 1"),
+    ([(1, f"set {A65} p 'v' 0 1")], "fault name"),
+    ([(1, f"set a {A65} 'v' 0 1")], "fault name"),
+    ([(1, f"set a p '{A65}' 0 1")], "fault name"),
+    ([(1, f"unset {A65} p 0 1")], "fault name"),
+    ([(1, f"unset a {A65} 0 1")], "fault name"),
+    ([(1, f"drop {A64}")], f"remove {A64}"),
+    ([(1, f"drop {A65}")], "fault name"),
+    ([(1, f"show {A64}")], f"show {A64}"),
+    ([(1, f"show {A65}")], "fault name"),
+    ([(1, f"unwatch {A64}")], f"unwatch {A64}"),
+    ([(1, f"unwatch {A65}")], "fault name"),
+    ([(1, f"watch {A64} x")], f"watch {A64} 70 72"),
+    ([(1, f"watch {A65} x")], "fault name"),
+    ([(1, "show "), (60000, "a")], "fault name"),
+    # what a query text may have
+    ([(1, f"ask {A65} '{A65}' {MOST + 1}")], f"ask 3 {3 + 66 + 68 + 14}"),
+    ([(1, f"watch w {A65} {MOST + 1}")], f"watch w 7 {7 + 66 + 14}"),
+    ([(1, "ask )]} ((")], "ask 3 10"),
+    # how many tokens
+    ([(1, "ask"), (4095, "(")], "ask 3 4098"),
+    ([(1, "ask"), (4096, "(")], "fault tokens"),
+    ([(1, "watch w"), (4094, "(")], "watch w 7 4101"),
+    ([(1, "watch w"), (4095, "(")], "fault tokens"),
+    ([(1, "ask"), (4095, "(-")], "fault byte"),
+    ([(1, "ask "), (16000, "a-/")], "fault tokens"),
+    ([(1, "ask "), (65000, "a")], "ask 3 65004"),
+    # how many bytes
+    ([(1, "#"), (65535, "x")], "blank"),
+    ([(1, "#"), (65535, "x"), (1, "\r")], "blank"),
+    ([(1, "#"), (65536, "x")], "fault long"),
+    ([(1, "#"), (65536, "x"), (1, "\r")], "fault long"),
+    ([(1, "#"), (65534, "x"), (2, "\r")], "blank"),
+    ([(1, "#"), (65535, "x"), (2, "\r")], "fault long"),
+    ([(65536, " ")], "blank"),
+    ([(65536, " "), (1, "\r")], "blank"),
+    ([(65537, " ")], "fault long"),
+    ([(1, "tick"), (65532, " ")], "tick"),
+    ([(1, "tick"), (65532, " "), (1, "\r")], "tick"),
+    ([(1, "tick"), (65533, " ")], "fault long"),
+    ([(1, "tick"), (65532, " "), (1, "\r"), (1, "x")], "fault long"),
+    ([(1, "tick"), (65531, " "), (1, "\r"), (1, " ")], "fault long"),
+    ([(1, "tick"), (65530, " "), (1, "\r"), (1, " ")], "fault byte"),
+    ([(1, "ask "), (65532, "a")], "ask 3 65536"),
+    ([(1, "ask "), (65532, "a"), (1, "\r")], "ask 3 65536"),
+    ([(1, "ask "), (65533, "a")], "fault long"),
+    ([(70000, "x")], "fault long"),
+    # lines of whole scripts
+    ([(1, "# contacts"), (1, "\r")], "blank"),
+    ([(1, "live a 0 20"), (1, "\r")], "live a 0 20"),
+    ([(1, "graph g 0 1000000000001")], "fault number"),
+    ([(1, f"node {A65} T")], "fault name"),
+    ([(1, "node a"), (1, "\x01"), (1, " "), (1, "T")], "fault byte"),
+    ([(1, "ask MATCH x")], "ask 3 11"),
+    ([(1, "ask MATCH (x {risk = 'hi})")], "fault text"),
+    ([(1, "ask MATCH (x:Person {risk = 'high'})-/FWD/:meets/FWD/NEXT[0,12]/-(y:Person)")], "ask 3 75"),
+    ([(1, "ask"), (1, " "), (4096, "(")], "fault tokens"),
+    ([(1, "ask"), (1, " "), (4095, "(")], "ask 3 4099"),
+    # two faults, of which the earlier counts
+    ([(65537, "!")], "fault long"),
+    ([(65536, "!")], "fault byte"),
+    ([(1, "# !")], "blank"),
+    ([(4097, "("), (1, "!")], "fault byte"),
+    ([(1, "ask"), (4096, "("), (1, "- ")], "fault byte"),
+    ([(1, "ask"), (4096, "("), (1, "'a"), (1, "\x01")], "fault byte"),
+    ([(1, "ask !"), (4096, "(")], "fault byte"),
+    ([(1, "foo !")], "fault byte"),
+    ([(1, "! 'open")], "fault byte"),
+    ([(4097, "(")], "fault tokens"),
+    ([(4096, "(")], "fault text"),
+    ([(4097, "("), (1, "'open")], "fault tokens"),
+    ([(1, "ask"), (4096, "("), (1, "'open")], "fault tokens"),
+    ([(1, "ask"), (4095, "("), (1, "'open")], "fault text"),
+    ([(1, f"live a 0 {MOST + 1} 9")], "fault text"),
+    ([(1, f"foo {MOST + 1}")], "fault text"),
+    ([(1, f"set a p 'v' {MOST + 1} 'open")], "fault text"),
+    ([(1, f"{A65} x")], "fault text"),
+    ([(1, f"show {A65} x")], "fault text"),
+    ([(1, f"watch {A65} 'open")], "fault text"),
+    ([(1, f"live {A65} 0 {MOST + 1}")], "fault number"),
+    ([(1, f"set a p '{A65}' {MOST + 1} 0")], "fault number"),
+    ([(1, f"graph {A65} -{MOST + 1} 0")], "fault number"),
+    ([(1, f"live {A65} 0 - 9")], "fault byte"),
+]
+
+
+def made_up(rng):
+    word = lambda: rng.choice(["a", "b1", "x_y", "live", "ask", "tick", "A", A64, A65, "e" * rng.randint(60, 70)])
+    number = lambda: rng.choice(["0", "-0", "7", "-12", "0042", str(MOST), str(MOST + 1), f"-{MOST}", f"-{MOST + 1}"])
+    quoted = lambda: rng.choice(["''", "'v'", "'in use'", f"'{A64}'", f"'{A65}'", "'v"])
+    other = lambda: rng.choice(["(", ")", ":", "/-", "-/", "-", ">=", ">", "_", "!", "#", "\t", "\r", "\x1f", "\xc3"])
+    kinds = {"w": word, "i": number, "q": quoted}
+    command = rng.choice(sorted(FORMS)).decode()
+    parts = [kinds[kind]() for kind in FORMS[command.encode()][0]]
+    if rng.random() < 0.25:
+        command, parts = rng.choice(["ask", "watch", "watch w", "graph g"]), [rng.choice([word, number, quoted, other])() for _ in range(rng.randint(0, 5))]
+    for _ in range(rng.choice([0, 0, 0, 1, 1, 2])):
+        at = rng.randint(0, len(parts))
+        change = rng.randint(0, 2)
+        if change == 0:
+            parts.insert(at, rng.choice([word, number, quoted, other])())
+        elif parts and change == 1:
+            parts.pop(at % len(parts))
+        elif parts:
+            parts[at % len(parts)] = rng.choice([word, number, quoted, other])()
+    blank = rng.choice([" ", " ", " ", "  ", "\t"])
+    line = blank.join([command] + parts) + rng.choice(["", "", "", "\r", "\r\r", " "])
+    return [(1, piece) for piece in re.findall(r"[!-~](?:[ -~]*[!-~])?|[^!-~]", line)]
+
+
+def main():
+    rng = random.Random(12)
+    cases = list(by_hand)
+    for _ in range(300):
+        pieces = made_up(rng)
+        line = "".join(text * count for count, text in pieces).encode("latin-1")
+        cases.append((pieces, reading_of(line)))
+    with open("script_lines.txt", "w") as out:
+        for pieces, reading in cases:
+            line = "".join(text * count for count, text in pieces).encode("latin-1")
+            assert reading_of(line) == reading, (line[:100], reading_of(line), reading)
+            for count, text in pieces:
+                for part in re.findall(r"[!-~](?:[ -~]*[!-~])?|[^!-~]", text):
+                    assert count == 1 or len(re.findall(r"[!-~](?:[ -~]*[!-~])?|[^!-~]", text)) == 1
+                    kind = f"text {count} {part}" if "!" <= part[0] <= "~" else f"byte {count} {ord(part)}"
+                    print(kind, file=out)
+            print("is", reading, file=out)
+
+
+main()

@@ -1,0 +1,34 @@
+//! The table of lists of zones with their bands.
+
+use crate::list_lines::{Line, read_line};
+use anyhow::Result;
+use band_normal::normal;
+use std::{fs, mem};
+
+/// Gives each list of the table to `normal`, prints those at which it gives other bands, and how many are alike.
+pub fn compare(rt: &HostRuntime) -> Result<()> {
+    let text = fs::read_to_string(rt, "lists.txt")?;
+    let mut zones = Vec::new(rt.alloc());
+    let mut bands = Vec::new(rt.alloc());
+    let mut lists = 0u32;
+    let mut alike = 0u32;
+    for line in text.as_str().lines() {
+        match read_line(line)? {
+            Line::Zone(zone) => zones.push(zone)?,
+            Line::Nothing => {}
+            Line::Band(band) => bands.push(band)?,
+            Line::End => {
+                let rows = normal(rt.alloc(), mem::replace(&mut zones, Vec::new(rt.alloc())))?;
+                lists = lists.saturating_add(1);
+                if rows.as_slice() == bands.as_slice() {
+                    alike = alike.saturating_add(1);
+                } else {
+                    println!(rt; "list {lists}: {rows:?} for {bands:?}")?;
+                }
+                bands.clear();
+            }
+        }
+    }
+    println!(rt; "{alike} of {lists} lists alike")?;
+    Ok(())
+}
