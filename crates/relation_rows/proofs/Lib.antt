@@ -1,3 +1,15 @@
 pub mod Listed
 pub mod Alike
 pub mod Exists
+pub mod Partitions
+pub mod Objects
+pub mod Equal
+pub mod Keys
+pub mod Pushing
+pub mod Gathering
+pub mod Keeping
+pub mod Having
+pub mod Identity
+pub mod Uniting
+pub mod Giving
+pub mod Sorting

@@ -3,6 +3,7 @@ use Rattle.std.proofs.Common.{◌≡◌, ◌⊎◌, inl, inr, ⊎_elim, ℕ, zer
 use Rattle.std.proofs.lemmas.Bool.Decides.{eqb_tells}
 use Rattle.itpg_base.specs.declared.object_number.ObjNo.{ObjNo}
 use Rattle.itpg_base.specs.Points.{Point, Relation}
+use Rattle.itpg_base.proofs.Searches.{at_most}
 use Rattle.band_normal.specs.declared.band.Band.{Band}
 use Rattle.band_normal.specs.Lists.{Among, Ordered}
 use Rattle.band_normal.specs.Bands.{InBand}
@@ -29,17 +30,33 @@ ordered_fewer {X} Before apart (x ∷ xs) (y ∷ ys) ox oy f = ⊎_elim
     (f x (inl refl))
 
 -- the order of rows
-key_apart : (o p q r : ℕ) → KeyBefore o p q r → (o ≡ q) → (p ≡ r) → ⊥
+pub key_apart : (o p q r : ℕ) → KeyBefore o p q r → (o ≡ q) → (p ≡ r) → ⊥
 key_apart o p q r (inl l) e f = omega arith
 key_apart o p q r (inr (g, l)) e f = omega arith
 
-keys_apart : (o p q r : ℕ) → KeyBefore o p q r → KeyBefore q r o p → ⊥
+pub keys_apart : (o p q r : ℕ) → KeyBefore o p q r → KeyBefore q r o p → ⊥
 keys_apart o p q r (inl l) (inl m) = omega arith
 keys_apart o p q r (inl l) (inr (f, m)) = omega arith
 keys_apart o p q r (inr (e, l)) (inl m) = omega arith
 keys_apart o p q r (inr (e, l)) (inr (f, m)) = omega arith
 
-row_apart : (r s : Row) → RowBefore r s → RowBefore s r → ⊥
+-- of two keys, one comes first or they are one
+pub key_either : (o p q r : ℕ) → KeyBefore o p q r ⊎ (KeyBefore q r o p ⊎ ((o ≡ q) × (p ≡ r)))
+key_either o p q r = elim (eqb_tells o q) [
+  | inl e ↦ elim (eqb_tells p r) [
+    | inl f ↦ inr (inr (e.1, f.1))
+    | inr f ↦ elim (at_most p r) [
+      | inl le ↦ inl (inr (e.1, (let ne = f.1 in omega arith)))
+      | inr gt ↦ inr (inl (inr (sym e.1, omega (arith, gt))))
+    ]
+  ]
+  | inr e ↦ elim (at_most o q) [
+    | inl le ↦ inl (inl (let ne = e.1 in omega arith))
+    | inr gt ↦ inr (inl (inl (omega (arith, gt))))
+  ]
+]
+
+pub row_apart : (r s : Row) → RowBefore r s → RowBefore s r → ⊥
 row_apart r s (inl a) (inl b) = keys_apart _ _ _ _ a b
 row_apart r s (inl a) (inr b) = key_apart _ _ _ _ a (sym b.0) (sym b.1)
 row_apart r s (inr a) (inl b) = key_apart _ _ _ _ b (sym a.0) (sym a.1)
@@ -61,7 +78,7 @@ abbrev bands_at : ℕ → ℕ → List Row → List Band
 bands_at o p [] = []
 bands_at o p (r ∷ rs) = put (eqb r.source.0 o && eqb r.target.0 p) r.band (bands_at o p rs)
 
-key_tells : (a b o p : ℕ) → ((eqb a o && eqb b p) ≡ true) × (a ≡ o) × (b ≡ p) ⊎ ((eqb a o && eqb b p) ≡ false) × ((a ≡ o) → (b ≡ p) → ⊥)
+pub key_tells : (a b o p : ℕ) → ((eqb a o && eqb b p) ≡ true) × (a ≡ o) × (b ≡ p) ⊎ ((eqb a o && eqb b p) ≡ false) × ((a ≡ o) → (b ≡ p) → ⊥)
 key_tells a b o p = elim (eqb_tells a o) [
   | inl e ↦ elim (eqb_tells b p) [
     | inl f ↦ inl (ap (λ (v : Bool). v && eqb b p) e.0 ∙ f.0, e.1, f.1)
@@ -190,7 +207,7 @@ module _ (R : Relation) where
       cross : (r s : Row) (x y : Point) → Among xs r → Among ys s → InRow r x y → InRow s x y → ⊥
       cross r s x y a b m n = key_apart _ _ _ _ (before _ _ _ _ (lx.keys r a) (ly.keys s b)) (m.source ∙ sym n.source) (m.target ∙ sym n.target)
 
-  at_among : (o p : ℕ) (bs : List Band) (r : Row) → Among (rows_at o p bs) r → (r.source.0 ≡ o) × (r.target.0 ≡ p) × Among bs r.band
+  pub at_among : (o p : ℕ) (bs : List Band) (r : Row) → Among (rows_at o p bs) r → (r.source.0 ≡ o) × (r.target.0 ≡ p) × Among bs r.band
   at_among o p [] r h = absurd h
   at_among o p (b ∷ bs) r (inl e) = (sym (ap (λ (v : Row). v.source.0) e), sym (ap (λ (v : Row). v.target.0) e), inl (ap (λ (v : Row). v.band) e))
   at_among o p (b ∷ bs) r (inr h) = let a = at_among o p bs r h in (a.0, a.1, inr a.2)
@@ -218,6 +235,22 @@ module _ (R : Relation) where
         subst (λ (v : ℕ). IsRow (between R v r.target.0) r.band) (sym a.0) (subst (λ (v : ℕ). IsRow (between R o v) r.band) (sym a.1) (n.each r.band a.2));
     order = at_ordered o p bs n.order;
   }
+
+  -- rows of one key behind those of keys before it, where no pair lies between
+  pub with_key : (K L : ℕ → ℕ → Type 0) (o p : ℕ) (rows : List Row) (bs : List Band) → Listed K rows → Normal (between R o p) bs
+      → ((q r : ℕ) → K q r → KeyBefore q r o p) → ((q r : ℕ) → K q r → L q r) → L o p
+      → ((x y : Point) → R x y → L x.object y.object → K x.object y.object ⊎ ((x.object ≡ o) × (y.object ≡ p)))
+      → Listed L (rows ++ rows_at o p bs)
+  with_key K L o p rows bs l n before more here done =
+      let j = join K (λ q r. (q ≡ o) × (r ≡ p)) rows (rows_at o p bs) l (one_key o p bs n)
+      (λ q r s t k e. subst (λ (v : ℕ). KeyBefore q r v t) (sym e.0) (subst (λ (v : ℕ). KeyBefore q r o v) (sym e.1) (before q r k))) in
+      record {
+        whole = λ x y k h. j.whole x y (done x y h k) h;
+        keys = λ r i. ⊎_elim (λ k. more _ _ k) (λ e. subst (λ (v : ℕ). L v r.target.0) (sym e.0) (subst (λ (v : ℕ). L o v) (sym e.1) here)) (j.keys r i);
+        once = j.once;
+        each = j.each;
+        order = j.order;
+      }
 
   -- the rows of all keys below n
   module _ (each : (o p : ℕ) → (bs : List Band) × Normal (between R o p) bs) where

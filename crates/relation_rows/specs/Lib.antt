@@ -1,3 +1,5 @@
 pub mod Rows
 pub mod Answers
 pub mod Relations
+pub mod Gathering
+pub mod Searching

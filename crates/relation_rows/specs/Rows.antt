@@ -22,6 +22,10 @@ pub record InRow (r : Row) (x y : Point) : Type 0 where
 abbrev pub RowsHold : List Row → Relation
 RowsHold rows x y = (r : Row) × Among rows r × InRow r x y
 
+-- the row leads from the one object to the other
+abbrev pub HasKey : Row → ℕ → ℕ → Type 0
+HasKey r o p = (r.source.0 ≡ o) × (r.target.0 ≡ p)
+
 -- by source, then by target
 abbrev pub KeyBefore : ℕ → ℕ → ℕ → ℕ → Type 0
 KeyBefore o p q r = (o < q) ⊎ ((o ≡ q) × (p < r))

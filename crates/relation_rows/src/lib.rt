@@ -6,7 +6,11 @@
 //! [`RelFault::Wide`] exactly where these rows are more than the limit.
 #![tactic(auto)]
 
+mod gather;
 pub mod laws;
+pub mod relations;
 pub mod rows;
+mod search;
 
+pub use relations::Relation;
 pub use rows::{RelFault, Row};
