@@ -11,5 +11,10 @@ pub mod Keeping
 pub mod Having
 pub mod Identity
 pub mod Uniting
+pub mod Sources
+pub mod Departing
+pub mod Stops
+pub mod Going
+pub mod Composing
 pub mod Giving
 pub mod Sorting

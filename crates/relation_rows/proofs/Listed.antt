@@ -236,6 +236,10 @@ module _ (R : Relation) where
     order = at_ordered o p bs n.order;
   }
 
+  -- the same rows go further where no pair lies between
+  pub goes_further : (K L : ℕ → ℕ → Type 0) (rows : List Row) → Listed K rows → ((q r : ℕ) → K q r → L q r) → ((x y : Point) → R x y → L x.object y.object → K x.object y.object) → Listed L rows
+  goes_further K L rows l more done = record { whole = λ x y k h. l.whole x y (done x y h k) h; keys = λ r i. more _ _ (l.keys r i); once = l.once; each = l.each; order = l.order }
+
   -- rows of one key behind those of keys before it, where no pair lies between
   pub with_key : (K L : ℕ → ℕ → Type 0) (o p : ℕ) (rows : List Row) (bs : List Band) → Listed K rows → Normal (between R o p) bs
       → ((q r : ℕ) → K q r → KeyBefore q r o p) → ((q r : ℕ) → K q r → L q r) → L o p

@@ -26,7 +26,7 @@ one_band o p first now next bs k b l e f =
     ∙ ap (λ (v : List Row). first ++ v) (sym (rows_append o p (take k bs) (slice_index_or bs k b)) ∙ ap (rows_at o p) (sym (take_more bs k b l)))
 
 -- a list that has one more relation behind it holds more
-items_more : (items next : List Item) (i : Item) → next ≡ items ++ i ∷ [] → (x y : Point) → ItemsHold next x y ↔ (ItemsHold items x y ⊎ InItem i x y)
+pub items_more : (items next : List Item) (i : Item) → next ≡ items ++ i ∷ [] → (x y : Point) → ItemsHold next x y ↔ (ItemsHold items x y ⊎ InItem i x y)
 items_more items next i e x y = (
   λ h. ⊎_elim
       (λ j. inl (h.0, j, h.2))
@@ -38,7 +38,7 @@ items_more items next i e x y = (
       h,
 )
 
-rows_more : (rows : List Row) (k : ℕ) (d : Row) → k < length rows → (x y : Point) → RowsHold (take (k + 1) rows) x y ↔ (RowsHold (take k rows) x y ⊎ InRow (slice_index_or rows k d) x y)
+pub rows_more : (rows : List Row) (k : ℕ) (d : Row) → k < length rows → (x y : Point) → RowsHold (take (k + 1) rows) x y ↔ (RowsHold (take k rows) x y ⊎ InRow (slice_index_or rows k d) x y)
 rows_more rows k d lt x y =
     let r : Row = slice_index_or rows k d in
     let e = take_more rows k d lt in (

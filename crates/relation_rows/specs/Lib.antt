@@ -3,3 +3,5 @@ pub mod Answers
 pub mod Relations
 pub mod Gathering
 pub mod Searching
+pub mod Timetables
+pub mod Ways

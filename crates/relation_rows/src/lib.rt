@@ -11,6 +11,8 @@ pub mod laws;
 pub mod relations;
 pub mod rows;
 mod search;
+mod timetable;
+mod ways;
 
 pub use relations::Relation;
 pub use rows::{RelFault, Row};

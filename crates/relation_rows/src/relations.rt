@@ -8,11 +8,13 @@ ghost use Rattle.band_normal.specs.Bands.{IsWellFormed};
 ghost use Rattle.relation_rows.specs.declared.rows.Row.{Row as PlainRow};
 ghost use Rattle.relation_rows.specs.Rows.{RowsHold, NormalRows, IsRelation};
 ghost use Rattle.relation_rows.specs.Answers.{Gives};
-ghost use Rattle.relation_rows.specs.Relations.{ItemsHold, Rise, IsItself, EitherHolds, IsBetween};
+ghost use Rattle.relation_rows.specs.Relations.{ItemsHold, Rise, IsItself, EitherHolds, HasMiddlePoint, IsBetween};
 
 use crate::gather::{from_each_to_itself, gathered, gathered_of, push_zones};
 use crate::rows::{RelFault, Row};
 use crate::search::{is_in_band, rows_between, rows_of_key};
+use crate::timetable::timetable;
+use crate::ways::composed;
 use interval_set::Span;
 use itpg_base::ObjNo;
 use std::alloc::{AllocError, Global};
@@ -126,6 +128,24 @@ impl Relation {
         push_zones(&mut items, &self.rows)?;
         push_zones(&mut items, &other.rows)?;
         gathered_of(alloc, items, max_rows as usize)
+    }
+
+    /// The pairs with a middle point, to which this relation leads and from which the other does. `Wide`
+    /// exactly where its normal rows are more than `max_rows`.
+    ///
+    /// From object 0 to object 1 at the moments 5 to 12, and from there back to 0 at the moments 0 to 9,
+    /// leads from 0 to 0 at 5 to 9:
+    ///
+    /// ```text
+    /// 0 to 1            5 6 7 8 9 . . .
+    /// 1 to 0  . . . . . 5 6 7 8 9
+    /// ```
+    pub fn compose(&self, other: &Relation, max_rows: u32) -> Result<Relation, RelFault>
+        ensures { Gives result (HasMiddlePoint self.now other.now) max_rows }
+    {
+        let alloc = *self.rows.allocator();
+        let stops = timetable(alloc, &other.rows)?;
+        composed(alloc, &self.rows, &stops, max_rows as usize)
     }
 
     /// The pairs that lead from one of the sources to one of the targets. Both lists rise.
