@@ -16,5 +16,10 @@ pub mod Departing
 pub mod Stops
 pub mod Going
 pub mod Composing
+pub mod Coalescing
+pub mod Runs
+pub mod Arriving
+pub mod Meeting
+pub mod Cutting
 pub mod Giving
 pub mod Sorting

@@ -121,7 +121,7 @@ pub all_rows : (rows : List Row) (i : ℕ) (stops : List Stop) → length rows �
 all_rows rows i stops le so = so.rows_are ∙ take_all i rows le
 
 -- rows that are sorted by source and first departure
-up_to : (a b : ℕ) (c d : ℤ) → is_lt (ordering_then (nat_cmp a b) (int_cmp c d)) ≡ false → (b < a) ⊎ ((b ≡ a) × (d ≤ℤ c))
+pub up_to : (a b : ℕ) (c d : ℤ) → is_lt (ordering_then (nat_cmp a b) (int_cmp c d)) ≡ false → (b < a) ⊎ ((b ≡ a) × (d ≤ℤ c))
 up_to a b c d h = first (compared a b) h
   where
     lt_of : (x : Ordering) (e : nat_cmp a b ≡ x) → is_lt (ordering_then (nat_cmp a b) (int_cmp c d)) ≡ false → is_lt (ordering_then x (int_cmp c d)) ≡ false

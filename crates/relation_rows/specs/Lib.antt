@@ -5,3 +5,4 @@ pub mod Gathering
 pub mod Searching
 pub mod Timetables
 pub mod Ways
+pub mod Times

@@ -11,8 +11,10 @@ pub mod laws;
 pub mod relations;
 pub mod rows;
 mod search;
+pub mod times;
 mod timetable;
 mod ways;
 
 pub use relations::Relation;
 pub use rows::{RelFault, Row};
+pub use times::{OneRow, OneTime};

@@ -1,6 +1,6 @@
 //! Relations.
 
-ghost use Rattle.std.specs.Prelude.{◌≡◌, ◌↔◌, [], length, slice_get, IsTrue, IfOk};
+ghost use Rattle.std.specs.Prelude.{◌≡◌, ◌↔◌, ◌≤◌, [], length, slice_get, IsTrue, IfOk};
 ghost use Rattle.itpg_base.specs.Points.{Point};
 ghost use Rattle.zone_core.specs.Zone.{Within, moment_reach};
 ghost use Rattle.band_normal.specs.Lists.{Among};
@@ -8,11 +8,13 @@ ghost use Rattle.band_normal.specs.Bands.{IsWellFormed};
 ghost use Rattle.relation_rows.specs.declared.rows.Row.{Row as PlainRow};
 ghost use Rattle.relation_rows.specs.Rows.{RowsHold, NormalRows, IsRelation};
 ghost use Rattle.relation_rows.specs.Answers.{Gives};
+ghost use Rattle.relation_rows.specs.Times.{AreTimes, Departs, Arrives};
 ghost use Rattle.relation_rows.specs.Relations.{ItemsHold, Rise, IsItself, EitherHolds, HasMiddlePoint, IsBetween};
 
 use crate::gather::{from_each_to_itself, gathered, gathered_of, push_zones};
 use crate::rows::{RelFault, Row};
 use crate::search::{is_in_band, rows_between, rows_of_key};
+use crate::times::{OneTime, arrivals, departures, runs_of};
 use crate::timetable::timetable;
 use crate::ways::composed;
 use interval_set::Span;
@@ -156,5 +158,27 @@ impl Relation {
     {
         let rows = rows_between(*self.rows.allocator(), &self.rows, sources, targets)?;
         Ok(Relation { rows })
+    }
+
+    /// The objects at the moments at which some pair departs. There are no more rows than here.
+    pub fn sources(&self) -> Result<OneTime, AllocError>
+        ensures times { IfOk result (λ times. AreTimes (Departs self.now) times) }
+        ensures few { IfOk result (λ times. length times ≤ length self.now) }
+    {
+        let alloc = *self.rows.allocator();
+        let times = departures(alloc, &self.rows)?;
+        let runs = runs_of(alloc, times)?;
+        Ok(runs)
+    }
+
+    /// The objects at the moments at which some pair arrives. There are no more rows than here.
+    pub fn targets(&self) -> Result<OneTime, AllocError>
+        ensures times { IfOk result (λ times. AreTimes (Arrives self.now) times) }
+        ensures few { IfOk result (λ times. length times ≤ length self.now) }
+    {
+        let alloc = *self.rows.allocator();
+        let times = arrivals(alloc, &self.rows)?;
+        let runs = runs_of(alloc, times)?;
+        Ok(runs)
     }
 }
