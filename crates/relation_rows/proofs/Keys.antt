@@ -5,11 +5,11 @@ use Rattle.std.specs.List.Sorted.{IsPartitionedBy, IsPartitionPoint}
 use Rattle.std.proofs.lemmas.Bool.Decides.{eqb_tells}
 use Rattle.std.proofs.lemmas.Option.{slice_get_within, get_or_from_slice_get}
 use Rattle.std.proofs.lemmas.Bool.Decides.{Decides-ltb}
-use Rattle.std.proofs.lemmas.List.{take_all, length-drop}
+use Rattle.std.proofs.lemmas.List.{take_all, take-append-drop, length-drop}
 use Rattle.std.specs.Prelude.{◌↔◌, ◌-◌, ◌||◌, nat_lt}
 use Rattle.itpg_base.proofs.Searches.{at_most}
 use Rattle.band_normal.specs.Lists.{Among, Ordered}
-use Rattle.band_normal.proofs.Lists.{among_at, ordered_by_place}
+use Rattle.band_normal.proofs.Lists.{among_at, ordered_by_place, ordered_first}
 use Rattle.relation_rows.specs.declared.rows.Row.{Row}
 use Rattle.relation_rows.specs.Rows.{KeyBefore, RowBefore, HasKey}
 use Rattle.relation_rows.specs.Searching.{comes_before, has_key}
@@ -68,7 +68,7 @@ either_true : (a b : Bool) → (a || b) ≡ true → (a ≡ true) ⊎ (b ≡ tru
 either_true true b e = inl refl
 either_true false b e = inr e
 
-comes_is : (r : Row) (o p : ℕ) → comes_before r o p ≡ true → KeyBefore r.source.0 r.target.0 o p
+pub comes_is : (r : Row) (o p : ℕ) → comes_before r o p ≡ true → KeyBefore r.source.0 r.target.0 o p
 comes_is r o p e = grind (arith, Decides-ltb)
 
 is_coming : (r : Row) (o p : ℕ) → KeyBefore r.source.0 r.target.0 o p → comes_before r o p ≡ true
@@ -78,10 +78,10 @@ is_coming r o p (inr (e, l)) = grind (arith, Decides-ltb)
 not_coming : (r : Row) (o p : ℕ) → comes_before r o p ≡ false → KeyBefore r.source.0 r.target.0 o p → ⊥
 not_coming r o p e b = true≢false (sym (is_coming r o p b) ∙ e)
 
-key_is : (r : Row) (o p : ℕ) → has_key r o p ≡ true → HasKey r o p
+pub key_is : (r : Row) (o p : ℕ) → has_key r o p ≡ true → HasKey r o p
 key_is r o p e = ⊎_elim (λ k. (k.1, k.2)) (λ k. absurd (true≢false (sym e ∙ k.0))) (key_tells r.source.0 r.target.0 o p)
 
-is_key : (r : Row) (o p : ℕ) → HasKey r o p → has_key r o p ≡ true
+pub is_key : (r : Row) (o p : ℕ) → HasKey r o p → has_key r o p ≡ true
 is_key r o p h = ⊎_elim (λ k. k.0) (λ k. absurd (k.1 h.0 h.1)) (key_tells r.source.0 r.target.0 o p)
 
 key_before_row : (r s : Row) → RowBefore r s → KeyBefore r.source.0 r.target.0 s.source.0 s.target.0 ⊎ ((r.source.0 ≡ s.source.0) × (r.target.0 ≡ s.target.0))
@@ -143,3 +143,9 @@ module _ (rows : List Row) (o p : ℕ) (order : Ordered RowBefore rows) where
           (among_either from m r (subst (λ (v : List Row). Among v r) (sym from_is) d)))
           (among_either rows n r h.0),
     )
+
+front_ordered : (rows : List Row) (m : ℕ) → Ordered RowBefore rows → Ordered RowBefore (take m rows)
+front_ordered rows m o = ordered_first RowBefore (take m rows) (drop m rows) (subst (λ (v : List Row). Ordered RowBefore v) (sym (take-append-drop m rows)) o)
+
+pub key_order : (rows : List Row) (n m : ℕ) → Ordered RowBefore rows → Ordered RowBefore (take m (take (length rows - n) (drop n rows)))
+key_order rows n m o = front_ordered (take (length rows - n) (drop n rows)) m (front_ordered (drop n rows) (length rows - n) (rest_ordered RowBefore rows n o))

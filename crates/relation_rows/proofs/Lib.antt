@@ -21,5 +21,7 @@ pub mod Runs
 pub mod Arriving
 pub mod Meeting
 pub mod Cutting
+pub mod Leaving
+pub mod Subtracting
 pub mod Giving
 pub mod Sorting

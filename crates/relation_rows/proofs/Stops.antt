@@ -46,12 +46,12 @@ last_of Before xs o x a =
     among_last : {X : Type 0} (xs : List X) (x : X) → Among xs x → Among xs (get_or xs (length xs - 1) x)
     among_last xs x a = let k = place_of xs x a in let lt = k.1 in among_at xs (length xs - 1) x (omega arith)
 
-row_among : (stops : List Stop) (s : Stop) → Among stops s → Among (map row_of stops) s.row
+pub row_among : (stops : List Stop) (s : Stop) → Among stops s → Among (map row_of stops) s.row
 row_among [] s a = absurd a
 row_among (t ∷ ts) s (inl e) = inl (ap row_of e)
 row_among (t ∷ ts) s (inr a) = inr (row_among ts s a)
 
-among_row : (stops : List Stop) (r : Row) → Among (map row_of stops) r → (s : Stop) × Among stops s × (s.row ≡ r)
+pub among_row : (stops : List Stop) (r : Row) → Among (map row_of stops) r → (s : Stop) × Among stops s × (s.row ≡ r)
 among_row [] r a = absurd a
 among_row (t ∷ ts) r (inl e) = (t, inl refl, e)
 among_row (t ∷ ts) r (inr a) = let w = among_row ts r a in (w.0, inr w.1, w.2)

@@ -6,3 +6,4 @@ pub mod Searching
 pub mod Timetables
 pub mod Ways
 pub mod Times
+pub mod Rest

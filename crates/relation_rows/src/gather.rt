@@ -13,10 +13,10 @@ ghost use Rattle.band_normal.specs.Bands.{IsWellFormed};
 ghost use Rattle.band_normal.specs.Normal.{Normal};
 ghost use Rattle.band_normal.specs.Zones.{SomeMeets};
 ghost use Rattle.relation_rows.specs.declared.rows.Row.{Row};
-ghost use Rattle.relation_rows.specs.Rows.{KeyBefore, RowsHold, rows_at};
+ghost use Rattle.relation_rows.specs.Rows.{KeyBefore, RowsHold, NormalRows, rows_at};
 ghost use Rattle.relation_rows.specs.Answers.{Gives};
 ghost use Rattle.relation_rows.specs.Relations.{Item, ItemsHold};
-ghost use Rattle.relation_rows.specs.Gathering.{ItemUpTo, HaveOneKey, have_one_key};
+ghost use Rattle.relation_rows.specs.Gathering.{ItemUpTo, HaveOneKey, IsCounted, have_one_key};
 
 use crate::relations::Relation;
 use crate::rows::{RelFault, Row};
@@ -80,7 +80,8 @@ fn push_bands(rows: &mut Vec<Row>, first: &Item, bands: &[Band]) -> Result<(), A
 /// The relation of the items, which stand by source and target.
 pub(crate) fn gathered(alloc: Global, items: &[Item], room: usize) -> Result<Relation, RelFault>
     requires { Ordered ItemUpTo items.now }
-    ensures { Gives result (ItemsHold items.now) room }
+    ensures gives { Gives result (ItemsHold items.now) room }
+    ensures counted { IsCounted result room }
 {
     let mut rows = Vec::new(alloc);
     let mut left = items;
@@ -101,10 +102,22 @@ pub(crate) fn gathered_of(
     mut items: Vec<Item>,
     room: usize,
 ) -> Result<Relation, RelFault>
-    ensures { Gives result (ItemsHold items.items) room }
+    ensures gives { Gives result (ItemsHold items.items) room }
+    ensures counted { IsCounted result room }
 {
     items.sort_by_key(|item| (item.0, item.1))?;
     gathered(alloc, &items, room)
+}
+
+/// The relation of the items, whatever number of rows it has.
+pub(crate) fn gathered_all(alloc: Global, items: Vec<Item>) -> Result<Relation, AllocError>
+    ensures { IfOk result (λ rows. NormalRows (ItemsHold items.items) rows) }
+{
+    match gathered_of(alloc, items, usize::MAX) {
+        Ok(relation) => Ok(relation),
+        Err(RelFault::Memory) => Err(AllocError),
+        Err(RelFault::Wide) => unreachable!(),
+    }
 }
 
 /// The zone from each object to itself.

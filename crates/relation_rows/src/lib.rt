@@ -9,6 +9,7 @@
 mod gather;
 pub mod laws;
 pub mod relations;
+mod rest;
 pub mod rows;
 mod search;
 pub mod times;

@@ -9,9 +9,10 @@ ghost use Rattle.relation_rows.specs.declared.rows.Row.{Row as PlainRow};
 ghost use Rattle.relation_rows.specs.Rows.{RowsHold, NormalRows, IsRelation};
 ghost use Rattle.relation_rows.specs.Answers.{Gives};
 ghost use Rattle.relation_rows.specs.Times.{AreTimes, Departs, Arrives};
-ghost use Rattle.relation_rows.specs.Relations.{ItemsHold, Rise, IsItself, EitherHolds, HasMiddlePoint, IsBetween};
+ghost use Rattle.relation_rows.specs.Relations.{ItemsHold, Rise, IsItself, EitherHolds, HasMiddlePoint, IsBetween, OnlyFirstHolds};
 
-use crate::gather::{from_each_to_itself, gathered, gathered_of, push_zones};
+use crate::gather::{from_each_to_itself, gathered, gathered_all, gathered_of, push_zones};
+use crate::rest::only_in_first;
 use crate::rows::{RelFault, Row};
 use crate::search::{is_in_band, rows_between, rows_of_key};
 use crate::times::{OneTime, arrivals, departures, runs_of};
@@ -158,6 +159,16 @@ impl Relation {
     {
         let rows = rows_between(*self.rows.allocator(), &self.rows, sources, targets)?;
         Ok(Relation { rows })
+    }
+
+    /// The pairs of this relation that the other hasn't.
+    pub fn minus(&self, other: &Relation) -> Result<Relation, AllocError>
+        ensures { IfOk result (λ rows. NormalRows (OnlyFirstHolds self.now other.now) rows) }
+    {
+        let alloc = *self.rows.allocator();
+        let items = only_in_first(alloc, &self.rows, &other.rows)?;
+        let rows = gathered_all(alloc, items)?;
+        Ok(rows)
     }
 
     /// The objects at the moments at which some pair departs. There are no more rows than here.

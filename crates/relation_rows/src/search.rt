@@ -38,7 +38,8 @@ fn comes_before_key(row: &Row, source: ObjNo, target: ObjNo) -> bool
     row.source.0 < source.0 || row.source.0 == source.0 && row.target.0 < target.0
 }
 
-fn is_of_key(row: &Row, source: ObjNo, target: ObjNo) -> bool
+/// Whether the row leads from the source to the target.
+pub(crate) fn is_of_key(row: &Row, source: ObjNo, target: ObjNo) -> bool
     ensures { result ≡ has_key row.now source.0 target.0 }
 {
     row.source.0 == source.0 && row.target.0 == target.0
@@ -47,7 +48,8 @@ fn is_of_key(row: &Row, source: ObjNo, target: ObjNo) -> bool
 /// The rows from the source to the target, of rows in order.
 pub(crate) fn rows_of_key(rows: &[Row], source: ObjNo, target: ObjNo) -> &[Row]
     requires { Ordered RowBefore rows.now }
-    ensures { (r : Row) → Among result.now r ↔ (Among rows.now r × HasKey r source.0 target.0) }
+    ensures rows { (r : Row) → Among result.now r ↔ (Among rows.now r × HasKey r source.0 target.0) }
+    ensures order { Ordered RowBefore result.now }
 {
     let begin = rows.partition_point(|row| comes_before_key(row, source, target));
     let from = &rows[begin..];

@@ -39,7 +39,8 @@ fn stop_after(last: Option<&Stop>, row: &Row) -> Stop
     stop
 }
 
-fn stops_of(alloc: Global, rows: &[Row]) -> Result<Vec<Stop>, AllocError>
+/// The stops of rows that stand by source and first departure.
+pub(crate) fn stops_of(alloc: Global, rows: &[Row]) -> Result<Vec<Stop>, AllocError>
     requires { Ordered DepartsUpTo rows.now }
     ensures rows { IfOk result (λ stops. map (λ (s : PlainStop). s.row) stops.items ≡ rows.now) }
     ensures order { IfOk result (λ stops. Ordered StopUpTo stops.items) }

@@ -17,7 +17,7 @@ loop-first-init c = (
 pub loop-first-preserved : goal.loop-first-preserved
 loop-first-preserved c =
     let extended = c.in_ok-extend_from_slice.ensures.items in
-    let gives = c.in_ok-more.ensures in
+    let gives = c.in_ok-more.ensures.gives in
     let all = extended ∙ ap (λ (v : List Row). c.loop-first.done.items ++ v) (c.deref.ensures.value ∙ c.more.view_is) in
     let count : c.len.result ≡ length c.loop-first.done.items = omega arith in (
       next_composed c.args.rows.now c.args.stops.now c.loop-first.left.now c.loop-first.done.items c.loop-first.invariant.0 c.in-Some.first.now c.in-Some.ensures.value c.source_count.result
@@ -34,7 +34,7 @@ ways_from-requires-clause-rows c = group_formed c.args.rows.now c.args.stops.now
 pub returns-in_err-more : goal.returns-in_err-more
 returns-in_err-more c =
     let fault = err_from_is_err_and c.from_residual-in_err-more.result c.from_residual-in_err-more.ensures.1 in
-    let gives = c.in_err-more.ensures in
+    let gives = c.in_err-more.ensures.gives in
     let count : c.len.result ≡ length c.loop-first.done.items = omega arith in
     rw (fault.1, fault.2)
     (fault_after c.args.rows.now c.args.stops.now c.loop-first.left.now c.loop-first.done.items c.loop-first.invariant.0 c.in-Some.first.now c.in-Some.ensures.value c.source_count.result

@@ -20,4 +20,4 @@ returns c =
     gives_alike _ (IsItself c.args.objects.now c.args.horizon)
     (are_itself c.unwrap-zone.result c.args.objects.now c.args.horizon stays)
     (itself_are c.unwrap-zone.result c.args.objects.now c.args.horizon stays)
-    c.args.max_rows c.gathered.result (subst (λ (v : List Item). Gives c.gathered.result (ItemsHold v) c.args.max_rows) (c.deref.ensures.value ∙ c.in_ok-items.ensures) c.gathered.ensures)
+    c.args.max_rows c.gathered.result (subst (λ (v : List Item). Gives c.gathered.result (ItemsHold v) c.args.max_rows) (c.deref.ensures.value ∙ c.in_ok-items.ensures) c.gathered.ensures.gives)

@@ -20,4 +20,4 @@ returns c =
     (gives_alike (ItemsHold c.push_zones-2.new.items.items) (EitherHolds c.deref.result.now c.deref-2.result.now)
     (items_either c.deref.result.now c.deref-2.result.now c.new-items.result.items c.push_zones.new.items.items c.push_zones-2.new.items.items c.new-items.ensures.items c.in_ok-push_zones.ensures c.in_ok-push_zones-2.ensures)
     (either_items c.deref.result.now c.deref-2.result.now c.new-items.result.items c.push_zones.new.items.items c.push_zones-2.new.items.items c.new-items.ensures.items c.in_ok-push_zones.ensures c.in_ok-push_zones-2.ensures)
-    c.args.max_rows c.gathered_of.result c.gathered_of.ensures))
+    c.args.max_rows c.gathered_of.result c.gathered_of.ensures.gives))
