@@ -7,3 +7,4 @@ pub mod Timetables
 pub mod Ways
 pub mod Times
 pub mod Rest
+pub mod Answered

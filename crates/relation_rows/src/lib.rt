@@ -6,16 +6,17 @@
 //! [`RelFault::Wide`] exactly where these rows are more than the limit.
 #![tactic(auto)]
 
+pub mod answered;
 mod gather;
 pub mod laws;
 pub mod relations;
 mod rest;
 pub mod rows;
-mod search;
-pub mod times;
+mod search;pub mod times;
 mod timetable;
 mod ways;
 
+pub use answered::Answer;
 pub use relations::Relation;
 pub use rows::{RelFault, Row};
 pub use times::{OneRow, OneTime};

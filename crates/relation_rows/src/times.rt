@@ -53,6 +53,14 @@ impl OneTime {
         &self.rows
     }
 
+    /// Equal rows of its own.
+    pub(crate) fn copy(&self) -> Result<OneTime, AllocError>
+        ensures { IfOk result (λ copy. copy ≡ self.now) }
+    {
+        let rows = Vec::from_slice(*self.rows.allocator(), &self.rows)?;
+        Ok(OneTime { rows })
+    }
+
     /// The objects at the moments that these rows have and the others haven't.
     pub fn minus(&self, other: &OneTime) -> Result<OneTime, AllocError>
         ensures { IfOk result (λ rest. AreTimes (OnlyFirstHas self.now other.now) rest) }
