@@ -12,7 +12,10 @@ pub mod laws;
 pub mod relations;
 mod rest;
 pub mod rows;
-mod search;pub mod times;
+mod search;
+#[cfg(test)]
+mod tests;
+pub mod times;
 mod timetable;
 mod ways;
 
