@@ -1,0 +1,148 @@
+-- Ways that begin with a row, and those that begin with one of some rows.
+use Rattle.std.proofs.Common.{◌≡◌, ◌↔◌, ◌⊎◌, inl, inr, ⊎_elim, ℕ, ◌+◌, ◌<◌, ◌≤◌, ℤ, ◌≤ℤ◌, List, [], ◌∷◌, ◌++◌, length, slice_index_or, take, Option, Some, None, refl, sym, ◌∙◌, ap, subst, arith}
+use Rattle.std.proofs.lemmas.Int.{ints}
+use Rattle.std.proofs.lemmas.List.{take_more, take_all}
+use Rattle.itpg_base.specs.declared.object_number.ObjNo.{ObjNo}
+use Rattle.itpg_base.specs.Points.{Point}
+use Rattle.zone_core.specs.declared.Bounds.{Bounds}
+use Rattle.zone_core.specs.Zone.{Meets, Holds, IsZoneOf}
+use Rattle.zone_compose.specs.Compose.{HasMiddle, AreArrivals}
+use Rattle.band_normal.specs.Lists.{Among}
+use Rattle.band_normal.specs.Bands.{InBand, IsWellFormed}
+use Rattle.band_normal.proofs.Lists.{among_append, append_first, append_second, among_at}
+use Rattle.relation_rows.specs.declared.rows.Row.{Row}
+use Rattle.relation_rows.specs.declared.timetable.Stop.{Stop}
+use Rattle.relation_rows.specs.Rows.{InRow, RowsHold}
+use Rattle.relation_rows.specs.Relations.{Item, InItem, ItemsHold}
+use Rattle.relation_rows.specs.Timetables.{StopsHold}
+use Rattle.relation_rows.specs.Ways.{ItemThere, GoesOn, AllGoOn}
+use Rattle.relation_rows.proofs.Pushing.{items_more, rows_more}
+
+-- an item is pushed where its zone is there
+pub pushed_there : (source target : ObjNo) (old next : List Item) (zone : Bounds) (o : Option Bounds) → o ≡ Some zone → next ≡ old ++ (source, target, zone) ∷ []
+    → (x y : Point) → ItemsHold next x y ↔ (ItemsHold old x y ⊎ ItemThere source target o x y)
+pushed_there source target old next zone o is e x y =
+    subst (λ (v : Option Bounds). ItemsHold next x y ↔ (ItemsHold old x y ⊎ ItemThere source target v x y)) (sym is) (items_more old next (source, target, zone) e x y)
+
+pub not_there : (source target : ObjNo) (old : List Item) (x y : Point) → ItemsHold old x y ↔ (ItemsHold old x y ⊎ ItemThere source target None x y)
+not_there source target old x y = (λ h. inl h, λ h. ⊎_elim (λ a. a) (λ a. absurd a) h)
+
+there_holds : (source target : ObjNo) (o : Option Bounds) (x y : Point) → ItemThere source target o x y → (source.0 ≡ x.object) × (target.0 ≡ y.object) × Holds o x.moment y.moment
+there_holds source target None x y h = absurd h
+there_holds source target (Some z) x y h = (h.source, h.target, h.pair)
+
+holds_there : (source target : ObjNo) (o : Option Bounds) (x y : Point) → (source.0 ≡ x.object) → (target.0 ≡ y.object) → Holds o x.moment y.moment → ItemThere source target o x y
+holds_there source target None x y e f h = absurd h
+holds_there source target (Some z) x y e f h = record { source = e; target = f; pair = h }
+
+module _ (row : Row) (zone : Bounds) (is : (t u : ℤ) → Meets zone t u ↔ InBand row.band t u) where
+  -- the ways by one stop
+  pub one_way : (s : Stop) (second : Bounds) → ((t u : ℤ) → Meets second t u ↔ InBand s.row.band t u) → s.row.source.0 ≡ row.target.0 → (way : Option Bounds) → IsZoneOf (HasMiddle zone second) way
+      → (x y : Point) → ItemThere row.source s.row.target way x y ↔ ((m : Point) × InRow row x m × InRow s.row m y)
+  one_way s second its same way of x y = (
+    λ h.
+        let k = there_holds row.source s.row.target way x y h in
+        let w = ((of.pairs x.moment y.moment).0 k.2) in (
+          record { object = row.target.0; moment = w.middle },
+          record { source = k.0; target = refl; pair = (is x.moment w.middle).0 w.left },
+          record { source = same; target = k.1; pair = (its w.middle y.moment).0 w.right },
+        ),
+    λ h.
+        let a = h.1 in let b = h.2 in
+        holds_there row.source s.row.target way x y a.source b.target
+        ((of.pairs x.moment y.moment).1 (record { middle = (h.0).moment; left = (is x.moment (h.0).moment).1 a.pair; right = (its (h.0).moment y.moment).1 b.pair })),
+  )
+
+  -- one more stop
+  pub stop_more : (items now next : List Item) (stops : List Stop) (k : ℕ) (d : Stop) → k < length stops
+      → (second : Bounds) → ((t u : ℤ) → Meets second t u ↔ InBand (slice_index_or stops k d).row.band t u) → (slice_index_or stops k d).row.source.0 ≡ row.target.0 → (way : Option Bounds) → IsZoneOf (HasMiddle zone second) way
+      → ((x y : Point) → ItemsHold next x y ↔ (ItemsHold now x y ⊎ ItemThere row.source (slice_index_or stops k d).row.target way x y))
+      → ((x y : Point) → ItemsHold now x y ↔ (ItemsHold items x y ⊎ GoesOn row (take k stops) x y))
+      → (x y : Point) → ItemsHold next x y ↔ (ItemsHold items x y ⊎ GoesOn row (take (k + 1) stops) x y)
+  stop_more items now next stops k d lt second its same way of pushed old x y =
+      let s : Stop = slice_index_or stops k d in
+      let e = take_more stops k d lt in
+      let one = one_way (slice_index_or stops k d) second its same way of x y in (
+        λ h. ⊎_elim
+            (λ a. ⊎_elim
+            (λ b. inl b)
+            (λ (b : GoesOn row (take k stops) x y). let g = b.2 in inr (b.0, b.1, (g.0, subst (λ (v : List Stop). Among v g.0) (sym e) (append_first (take k stops) (s ∷ []) g.0 g.1), g.2)))
+            ((old x y).0 a))
+            (λ a. let w = one.0 a in inr (w.0, w.1, (s, subst (λ (v : List Stop). Among v s) (sym e) (append_second (take k stops) (s ∷ []) s (inl refl)), w.2)))
+            ((pushed x y).0 h),
+        λ h. ⊎_elim
+            (λ a. (pushed x y).1 (inl ((old x y).1 (inl a))))
+            (λ (b : GoesOn row (take (k + 1) stops) x y).
+            let g = b.2 in
+            ⊎_elim
+            (λ c. (pushed x y).1 (inl ((old x y).1 (inr (b.0, b.1, (g.0, c, g.2))))))
+            (λ c. ⊎_elim (λ (f : slice_index_or stops k d ≡ g.0). (pushed x y).1 (inr (one.1 (b.0, b.1, subst (λ (v : Stop). InRow v.row b.0 y) (sym f) g.2)))) (λ j. absurd j) c)
+            (among_append (take k stops) (s ∷ []) g.0 (subst (λ (v : List Stop). Among v g.0) e g.1)))
+            h,
+      )
+
+  -- the stops found are all by which the row goes on
+  module _ (stops found : List Stop) (first last : ℤ) (span : AreArrivals zone first last)
+      (there : (s : Stop) → Among found s → Among stops s)
+      (all : (s : Stop) → Among stops s → s.row.source.0 ≡ row.target.0 → s.row.band.from ≤ℤ last → first ≤ℤ s.row.band.to → Among found s) where
+    pub all_ways : (items now : List Item) (k : ℕ) → length found ≤ k → ((x y : Point) → ItemsHold now x y ↔ (ItemsHold items x y ⊎ GoesOn row (take k found) x y))
+        → (x y : Point) → ItemsHold now x y ↔ (ItemsHold items x y ⊎ GoesOn row stops x y)
+    all_ways items now k le old x y =
+        let e = take_all k found le in (
+          λ h. ⊎_elim
+              (λ a. inl a)
+              (λ (b : GoesOn row (take k found) x y). let g = b.2 in inr (b.0, b.1, (g.0, there g.0 (subst (λ (v : List Stop). Among v g.0) e g.1), g.2)))
+              ((old x y).0 h),
+          λ h. ⊎_elim
+              (λ a. (old x y).1 (inl a))
+              (λ (b : GoesOn row stops x y).
+              let g = b.2 in
+              let i = b.1 in
+              let j = g.2 in
+              let q = j.pair in
+              let arrives = (is x.moment (b.0).moment).1 i.pair in
+              let low = span.least x.moment (b.0).moment arrives in
+              let high = span.greatest x.moment (b.0).moment arrives in
+              let begins = q.from in
+              let ends = q.to in
+              (old x y).1 (inr (b.0, b.1, (g.0, subst (λ (v : List Stop). Among v g.0) (sym e) (all g.0 g.1 (j.source ∙ sym i.target) (omega (arith, ints)) (omega (arith, ints))), g.2))))
+              h,
+        )
+
+pub no_ways : (row : Row) (items : List Item) (x y : Point) → ItemsHold items x y ↔ (ItemsHold items x y ⊎ GoesOn row [] x y)
+no_ways row items x y = (λ h. inl h, λ h. ⊎_elim (λ a. a) (λ (b : GoesOn row [] x y). absurd ((b.2).1)) h)
+
+-- one more row
+pub row_more : (now next : List Item) (rows : List Row) (stops : List Stop) (k : ℕ) (d : Row) → k < length rows
+    → ((x y : Point) → ItemsHold next x y ↔ (ItemsHold now x y ⊎ GoesOn (slice_index_or rows k d) stops x y))
+    → ((x y : Point) → ItemsHold now x y ↔ AllGoOn (take k rows) stops x y)
+    → (x y : Point) → ItemsHold next x y ↔ AllGoOn (take (k + 1) rows) stops x y
+row_more now next rows stops k d lt pushed old x y = (
+  λ h. ⊎_elim
+      (λ a. let w = (old x y).0 a in (w.0, (rows_more rows k d lt x w.0).1 (inl w.1), w.2))
+      (λ (a : GoesOn (slice_index_or rows k d) stops x y). (a.0, (rows_more rows k d lt x a.0).1 (inr a.1), a.2))
+      ((pushed x y).0 h),
+  λ h. ⊎_elim
+      (λ a. (pushed x y).1 (inl ((old x y).1 (h.0, a, h.2))))
+      (λ a. (pushed x y).1 (inr (h.0, a, h.2)))
+      ((rows_more rows k d lt x h.0).0 h.1),
+)
+
+pub no_rows : (items : List Item) (rows : List Row) (stops : List Stop) → items ≡ [] → (x y : Point) → ItemsHold items x y ↔ AllGoOn (take 0 rows) stops x y
+no_rows items rows stops e x y = (λ h. absurd (subst (λ (v : List Item). ItemsHold v x y) e h).1, λ h. absurd (none rows h.1))
+  where
+    none : (xs : List Row) {x y : Point} → RowsHold (take 0 xs) x y → ⊥
+    none [] h = h.1
+    none (z ∷ zs) h = h.1
+
+pub every_row : (items : List Item) (rows : List Row) (stops : List Stop) (k : ℕ) → length rows ≤ k → ((x y : Point) → ItemsHold items x y ↔ AllGoOn (take k rows) stops x y) → (x y : Point) → ItemsHold items x y ↔ AllGoOn rows stops x y
+every_row items rows stops k le = subst (λ (v : List Row). (x y : Point) → ItemsHold items x y ↔ AllGoOn v stops x y) (take_all k rows le)
+
+pub stop_formed : (stops found : List Stop) (k : ℕ) (d : Stop) → k < length found → ((s : Stop) → Among found s → Among stops s) → ((s : Stop) → Among stops s → IsWellFormed s.row.band) → IsWellFormed (slice_index_or found k d).row.band
+stop_formed stops found k d lt there formed = formed (slice_index_or found k d) (there (slice_index_or found k d) (among_at found k d lt))
+
+pub stop_source : (found : List Stop) (o k : ℕ) (d : Stop) → k < length found → ((s : Stop) → Among found s → s.row.source.0 ≡ o) → (slice_index_or found k d).row.source.0 ≡ o
+stop_source found o k d lt same = same (slice_index_or found k d) (among_at found k d lt)
+
+pub row_formed : (rows : List Row) (k : ℕ) (d : Row) → k < length rows → ((r : Row) → Among rows r → IsWellFormed r.band) → IsWellFormed (slice_index_or rows k d).band
+row_formed rows k d lt formed = formed (slice_index_or rows k d) (among_at rows k d lt)

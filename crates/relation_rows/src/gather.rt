@@ -1,0 +1,147 @@
+//! Rows gathered from zones, source by source and target by target.
+//!
+//! The zones of one source and one target are made normal together, and their rows counted then. So
+//! the limit is compared with normal rows alone, and no more rows are made than the first source and
+//! target needs whose rows pass it.
+
+ghost use Rattle.std.specs.Prelude.{◌≡◌, ◌⊎◌, ◌++◌, ◌<◌, ◌≤◌, ◌↔◌, length, map, take, drop, slice_get, Some, IfOk, OnOk, IsTrue};
+ghost use Rattle.itpg_base.specs.declared.object_number.ObjNo.{ObjNo as PlainObjNo};
+ghost use Rattle.itpg_base.specs.Points.{Point};
+ghost use Rattle.band_normal.specs.declared.band.Band.{Band};
+ghost use Rattle.band_normal.specs.Lists.{Among, Ordered};
+ghost use Rattle.band_normal.specs.Bands.{IsWellFormed};
+ghost use Rattle.band_normal.specs.Normal.{Normal};
+ghost use Rattle.band_normal.specs.Zones.{SomeMeets};
+ghost use Rattle.relation_rows.specs.declared.rows.Row.{Row};
+ghost use Rattle.relation_rows.specs.Rows.{KeyBefore, RowsHold, NormalRows, rows_at};
+ghost use Rattle.relation_rows.specs.Answers.{Gives};
+ghost use Rattle.relation_rows.specs.Relations.{Item, ItemsHold};
+ghost use Rattle.relation_rows.specs.Gathering.{ItemUpTo, HaveOneKey, IsCounted, have_one_key};
+
+use crate::relations::Relation;
+use crate::rows::{RelFault, Row};
+use band_normal::{Band, normal, zone_of};
+use itpg_base::ObjNo;
+use std::alloc::{AllocError, Global};
+use zone_core::Zone;
+
+/// A zone of moments from a source to a target.
+pub(crate) type Item = (ObjNo, ObjNo, Zone);
+
+fn are_of_one_key(item: &Item, first: &Item) -> bool
+    ensures { result ≡ have_one_key item.now first.now }
+{
+    item.0.0 == first.0.0 && item.1.0 == first.1.0
+}
+
+// How many of the items, from the first on, have its source and its target.
+fn first_count(items: &[Item], first: &Item) -> usize
+    requires order { Ordered ItemUpTo items.now }
+    requires first { slice_get items.now 0 ≡ Some first.now }
+    ensures some { 0 < result }
+    ensures within { result ≤ length items.now }
+    ensures same { (i : Item) → Among (take result items.now) i → HaveOneKey first.now i }
+    ensures later { (i : Item) → Among (drop result items.now) i → KeyBefore first.now.0.0 first.now.1.0 i.0.0 i.1.0 }
+{
+    items.partition_point(|item| are_of_one_key(item, first))
+}
+
+fn zones_of(alloc: Global, items: &[Item]) -> Result<Vec<Zone>, AllocError>
+    ensures { IfOk result (λ zones. zones.items ≡ map (λ (i : Item). i.2) items.now) }
+{
+    let mut zones = Vec::new(alloc);
+    for item in items {
+        zones.push(item.2)?;
+    }
+    Ok(zones)
+}
+
+fn bands_of_all(alloc: Global, items: &[Item]) -> Result<Vec<Band>, AllocError>
+    ensures normal { IfOk result (λ bands. Normal (SomeMeets (map (λ (i : Item). i.2) items.now)) bands.items) }
+    ensures formed { IfOk result (λ bands. (b : Band) → Among bands.items b → IsWellFormed b) }
+{
+    normal(alloc, zones_of(alloc, items)?)
+}
+
+// The bands as rows of the item's source and target, behind those that there are.
+fn push_bands(rows: &mut Vec<Row>, first: &Item, bands: &[Band]) -> Result<(), AllocError>
+    ensures { OnOk result (rows.new.items ≡ rows.old.items ++ rows_at first.now.0.0 first.now.1.0 bands.now) }
+{
+    for band in bands {
+        rows.push(Row {
+            source: first.0,
+            target: first.1,
+            band: *band,
+        })?;
+    }
+    Ok(())
+}
+
+/// The relation of the items, which stand by source and target.
+pub(crate) fn gathered(alloc: Global, items: &[Item], room: usize) -> Result<Relation, RelFault>
+    requires { Ordered ItemUpTo items.now }
+    ensures gives { Gives result (ItemsHold items.now) room }
+    ensures counted { IsCounted result room }
+{
+    let mut rows = Vec::new(alloc);
+    let mut left = items;
+    while let Some(first) = left.first() {
+        let (group, later) = left.split_at(first_count(left, first));
+        push_bands(&mut rows, first, &bands_of_all(alloc, group)?)?;
+        if rows.len() > room {
+            return Err(RelFault::Wide);
+        }
+        left = later;
+    }
+    Ok(Relation { rows })
+}
+
+/// The relation of the items, in whatever order they stand.
+pub(crate) fn gathered_of(
+    alloc: Global,
+    mut items: Vec<Item>,
+    room: usize,
+) -> Result<Relation, RelFault>
+    ensures gives { Gives result (ItemsHold items.items) room }
+    ensures counted { IsCounted result room }
+{
+    items.sort_by_key(|item| (item.0, item.1))?;
+    gathered(alloc, &items, room)
+}
+
+/// The relation of the items, whatever number of rows it has.
+pub(crate) fn gathered_all(alloc: Global, items: Vec<Item>) -> Result<Relation, AllocError>
+    ensures { IfOk result (λ rows. NormalRows (ItemsHold items.items) rows) }
+{
+    match gathered_of(alloc, items, usize::MAX) {
+        Ok(relation) => Ok(relation),
+        Err(RelFault::Memory) => Err(AllocError),
+        Err(RelFault::Wide) => unreachable!(),
+    }
+}
+
+/// The zone from each object to itself.
+pub(crate) fn from_each_to_itself(
+    alloc: Global,
+    objects: &[ObjNo],
+    zone: Zone,
+) -> Result<Vec<Item>, AllocError>
+    ensures { IfOk result (λ items. items.items ≡ map (λ (o : PlainObjNo). (o, o, zone)) objects.now) }
+{
+    let mut items = Vec::new(alloc);
+    for object in objects {
+        items.push((*object, *object, zone))?;
+    }
+    Ok(items)
+}
+
+/// Adds the zone of each row.
+pub(crate) fn push_zones(items: &mut Vec<Item>, rows: &[Row]) -> Result<(), AllocError>
+    requires { (r : Row) → Among rows.now r → IsWellFormed r.band }
+    ensures { OnOk result ((x : Point) → (y : Point) → ItemsHold items.new.items x y ↔ (ItemsHold items.old.items x y ⊎ RowsHold rows.now x y)) }
+{
+    for row in rows {
+        items.push((row.source, row.target, zone_of(&row.band)))?;
+    }
+    Ok(())
+}

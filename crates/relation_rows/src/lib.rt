@@ -1,0 +1,25 @@
+//! Whole relations between points, each kept as the one normal list of rows of exactly its pairs.
+//!
+//! Stands on `band_normal`, which has the normal list for one source and one target, and on
+//! `zone_core` and `zone_compose`, by which pairs of moments are worked. It promises that each call
+//! gives the normal rows of exactly the relation that it names, and that a call with a limit answers
+//! [`RelFault::Wide`] exactly where these rows are more than the limit.
+#![tactic(auto)]
+
+pub mod answered;
+mod gather;
+pub mod laws;
+pub mod relations;
+mod rest;
+pub mod rows;
+mod search;
+#[cfg(test)]
+mod tests;
+pub mod times;
+mod timetable;
+mod ways;
+
+pub use answered::Answer;
+pub use relations::Relation;
+pub use rows::{RelFault, Row};
+pub use times::{OneRow, OneTime};

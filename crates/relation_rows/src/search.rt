@@ -1,0 +1,87 @@
+//! Searches among objects and rows.
+
+ghost use Rattle.std.specs.Prelude.{◌≡◌, ◌↔◌, ℕ, IsTrue, IfOk};
+ghost use Rattle.band_normal.specs.Bands.{InBand, IsWellFormed};
+ghost use Rattle.band_normal.specs.Lists.{Among, Ordered};
+ghost use Rattle.relation_rows.specs.declared.rows.Row.{Row};
+ghost use Rattle.relation_rows.specs.Rows.{RowBefore, HasKey};
+ghost use Rattle.relation_rows.specs.Relations.{Rise, IsOneOf};
+ghost use Rattle.relation_rows.specs.Searching.{AreKept, comes_before, has_key};
+
+use crate::rows::Row;
+use band_normal::Band;
+use itpg_base::ObjNo;
+use std::alloc::{AllocError, Global};
+
+/// Whether the object is one of the list, which rises.
+pub(crate) fn is_one_of(objects: &[ObjNo], object: ObjNo) -> bool
+    requires { Rise objects.now }
+    ensures { IsTrue result ↔ IsOneOf objects.now object.0 }
+{
+    objects.binary_search(&object).is_ok()
+}
+
+/// Whether the band has the pair.
+pub(crate) fn is_in_band(band: &Band, t: i64, u: i64) -> bool
+    requires { IsWellFormed band.now }
+    ensures { IsTrue result ↔ InBand band.now t u }
+{
+    if t < band.from || band.to < t {
+        return false;
+    }
+    band.low.at(t) <= u && u <= band.high.at(t)
+}
+
+fn comes_before_key(row: &Row, source: ObjNo, target: ObjNo) -> bool
+    ensures { result ≡ comes_before row.now source.0 target.0 }
+{
+    row.source.0 < source.0 || row.source.0 == source.0 && row.target.0 < target.0
+}
+
+/// Whether the row leads from the source to the target.
+pub(crate) fn is_of_key(row: &Row, source: ObjNo, target: ObjNo) -> bool
+    ensures { result ≡ has_key row.now source.0 target.0 }
+{
+    row.source.0 == source.0 && row.target.0 == target.0
+}
+
+/// The rows from the source to the target, of rows in order.
+pub(crate) fn rows_of_key(rows: &[Row], source: ObjNo, target: ObjNo) -> &[Row]
+    requires { Ordered RowBefore rows.now }
+    ensures rows { (r : Row) → Among result.now r ↔ (Among rows.now r × HasKey r source.0 target.0) }
+    ensures order { Ordered RowBefore result.now }
+{
+    let begin = rows.partition_point(|row| comes_before_key(row, source, target));
+    let from = &rows[begin..];
+    let count = from.partition_point(|row| is_of_key(row, source, target));
+    &from[..count]
+}
+
+fn leads_between(row: &Row, sources: &[ObjNo], targets: &[ObjNo]) -> bool
+    requires sources { Rise sources.now }
+    requires targets { Rise targets.now }
+    ensures { IsTrue result ↔ (IsOneOf sources.now row.now.source.0 × IsOneOf targets.now row.now.target.0) }
+{
+    is_one_of(sources, row.source) && is_one_of(targets, row.target)
+}
+
+/// The rows that lead from one of the sources to one of the targets, in their order.
+pub(crate) fn rows_between(
+    alloc: Global,
+    rows: &[Row],
+    sources: &[ObjNo],
+    targets: &[ObjNo],
+) -> Result<Vec<Row>, AllocError>
+    requires order { Ordered RowBefore rows.now }
+    requires sources { Rise sources.now }
+    requires targets { Rise targets.now }
+    ensures { IfOk result (λ kept. AreKept (λ (o : ℕ) (p : ℕ). IsOneOf sources.now o × IsOneOf targets.now p) rows.now kept.items) }
+{
+    let mut kept = Vec::new(alloc);
+    for row in rows {
+        if leads_between(row, sources, targets) {
+            kept.push(*row)?;
+        }
+    }
+    Ok(kept)
+}

@@ -1,0 +1,101 @@
+//! Composition: the ways from one source after the other, by the rows that depart where they arrive.
+
+ghost use Rattle.std.specs.Prelude.{◌≡◌, ◌⊎◌, ◌↔◌, ◌<◌, ◌≤◌, length, take, drop, slice_get, Option, Some, None, IfOk, OnOk, IsTrue};
+ghost use Rattle.itpg_base.specs.declared.object_number.ObjNo.{ObjNo as PlainObjNo};
+ghost use Rattle.itpg_base.specs.Points.{Point};
+ghost use Rattle.zone_core.specs.declared.Bounds.{Bounds};
+ghost use Rattle.band_normal.specs.Lists.{Among, Ordered};
+ghost use Rattle.band_normal.specs.Bands.{IsWellFormed};
+ghost use Rattle.relation_rows.specs.declared.rows.Row.{Row as PlainRow};
+ghost use Rattle.relation_rows.specs.Rows.{RowBefore, RowsHold};
+ghost use Rattle.relation_rows.specs.Answers.{Gives};
+ghost use Rattle.relation_rows.specs.Relations.{ItemsHold};
+ghost use Rattle.relation_rows.specs.Timetables.{IsTimetable};
+ghost use Rattle.relation_rows.specs.Ways.{ItemThere, GoesOn, AllGoOn};
+
+use crate::gather::{Item, gathered_of};
+use crate::relations::Relation;
+use crate::rows::{RelFault, Row};
+use crate::timetable::{Stop, departing};
+use band_normal::zone_of;
+use itpg_base::ObjNo;
+use std::alloc::{AllocError, Global};
+use zone_compose::{arrivals, compose};
+use zone_core::Zone;
+
+fn push_there(
+    items: &mut Vec<Item>,
+    source: ObjNo,
+    target: ObjNo,
+    zone: Option<Zone>,
+) -> Result<(), AllocError>
+    ensures { OnOk result ((x : Point) → (y : Point) → ItemsHold items.new.items x y ↔ (ItemsHold items.old.items x y ⊎ ItemThere source target zone x y)) }
+{
+    if let Some(zone) = zone {
+        items.push((source, target, zone))?;
+    }
+    Ok(())
+}
+
+// Adds the ways that begin with the row.
+fn push_ways(items: &mut Vec<Item>, row: &Row, stops: &[Stop]) -> Result<(), AllocError>
+    requires row { IsWellFormed row.now.band }
+    requires stops { IsTimetable stops.now }
+    ensures { OnOk result ((x : Point) → (y : Point) → ItemsHold items.new.items x y ↔ (ItemsHold items.old.items x y ⊎ GoesOn row.now stops.now x y)) }
+{
+    let zone = zone_of(&row.band);
+    for stop in departing(stops, row.target, arrivals(&zone)) {
+        let way = compose(&zone, &zone_of(&stop.row.band));
+        push_there(items, row.source, stop.row.target, way)?;
+    }
+    Ok(())
+}
+
+// The ways that begin with one of the rows.
+fn ways_from(alloc: Global, rows: &[Row], stops: &[Stop]) -> Result<Vec<Item>, AllocError>
+    requires rows { (r : PlainRow) → Among rows.now r → IsWellFormed r.band }
+    requires stops { IsTimetable stops.now }
+    ensures { IfOk result (λ items. (x : Point) → (y : Point) → ItemsHold items.items x y ↔ AllGoOn rows.now stops.now x y) }
+{
+    let mut items = Vec::new(alloc);
+    for row in rows {
+        push_ways(&mut items, row, stops)?;
+    }
+    Ok(items)
+}
+
+// How many of the rows, from the first on, have its source.
+fn source_count(rows: &[Row], first: &Row) -> usize
+    requires order { Ordered RowBefore rows.now }
+    requires first { slice_get rows.now 0 ≡ Some first.now }
+    ensures some { 0 < result }
+    ensures within { result ≤ length rows.now }
+    ensures same { (r : PlainRow) → Among (take result rows.now) r → r.source.0 ≡ first.now.source.0 }
+    ensures later { (r : PlainRow) → Among (drop result rows.now) r → first.now.source.0 < r.source.0 }
+{
+    rows.partition_point(|row| row.source.0 == first.source.0)
+}
+
+/// The relation of the ways that begin with the rows, which stand in order.
+pub(crate) fn composed(
+    alloc: Global,
+    rows: &[Row],
+    stops: &[Stop],
+    max_rows: usize,
+) -> Result<Relation, RelFault>
+    requires order { Ordered RowBefore rows.now }
+    requires rows { (r : PlainRow) → Among rows.now r → IsWellFormed r.band }
+    requires stops { IsTimetable stops.now }
+    ensures { Gives result (AllGoOn rows.now stops.now) max_rows }
+{
+    let mut done = Vec::new(alloc);
+    let mut left = rows;
+    while let Some(first) = left.first() {
+        let (group, later) = left.split_at(source_count(left, first));
+        let ways = ways_from(alloc, group, stops)?;
+        let more = gathered_of(alloc, ways, max_rows - done.len())?;
+        done.extend_from_slice(&more.rows)?;
+        left = later;
+    }
+    Ok(Relation { rows: done })
+}
