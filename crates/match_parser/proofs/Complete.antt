@@ -11,11 +11,11 @@ use Rattle.match_parser.specs.Heads.{is_mark, is_word, is_both, behind}
 use Rattle.match_parser.specs.Kept.{kept_name}
 use Rattle.match_parser.specs.Translation.{axis_path, node_test}
 use Rattle.match_parser.specs.Grammar.{TimesTree, Once, Starred, FromTo, FromOn, FactTree, PropertyIs, TimeBelow, TimeAt, TimeFrom, Labelled, NodeFact, EdgeFact, ExistsFact, BothTree, ByComma, ByWord, AltTree, OneSeq, MoreSeq, SeqTree, OneRep, MoreRep, RepTree, Repeated, AtomTree, Step, AtLabel, Braced, Asked, Grouped, OrTree, OneAnd, MoreAnd, AndTree, OneUnary, MoreUnary, UnaryTree, Plain, Negated, PrimTree, OfFact, OfPath, OfTests, PatternTree, ChainTree, OnePattern, MorePattern, QueryTree, times_text, fact_text, both_text, alt_text, seq_text, rep_text, atom_text, or_text, and_text, unary_text, prim_text, name_text, label_text, tests_text, pattern_text, chain_text, graph_text, query_text}
-use Rattle.match_parser.specs.Parsing.{Found, then_read, chosen, closing, closed, times_at, label_at, fact_by, fact_at, step_by, step_at, atom_by, prim_by, alt_at, seq_at, rep_at, atom_at, or_at, and_at, unary_at, prim_at, Pattern, Chain, chain_of, with_piece, name_at, and_label, and_tests, tested_by, labelled_by, inside_by, pattern_by, piece_by, chain_at, graph_at, query_at}
-use Rattle.match_parser.proofs.KeptTrees.{times_kept, fact_kept, alt_kept, seq_kept, rep_kept, atom_kept, or_kept, and_kept, unary_kept, prim_kept, with_label_kept, with_tests_kept, name_kept, pattern_kept, chain_kept}
+use Rattle.match_parser.specs.Parsing.{with_graph, rep_by, repeated, bounds_at, most_at, Found, then_read, chosen, closing, closed, times_at, label_at, fact_by, fact_at, step_by, step_at, atom_by, prim_by, alt_at, seq_at, rep_at, atom_at, or_at, and_at, unary_at, prim_at, Pattern, Chain, chain_of, with_piece, name_at, and_label, and_tests, tested_by, labelled_by, inside_by, pattern_by, piece_by, chain_at, graph_at, query_at}
+use Rattle.match_parser.proofs.KeptTrees.{times_value, fact_kept, alt_kept, seq_kept, rep_kept, atom_kept, or_kept, and_kept, unary_kept, prim_kept, with_label_kept, with_tests_kept, name_kept, pattern_kept, chain_kept}
 use Rattle.match_parser.proofs.Fronts.{property_none, axis_again, no_word}
 use Rattle.match_parser.proofs.Lists.{Comes, comes_text, comes_on, begins, goes_on, ends, so_text}
-use Rattle.match_parser.proofs.Levels.{alts_is, seqs_is, ors_is, ands_is, reps_is, atoms_is, unaries_is, prims_is, chains_is, AltSoFar, SeqSoFar, OrSoFar, AndSoFar, ChainSoFar}
+use Rattle.match_parser.proofs.Rules.{alts_is, seqs_is, ors_is, ands_is, reps_is, atoms_is, unaries_is, prims_is, chains_is, AltSoFar, SeqSoFar, OrSoFar, AndSoFar, ChainSoFar}
 use Rattle.match_parser.proofs.Sound.{piece_text, piece_kept, regroup_inside}
 
 -- no number of times stands here
@@ -23,12 +23,12 @@ pub record NoTimes (rest : List Lexeme) : Type 0 where
   pub star : behind (is_mark Star) rest ≡ None
   pub brack : behind (is_mark BrackL) rest ≡ None
 
-times_comes : (t : TimesTree) (p : PathTerm) (rest : List Lexeme) → NoTimes rest → times_at p (times_text t ++ rest) ≡ Some (times_kept t p, rest)
-unfolding times_at
-times_comes Once p rest n = rw (n.star, n.brack) refl
-times_comes Starred p rest n = refl
-times_comes (FromTo a b x y) p rest n = rw (x, y) refl
-times_comes (FromOn a x) p rest n = rw x refl
+times_comes : (t : TimesTree) (rest : List Lexeme) → NoTimes rest → times_at (times_text t ++ rest) ≡ Some (times_value t, rest)
+unfolding times_at bounds_at most_at
+times_comes Once rest n = rw (n.star, n.brack) refl
+times_comes Starred rest n = refl
+times_comes (FromTo a b x y) rest n = rw (x, y) refl
+times_comes (FromOn a x) rest n = rw x refl
 
 fact_comes : (f : FactTree) (rest : List Lexeme) → fact_at (fact_text f ++ rest) ≡ Some (fact_kept f, rest)
 unfolding fact_at label_at
@@ -151,7 +151,7 @@ or_end o rest k so = comes_on or_at 3 (or_text o ++ rest) _ (ends (is_word (keyw
 
 rep_comes : (a : AtomTree) (t : TimesTree) (rest : List Lexeme) → NoTimes rest → Comes atom_at 1 (atom_text a ++ (times_text t ++ rest)) (Some (atom_kept a, times_text t ++ rest)) → Comes rep_at 2 (rep_text (Repeated a t) ++ rest) (Some (rep_kept (Repeated a t), rest))
 rep_comes a t rest n f = comes_text rep_at 2 ((atom_text a ++ times_text t) ++ rest) (atom_text a ++ (times_text t ++ rest)) _ (append_assoc (atom_text a) (times_text t) rest)
-    (comes_on rep_at 1 (atom_text a ++ (times_text t ++ rest)) _ (λ m h. reps_is m (atom_text a ++ (times_text t ++ rest)) ∙ ap (λ (o : Found PathTerm). then_read o times_at) (f m h) ∙ times_comes t (atom_kept a) rest n))
+    (comes_on rep_at 1 (atom_text a ++ (times_text t ++ rest)) _ (λ m h. reps_is m (atom_text a ++ (times_text t ++ rest)) ∙ ap rep_by (f m h) ∙ ap (λ (o : Found (Option (ℕ × Option ℕ))). then_read o (λ v after. let r : Found PathTerm = Some (repeated v (atom_kept a), after) in r)) (times_comes t rest n)))
 
 atom_comes_text : (text : List Lexeme) (rest : List Lexeme) (p : PathTerm) → ((m : ℕ) → 4 * length (text ++ rest) + 0 ≤ m → atom_by (alt_at m) (or_at m) (text ++ rest) ≡ Some (p, rest)) → Comes atom_at 1 (text ++ rest) (Some (p, rest))
 atom_comes_text text rest p f = comes_on atom_at 0 (text ++ rest) _ (λ m h. atoms_is m (text ++ rest) ∙ f m h)
@@ -298,11 +298,12 @@ graph_front : (g : Option (List ℕ)) → behind (is_mark DashSlash) (graph_text
 graph_front None = refl
 graph_front (Some w) = refl
 
-graph_comes : (c : Chain) (g : Option (List ℕ)) → graph_at c (graph_text g) ≡ Some (c, name_kept g)
-graph_comes c None = refl
-graph_comes c (Some w) = refl
+graph_comes : (g : Option (List ℕ)) → graph_at (graph_text g) ≡ Some (name_kept g)
+unfolding graph_at
+graph_comes None = refl
+graph_comes (Some w) = refl
 
 pub query_comes : (q : QueryTree) → Comes query_at 4 (query_text q) (Some (chain_kept q.chain, name_kept q.graph_name))
 query_comes q m h =
     let chain = ends (is_mark DashSlash) with_piece (λ m. piece_by (alt_at m) (or_at m)) (λ m. pattern_by (or_at m)) chain_of chain_at chains_is 4 (chain_text q.chain ++ graph_text q.graph_name) (graph_text q.graph_name) (chain_kept q.chain) (chain_told q.chain (graph_text q.graph_name)) (graph_front q.graph_name) m (omega (arith, h)) in
-    ap (λ (f : Found Chain). then_read f graph_at) chain ∙ graph_comes (chain_kept q.chain) q.graph_name
+    ap (λ (f : Found Chain). then_read f (λ c after. with_graph c (graph_at after))) chain ∙ ap (with_graph (chain_kept q.chain)) (graph_comes q.graph_name)

@@ -1,17 +1,20 @@
 -- What each tree stands for, with what is kept of its words and numbers.
 use Rattle.std.specs.Prelude.{ℕ, ◌+ℤ◌, pos, List, Option, Some, None}
-use Rattle.path_ast.specs.Terms.{PathTerm, OfTest, Sequence, Choice, Repetition, TestTerm, IsNode, IsEdge, HasLabel, HasValue, IsBelow, DoesExist, Condition, Conjunction, Disjunction, Negation}
+use Rattle.path_ast.specs.Terms.{PathTerm, OfTest, Sequence, Choice, TestTerm, IsNode, IsEdge, HasLabel, HasValue, IsBelow, DoesExist, Condition, Conjunction, Disjunction, Negation}
 use Rattle.match_parser.specs.Grammar.{TimesTree, Once, Starred, FromTo, FromOn, FactTree, PropertyIs, TimeBelow, TimeAt, TimeFrom, Labelled, NodeFact, EdgeFact, ExistsFact, AltTree, OneSeq, MoreSeq, SeqTree, OneRep, MoreRep, RepTree, Repeated, AtomTree, Step, AtLabel, Braced, Asked, Grouped, OrTree, OneAnd, MoreAnd, AndTree, OneUnary, MoreUnary, UnaryTree, Plain, Negated, PrimTree, OfFact, OfPath, OfTests, PatternTree, ChainTree, OnePattern, MorePattern}
 use Rattle.match_parser.specs.Translation.{axis_path, node_test}
 use Rattle.match_parser.specs.Kept.{kept_name, kept_value, kept_count}
-use Rattle.match_parser.specs.Parsing.{Pattern, Chain, chain_of, with_piece}
+use Rattle.match_parser.specs.Parsing.{repeated, Pattern, Chain, chain_of, with_piece}
 
--- the path, so many times
+-- how many times
+abbrev pub times_value : TimesTree → Option (ℕ × Option ℕ)
+times_value Once = None
+times_value Starred = Some (0, None)
+times_value (FromTo n m x y) = Some (kept_count n, Some (kept_count m))
+times_value (FromOn n x) = Some (kept_count n, None)
+
 abbrev pub times_kept : TimesTree → PathTerm → PathTerm
-times_kept Once p = p
-times_kept Starred p = Repetition p 0 None
-times_kept (FromTo n m x y) p = Repetition p (kept_count n) (Some (kept_count m))
-times_kept (FromOn n x) p = Repetition p (kept_count n) None
+times_kept t p = repeated (times_value t) p
 
 -- the moment is k or later
 abbrev pub from_kept : List ℕ → TestTerm

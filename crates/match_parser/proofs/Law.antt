@@ -44,11 +44,11 @@ abbrev reading : Option (Chain × Option (List ℕ)) → Chain × Option (List �
 reading None d = d
 reading (Some x) d = x
 
-record Alike (p q : QueryTree) : Type 0 where
-  chain : exact_chain p.chain ≡ exact_chain q.chain
-  graph_name : p.graph_name ≡ q.graph_name
+pub record Alike (p q : QueryTree) : Type 0 where
+  pub chain : exact_chain p.chain ≡ exact_chain q.chain
+  pub graph_name : p.graph_name ≡ q.graph_name
 
-alike : (ts : List Lexeme) → AllFit ts → (p q : QueryTree) → query_text p ≡ ts → query_text q ≡ ts → Alike p q
+pub alike : (ts : List Lexeme) → AllFit ts → (p q : QueryTree) → query_text p ≡ ts → query_text q ≡ ts → Alike p q
 alike ts fit p q e f =
     let n = 4 * length ts + 4 in
     let at_p : query_at (4 * length ts + 4) ts ≡ Some (chain_kept p.chain, name_kept p.graph_name) =
@@ -67,7 +67,7 @@ alike ts fit p q e f =
 abbrev pub query_from : Chain → Option (List ℕ) → QueryTerm
 query_from c g = record { first = is_some c.first; last = is_some c.last; path = c.path; graph_name = g }
 
-text_fits : (text : List ℕ) (ts : List Lexeme) (end : Option TextCode) → IsText text ts end → AllNumbers ts
+pub text_fits : (text : List ℕ) (ts : List Lexeme) (end : Option TextCode) → IsText text ts end → AllNumbers ts
 text_fits text ts end t = subst AllNumbers t.same (numbers_of text 0 t.placed end t.are)
 
 pub one_query : OneList → (text : List ℕ) (p q : QueryTerm) → Reads text p → Reads text q → p ≡ q
@@ -97,7 +97,7 @@ code_again Terms = refl
 same_place : (c d : TextCode) → text_place c ≡ text_place d → c ≡ d
 same_place c d e = sym (code_again c) ∙ ap code_at e ∙ code_again d
 
-code_small : (c : TextCode) → text_place c < 11
+pub code_small : (c : TextCode) → text_place c < 11
 code_small Long = omega arith
 code_small Byte = omega arith
 code_small Tokens = omega arith
@@ -151,7 +151,7 @@ try : (ts : List Lexeme) (end : Option TextCode) (d : TextCode) → Clean ts end
 try ts end d clean (inl m) next = inl (d, record { meets = m; first = clean })
 try ts end d clean (inr n) next = next (clean_more ts end d clean n)
 
-one_at_least : (c : TextCode) → 1 ≤ text_place c
+pub one_at_least : (c : TextCode) → 1 ≤ text_place c
 one_at_least Long = omega arith
 one_at_least Byte = omega arith
 one_at_least Tokens = omega arith
@@ -226,7 +226,7 @@ tree_decided ts = by_reading (query_at (query_fuel ts) ts) refl
         query_none (chain_kept q.chain, name_kept q.graph_name) (sym e ∙ at))
 
 -- a fact of a query is one of its tokens
-abbrev SameOf : (Chain → Type 0) → QueryTree → Type 0
+abbrev pub SameOf : (Chain → Type 0) → QueryTree → Type 0
 SameOf P q = P (exact_chain q.chain)
 
 spells_decided : (ts : List Lexeme) → AllFit ts → (q : QueryTree) → query_text q ≡ ts → (P : Chain → Type 0) → Decided (P (exact_chain q.chain)) → Decided (SpellsSome ts (SameOf P))

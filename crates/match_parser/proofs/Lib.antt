@@ -2,7 +2,11 @@ pub mod Fronts
 pub mod Lists
 pub mod KeptTrees
 pub mod Sound
-pub mod Levels
+pub mod Rules
 pub mod Complete
 pub mod Fits
 pub mod Law
+pub mod Steps
+pub mod Scanning
+pub mod Small
+pub mod Whole

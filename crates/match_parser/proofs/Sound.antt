@@ -4,7 +4,7 @@ use Rattle.std.specs.Prelude.{if◌then◌else◌}
 use Rattle.script_lex.specs.declared.mark.Mark.{Mark}
 use Rattle.script_lex.specs.declared.mark.Mark.TheVariants.{DashSlash, SlashDash, AtLeast, ParenL, ParenR, BraceL, BraceR, BrackL, BrackR, Colon, Comma, Plus, Star, Slash, Ask, Equal, Less, Under}
 use Rattle.script_lex.specs.Lexemes.{Lexeme, AWord, ANumber, AQuote, AMark}
-use Rattle.path_ast.specs.Terms.{PathTerm, OfTest, Sequence, Choice, Repetition, TestTerm, IsNode, IsEdge, HasLabel, HasValue, IsBelow, DoesExist, Condition, Conjunction, Disjunction, Negation}
+use Rattle.path_ast.specs.Terms.{PathTerm, OfTest, Sequence, Choice, TestTerm, IsNode, IsEdge, HasLabel, HasValue, IsBelow, DoesExist, Condition, Conjunction, Disjunction, Negation}
 use Rattle.match_parser.specs.declared.words.Keyword.{Keyword}
 use Rattle.match_parser.specs.declared.words.Keyword.TheVariants.{Not, And, Or, Node, Edge, Exists, Time}
 use Rattle.match_parser.specs.declared.words.Axis.{Axis}
@@ -13,8 +13,8 @@ use Rattle.match_parser.specs.Heads.{is_mark, is_word, is_both, behind, keyword_
 use Rattle.match_parser.specs.Kept.{kept_name, kept_value, kept_count}
 use Rattle.match_parser.specs.Translation.{axis_path, node_test}
 use Rattle.match_parser.specs.Grammar.{TimesTree, Once, Starred, FromTo, FromOn, FactTree, PropertyIs, TimeBelow, TimeAt, TimeFrom, Labelled, NodeFact, EdgeFact, ExistsFact, AltTree, OneSeq, MoreSeq, SeqTree, OneRep, MoreRep, RepTree, Repeated, AtomTree, Step, AtLabel, Braced, Asked, Grouped, OrTree, OneAnd, MoreAnd, AndTree, OneUnary, MoreUnary, UnaryTree, Plain, Negated, PrimTree, OfFact, OfPath, OfTests, PatternTree, ChainTree, OnePattern, MorePattern, QueryTree, times_text, fact_text, both_text, alt_text, seq_text, rep_text, atom_text, or_text, and_text, unary_text, prim_text, name_text, label_text, tests_text, pattern_text, chain_text, graph_text, query_text}
-use Rattle.match_parser.specs.Parsing.{Found, then_read, chosen, closing, closed, more_by, word_at, quote_at, number_at, moment_at, count_at, most_at, bounds_at, times_at, label_at, time_at, fact_by, fact_at, step_by, step_at, asked_by, atom_by, unary_by, prim_by, alt_at, seq_at, rep_at, atom_at, or_at, and_at, unary_at, prim_at, Pattern, Chain, chain_of, with_piece, name_at, and_label, and_tests, inside_by, pattern_by, piece_by, chain_at, ended, graph_at, query_at}
-use Rattle.match_parser.proofs.KeptTrees.{times_kept, fact_kept, alt_kept, seq_kept, rep_kept, atom_kept, or_kept, and_kept, unary_kept, prim_kept, with_label_kept, with_tests_kept, name_kept, pattern_kept, chain_kept}
+use Rattle.match_parser.specs.Parsing.{with_graph, repeated, Found, then_read, chosen, closing, closed, more_by, word_at, quote_at, number_at, moment_at, count_at, most_at, bounds_at, times_at, label_at, time_at, fact_by, fact_at, step_by, step_at, asked_by, atom_by, unary_by, prim_by, alt_at, seq_at, rep_at, atom_at, or_at, and_at, unary_at, prim_at, Pattern, Chain, chain_of, with_piece, name_at, and_label, and_tests, inside_by, pattern_by, piece_by, chain_at, ended, graph_at, query_at}
+use Rattle.match_parser.proofs.KeptTrees.{times_value, times_kept, fact_kept, alt_kept, seq_kept, rep_kept, atom_kept, or_kept, and_kept, unary_kept, prim_kept, with_label_kept, with_tests_kept, name_kept, pattern_kept, chain_kept}
 use Rattle.match_parser.proofs.Fronts.{mark_is, word_is, both_is, behind_mark, behind_word, ByFront, chosen_ok, chosen_only, then_ok, keyword_is, keyword_none, axis_is, same_found}
 use Rattle.match_parser.proofs.Lists.{Spelled, more_sound}
 
@@ -83,44 +83,58 @@ closed_sound {X} m f x rest h =
     let end = closing_sound m b.part x b.middle rest b.goes in
     record { middle = b.middle; was = b.was ∙ ap (λ (v : X). let o : Option (X × List Lexeme) = Some (v, b.middle) in o) end.0; mark = end.1 }
 
-record TimesSpelled (p : PathTerm) (ts : List Lexeme) (z : PathTerm) (rest : List Lexeme) : Type 0 where
+record TimesSpelled (ts : List Lexeme) (v : Option (ℕ × Option ℕ)) (rest : List Lexeme) : Type 0 where
   tree : TimesTree
-  is : times_kept tree p ≡ z
+  is : times_value tree ≡ v
   spells : ts ≡ times_text tree ++ rest
 
-most_sound : (p : PathTerm) (n : List ℕ) (x : is_signed n ≡ false) (ts : List Lexeme) (z : PathTerm) (rest : List Lexeme) → most_at p (kept_count n) ts ≡ Some (z, rest) → TimesSpelled p (AMark BrackL ∷ ANumber n ∷ AMark Comma ∷ ts) z rest
-most_sound p n x ts z rest h = elim (chosen_ok (behind (is_mark Under) ts) (closing BrackR (Repetition p (kept_count n) None)) (then_read (count_at ts) (λ m after. closing BrackR (Repetition p (kept_count n) (Some m)) after)) (z, rest) h) [
+abbrev Bounds : Type 0
+Bounds = ℕ × Option ℕ
+
+most_sound : (n : List ℕ) (x : is_signed n ≡ false) (ts : List Lexeme) (m : Option ℕ) (after rest : List Lexeme) → most_at ts ≡ Some (m, after) → after ≡ AMark BrackR ∷ rest → TimesSpelled (AMark BrackL ∷ ANumber n ∷ AMark Comma ∷ ts) (Some (kept_count n, m)) rest
+unfolding most_at
+most_sound n x ts m after rest h end = elim (chosen_ok (behind (is_mark Under) ts) (λ r. Some (None, r)) (then_read (count_at ts) (λ k r. Some (Some k, r))) (m, after) h) [
   | inl f ↦
-      let end = closing_sound BrackR (Repetition p (kept_count n) None) z f.rest rest f.goes in
+      let same = same_found None m f.rest after f.goes in
       let mark = behind_mark Under ts f.rest f.front in
-      record { tree = FromOn n x; is = end.0; spells = cc }
+      record { tree = FromOn n x; is = ap (λ (k : Option ℕ). let b : Option Bounds = Some (kept_count n, k) in b) same.0; spells = ap (λ (l : List Lexeme). AMark BrackL ∷ ANumber n ∷ AMark Comma ∷ l) (mark ∙ ap (λ (l : List Lexeme). AMark Under ∷ l) (same.1 ∙ end)) }
   | inr e ↦
-      let b = then_ok (count_at ts) (λ m after. closing BrackR (Repetition p (kept_count n) (Some m)) after) (z, rest) e.1 in
-      let m = count_sound ts b.part b.middle b.was in
-      let end = closing_sound BrackR (Repetition p (kept_count n) (Some b.part)) z b.middle rest b.goes in
-      record { tree = FromTo n m.number x m.unsigned; is = ap (λ (k : ℕ). Repetition p (kept_count n) (Some k)) m.is ∙ end.0; spells = cc }
+      let b = then_ok (count_at ts) (λ k r. let o : Found (Option ℕ) = Some (Some k, r) in o) (m, after) e.1 in
+      let k = count_sound ts b.part b.middle b.was in
+      let same = same_found (Some b.part) m b.middle after b.goes in
+      record { tree = FromTo n k.number x k.unsigned; is = ap (λ (c : ℕ). let b : Option Bounds = Some (kept_count n, Some c) in b) k.is ∙ ap (λ (c : Option ℕ). let b : Option Bounds = Some (kept_count n, c) in b) same.0; spells = ap (λ (l : List Lexeme). AMark BrackL ∷ ANumber n ∷ AMark Comma ∷ l) (k.spells ∙ ap (λ (l : List Lexeme). ANumber k.number ∷ l) (same.1 ∙ end)) }
 ]
 
-times_sound : (p : PathTerm) (ts : List Lexeme) (z : PathTerm) (rest : List Lexeme) → times_at p ts ≡ Some (z, rest) → TimesSpelled p ts z rest
+bounds_sound : (ts : List Lexeme) (v : Bounds) (rest : List Lexeme) → bounds_at ts ≡ Some (v, rest) → TimesSpelled (AMark BrackL ∷ ts) (Some v) rest
+unfolding bounds_at
+bounds_sound ts v rest h =
+    let b = then_ok (count_at ts) (λ n r. chosen (behind (is_mark Comma) r) (λ after. then_read (most_at after) (λ m end. closing BrackR (let b : Bounds = (n, m) in b) end)) None) (v, rest) h in
+    let n = count_sound ts b.part b.middle b.was in
+    let g = chosen_only (behind (is_mark Comma) b.middle) (λ after. then_read (most_at after) (λ m end. closing BrackR (let x : Bounds = (b.part, m) in x) end)) (v, rest) b.goes in
+    let c = then_ok (most_at g.rest) (λ m end. closing BrackR (let x : Bounds = (b.part, m) in x) end) (v, rest) g.goes in
+    let end = closing_sound BrackR (let x : Bounds = (b.part, c.part) in x) v c.middle rest c.goes in
+    let m = most_sound n.number n.unsigned g.rest c.part c.middle rest c.was end.1 in
+    let comma = behind_mark Comma b.middle g.rest g.front in
+    record {
+      tree = m.tree;
+      is = m.is ∙ ap (λ (k : ℕ). let x : Option Bounds = Some (k, c.part) in x) n.is ∙ ap (λ (x : Bounds). let y : Option Bounds = Some x in y) end.0;
+      spells = ap (λ (l : List Lexeme). AMark BrackL ∷ l) (n.spells ∙ ap (λ (l : List Lexeme). ANumber n.number ∷ l) comma) ∙ m.spells;
+    }
+
+times_sound : (ts : List Lexeme) (v : Option Bounds) (rest : List Lexeme) → times_at ts ≡ Some (v, rest) → TimesSpelled ts v rest
 unfolding times_at
-times_sound p ts z rest h = elim (chosen_ok (behind (is_mark Star) ts) (λ r. Some (Repetition p 0 None, r)) (chosen (behind (is_mark BrackL) ts) (bounds_at p) (Some (p, ts))) (z, rest) h) [
+times_sound ts v rest h = elim (chosen_ok (behind (is_mark Star) ts) (λ r. let o : Found (Option Bounds) = Some (Some (0, None), r) in o) (chosen (behind (is_mark BrackL) ts) (λ r. then_read (bounds_at r) (λ b after. let o : Found (Option Bounds) = Some (Some b, after) in o)) (Some (None, ts))) (v, rest) h) [
   | inl f ↦
-      let same = same_found (Repetition p 0 None) z f.rest rest f.goes in
+      let same = same_found (let x : Option Bounds = Some (0, None) in x) v f.rest rest f.goes in
       let mark = behind_mark Star ts f.rest f.front in
-      record { tree = Starred; is = same.0; spells = cc }
-  | inr d ↦ elim (chosen_ok (behind (is_mark BrackL) ts) (bounds_at p) (Some (p, ts)) (z, rest) d.1) [
+      record { tree = Starred; is = same.0; spells = mark ∙ ap (λ (l : List Lexeme). AMark Star ∷ l) same.1 }
+  | inr d ↦ elim (chosen_ok (behind (is_mark BrackL) ts) (λ r. then_read (bounds_at r) (λ b after. let o : Found (Option Bounds) = Some (Some b, after) in o)) (let o : Found (Option Bounds) = Some (None, ts) in o) (v, rest) d.1) [
     | inl f ↦
-        let b = then_ok (count_at f.rest) (λ n after. chosen (behind (is_mark Comma) after) (most_at p n) None) (z, rest) f.goes in
-        let n = count_sound f.rest b.part b.middle b.was in
-        let g = chosen_only (behind (is_mark Comma) b.middle) (most_at p b.part) (z, rest) b.goes in
-        let comma = behind_mark Comma b.middle g.rest g.front in
-        let mark = behind_mark BrackL ts f.rest f.front in
-        let m = most_sound p n.number n.unsigned g.rest z rest (ap (λ (k : ℕ). most_at p k g.rest) n.is ∙ g.goes) in
-        let front : ts ≡ AMark BrackL ∷ ANumber n.number ∷ AMark Comma ∷ g.rest = mark ∙ ap (λ (l : List Lexeme). AMark BrackL ∷ l) (n.spells ∙ ap (λ (l : List Lexeme). ANumber n.number ∷ l) comma) in
-        record { tree = m.tree; is = m.is; spells = front ∙ m.spells }
-    | inr e ↦
-        let same = same_found p z ts rest e.1 in
-        record { tree = Once; is = same.0; spells = same.1 }
+        let b = then_ok (bounds_at f.rest) (λ b after. let o : Found (Option Bounds) = Some (Some b, after) in o) (v, rest) f.goes in
+        let same = same_found (let x : Option Bounds = Some b.part in x) v b.middle rest b.goes in
+        let t = bounds_sound f.rest b.part b.middle b.was in
+        record { tree = t.tree; is = t.is ∙ same.0; spells = behind_mark BrackL ts f.rest f.front ∙ t.spells ∙ ap (λ (l : List Lexeme). times_text t.tree ++ l) same.1 }
+    | inr e ↦ let same = same_found (let x : Option Bounds = None in x) v ts rest e.1 in record { tree = Once; is = same.0; spells = same.1 }
   ]
 ]
 
@@ -367,10 +381,16 @@ mutual
   rep_sound : (n : ℕ) (ts : List Lexeme) (p : PathTerm) (rest : List Lexeme) → rep_at n ts ≡ Some (p, rest) → RepSpelled ts p rest
   rep_sound zero ts p rest h = absurd (let none : ⊥ = cc in none)
   rep_sound (suc n) ts p rest h =
-      let b = then_ok (atom_at n ts) times_at (p, rest) h in
+      let b = then_ok (atom_at n ts) (λ q r. then_read (times_at r) (λ t after. let o : Found PathTerm = Some (repeated t q, after) in o)) (p, rest) h in
       let a = atom_sound n ts b.part b.middle b.was in
-      let t = times_sound b.part b.middle p rest b.goes in
-      record { tree = Repeated a.tree t.tree; is = ap (times_kept t.tree) a.is ∙ t.is; spells = times_joined a.tree t.tree ts b.middle rest a.spells t.spells }
+      let c = then_ok (times_at b.middle) (λ t after. let o : Found PathTerm = Some (repeated t b.part, after) in o) (p, rest) b.goes in
+      let t = times_sound b.middle c.part c.middle c.was in
+      let same = same_found (repeated c.part b.part) p c.middle rest c.goes in
+      record {
+        tree = Repeated a.tree t.tree;
+        is = ap (times_kept t.tree) a.is ∙ ap (λ (v : Option Bounds). repeated v b.part) t.is ∙ same.0;
+        spells = times_joined a.tree t.tree ts b.middle rest a.spells (t.spells ∙ ap (λ (l : List Lexeme). times_text t.tree ++ l) same.1);
+      }
 
   atom_sound : (n : ℕ) (ts : List Lexeme) (p : PathTerm) (rest : List Lexeme) → atom_at n ts ≡ Some (p, rest) → AtomSpelled ts p rest
   atom_sound zero ts p rest h = absurd (let none : ⊥ = cc in none)
@@ -507,33 +527,44 @@ ended_sound : {X : Type 0} (x y : X) (ts : List Lexeme) → ended x ts ≡ Some 
 ended_sound {X = X} x y [] h = (ap (λ (o : Option X). ended_or o x) h, refl)
 ended_sound x y (t ∷ ts) h = absurd (let none : ⊥ = cc in none)
 
-record GraphSpelled (d : Chain) (ts : List Lexeme) (x : Chain × Option (List ℕ)) : Type 0 where
+record GraphSpelled (ts : List Lexeme) (g : Option (List ℕ)) : Type 0 where
   name : Option (List ℕ)
-  is : (let y : Chain × Option (List ℕ) = (d, name_kept name) in y) ≡ x
+  is : name_kept name ≡ g
   spells : ts ≡ graph_text name
 
-graph_sound : (d : Chain) (ts : List Lexeme) (x : Chain × Option (List ℕ)) → graph_at d ts ≡ Some x → GraphSpelled d ts x
-graph_sound d ts x h = elim (chosen_ok (behind (is_word on_text) ts) (λ rest. then_read (word_at rest) (λ w end. ended (let y : Chain × Option (List ℕ) = (d, Some (kept_name w)) in y) end)) (ended (let y : Chain × Option (List ℕ) = (d, None) in y) ts) x h) [
+graph_sound : (ts : List Lexeme) (g : Option (List ℕ)) → graph_at ts ≡ Some g → GraphSpelled ts g
+unfolding graph_at
+graph_sound ts g h = elim (chosen_ok (behind (is_word on_text) ts) (λ rest. then_read (word_at rest) (λ w end. ended (Some (kept_name w)) end)) (ended None ts) g h) [
   | inl f ↦
-      let b = then_ok (word_at f.rest) (λ w end. ended (let y : Chain × Option (List ℕ) = (d, Some (kept_name w)) in y) end) x f.goes in
-      let e = ended_sound (let y : Chain × Option (List ℕ) = (d, Some (kept_name b.part)) in y) x b.middle b.goes in
+      let b = then_ok (word_at f.rest) (λ w end. ended (Some (kept_name w)) end) g f.goes in
+      let e = ended_sound (Some (kept_name b.part)) g b.middle b.goes in
       record {
         name = Some b.part;
         is = e.0;
         spells = behind_word on_text ts f.rest f.front ∙ ap (λ (l : List Lexeme). AWord on_text ∷ l) (word_sound f.rest b.part b.middle b.was ∙ ap (λ (l : List Lexeme). AWord b.part ∷ l) e.1);
       }
-  | inr g ↦ let e = ended_sound (let y : Chain × Option (List ℕ) = (d, None) in y) x ts g.1 in record { name = None; is = e.0; spells = e.1 }
+  | inr k ↦ let e = ended_sound None g ts k.1 in record { name = None; is = e.0; spells = e.1 }
 ]
+
+record GraphOf (c : Chain) (o : Option (Option (List ℕ))) (x : Chain × Option (List ℕ)) : Type 0 where
+  graph : Option (List ℕ)
+  was : o ≡ Some graph
+  is : (let y : Chain × Option (List ℕ) = (c, graph) in y) ≡ x
+
+graph_of : (c : Chain) (o : Option (Option (List ℕ))) (x : Chain × Option (List ℕ)) → with_graph c o ≡ Some x → GraphOf c o x
+graph_of c None x h = absurd (let none : ⊥ = cc in none)
+graph_of c (Some g) x h = record { graph = g; was = refl; is = ap (λ (o : Option (Chain × Option (List ℕ))). ended_or o (c, g)) h }
 
 pub query_sound : (n : ℕ) (ts : List Lexeme) (x : Chain × Option (List ℕ)) → query_at n ts ≡ Some x → Whole ts x.0 x.1
 query_sound n ts x h =
-    let f = chosen_only (behind (is_word match_text) ts) (λ rest. then_read (chain_at n rest) graph_at) x h in
-    let b = then_ok (chain_at n f.rest) graph_at x f.goes in
+    let f = chosen_only (behind (is_word match_text) ts) (λ rest. then_read (chain_at n rest) (λ c after. with_graph c (graph_at after))) x h in
+    let b = then_ok (chain_at n f.rest) (λ c after. with_graph c (graph_at after)) x f.goes in
     let c = chain_sound n f.rest b.part b.middle b.was in
-    let g = graph_sound b.part b.middle x b.goes in
+    let k = graph_of b.part (graph_at b.middle) x b.goes in
+    let g = graph_sound b.middle k.graph k.was in
     record {
       tree = record { chain = c.tree; graph_name = g.name };
-      chain = c.is ∙ ap (λ (y : Chain × Option (List ℕ)). y.0) g.is;
-      graph = ap (λ (y : Chain × Option (List ℕ)). y.1) g.is;
+      chain = c.is ∙ ap (λ (y : Chain × Option (List ℕ)). y.0) k.is;
+      graph = g.is ∙ ap (λ (y : Chain × Option (List ℕ)). y.1) k.is;
       spells = sym (behind_word match_text ts f.rest f.front ∙ ap (λ (l : List Lexeme). AWord match_text ∷ l) (c.spells ∙ ap (λ (l : List Lexeme). chain_text c.tree ++ l) g.spells));
     }

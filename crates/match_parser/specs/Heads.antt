@@ -38,7 +38,7 @@ behind test [] = None
 behind test (t ∷ ts) = if test t then Some ts else None
 
 abbrev pub all_keywords : List Keyword
-all_keywords = Not ∷ And ∷ Or ∷ Node ∷ Edge ∷ Exists ∷ Time ∷ []
+all_keywords = Exists ∷ Node ∷ Edge ∷ Time ∷ Not ∷ And ∷ Or ∷ []
 
 -- the keyword that the word is
 abbrev pub keyword_of : List ℕ → Option Keyword

@@ -9,9 +9,13 @@ use Rattle.script_lex.specs.Numbers.{digits_of, number_value}
 unfoldable pub kept_name : List ℕ → List ℕ
 kept_name w = if nat_le (length w) 64 then w else []
 
--- the bytes are a number from -10^12 to 10^12
+-- the bytes are a number: one digit or more, with or without a `-` before them
+abbrev pub is_number : List ℕ → Bool
+is_number n = not (nat_eq (length (digits_of n)) 0) && list_all is_ascii_digit (digits_of n)
+
+-- one from -10^12 to 10^12
 abbrev pub is_tame : List ℕ → Bool
-is_tame n = (not (nat_eq (length (digits_of n)) 0) && list_all is_ascii_digit (digits_of n)) && nat_le (digits_value 10 (digits_of n)) 1000000000000
+is_tame n = is_number n && nat_le (digits_value 10 (digits_of n)) 1000000000000
 
 -- the number, where it is
 unfoldable pub kept_value : List ℕ → ℤ

@@ -6,3 +6,8 @@ pub mod Reading
 pub mod Heads
 pub mod Kept
 pub mod Parsing
+pub mod Gives
+pub mod Views
+pub mod Scans
+pub mod Later
+pub mod Answers

@@ -69,16 +69,25 @@ moment_at ts = then_read (number_at ts) (λ n rest. Some (kept_value n, rest))
 abbrev pub count_at : List Lexeme → Found ℕ
 count_at ts = then_read (number_at ts) (λ n rest. if is_signed n then None else Some (kept_count n, rest))
 
--- behind `[ n ,`
-abbrev pub most_at : PathTerm → ℕ → List Lexeme → Found PathTerm
-most_at p n ts = chosen (behind (is_mark Under) ts) (closing BrackR (Repetition p n None)) (then_read (count_at ts) (λ m rest. closing BrackR (Repetition p n (Some m)) rest))
+-- behind `[ n ,`: the most, or `_`
+unfoldable pub most_at : List Lexeme → Found (Option ℕ)
+most_at ts = chosen (behind (is_mark Under) ts) (λ rest. Some (None, rest)) (then_read (count_at ts) (λ m rest. Some (Some m, rest)))
 
--- behind `[`
-abbrev pub bounds_at : PathTerm → List Lexeme → Found PathTerm
-bounds_at p ts = then_read (count_at ts) (λ n rest. chosen (behind (is_mark Comma) rest) (most_at p n) None)
+-- behind `[`: the least and the most
+unfoldable pub bounds_at : List Lexeme → Found (ℕ × Option ℕ)
+bounds_at ts = then_read (count_at ts) (λ n rest. chosen (behind (is_mark Comma) rest) (λ after. then_read (most_at after) (λ m end. closing BrackR (let b : ℕ × Option ℕ = (n, m) in b) end)) None)
 
-unfoldable pub times_at : PathTerm → List Lexeme → Found PathTerm
-times_at p ts = chosen (behind (is_mark Star) ts) (λ rest. Some (Repetition p 0 None, rest)) (chosen (behind (is_mark BrackL) ts) (bounds_at p) (Some (p, ts)))
+-- how many times, or nothing
+unfoldable pub times_at : List Lexeme → Found (Option (ℕ × Option ℕ))
+times_at ts = chosen (behind (is_mark Star) ts) (λ rest. Some (Some (0, None), rest)) (chosen (behind (is_mark BrackL) ts) (λ rest. then_read (bounds_at rest) (λ b after. Some (Some b, after))) (Some (None, ts)))
+
+-- the path so many times
+abbrev pub repeated : Option (ℕ × Option ℕ) → PathTerm → PathTerm
+repeated None p = p
+repeated (Some b) p = Repetition p b.0 b.1
+
+abbrev pub rep_by : Found PathTerm → Found PathTerm
+rep_by f = then_read f (λ p rest. then_read (times_at rest) (λ t after. Some (repeated t p, after)))
 
 -- behind `:`
 unfoldable pub label_at : List Lexeme → Found TestTerm
@@ -151,7 +160,7 @@ unfoldable mutual
 
   pub rep_at : ℕ → List Lexeme → Found PathTerm
   rep_at zero ts = None
-  rep_at (suc n) ts = then_read (atom_at n ts) times_at
+  rep_at (suc n) ts = rep_by (atom_at n ts)
 
   pub atom_at : ℕ → List Lexeme → Found PathTerm
   atom_at zero ts = None
@@ -233,9 +242,13 @@ ended x [] = Some x
 ended x (t ∷ ts) = None
 
 -- the name of the graph, if there is one, and the end
-abbrev pub graph_at : Chain → List Lexeme → Option (Chain × Option (List ℕ))
-graph_at c ts = chosen (behind (is_word on_text) ts) (λ rest. then_read (word_at rest) (λ w end. ended (c, Some (kept_name w)) end)) (ended (c, None) ts)
+unfoldable pub graph_at : List Lexeme → Option (Option (List ℕ))
+graph_at ts = chosen (behind (is_word on_text) ts) (λ rest. then_read (word_at rest) (λ w end. ended (Some (kept_name w)) end)) (ended None ts)
+
+abbrev pub with_graph : Chain → Option (Option (List ℕ)) → Option (Chain × Option (List ℕ))
+with_graph c None = None
+with_graph c (Some g) = Some (c, g)
 
 -- the whole of a query
 abbrev pub query_at : ℕ → List Lexeme → Option (Chain × Option (List ℕ))
-query_at n ts = chosen (behind (is_word match_text) ts) (λ rest. then_read (chain_at n rest) graph_at) None
+query_at n ts = chosen (behind (is_word match_text) ts) (λ rest. then_read (chain_at n rest) (λ c after. with_graph c (graph_at after))) None

@@ -5,9 +5,23 @@
 //! in order. It promises that a text reads as at most one query, and as one exactly where it has no fault.
 #![tactic(auto)]
 
+mod build;
+mod checks;
+mod facts;
 mod fault;
+mod front;
+mod kept;
 mod laws;
+mod levels;
+mod patterns;
+mod reading;
+mod scan;
+mod times;
 mod words;
 
 pub use fault::QueryFault;
 pub use laws::law_of_queries;
+pub use reading::read_query;
+
+#[cfg(test)]
+mod tests;

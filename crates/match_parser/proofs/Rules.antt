@@ -6,7 +6,7 @@ use Rattle.path_ast.specs.Terms.{PathTerm, Sequence, Choice, TestTerm, Conjuncti
 use Rattle.match_parser.specs.declared.words.Keyword.TheVariants.{Or}
 use Rattle.match_parser.specs.Words.{keyword_text}
 use Rattle.match_parser.specs.Heads.{is_mark, is_word, is_both}
-use Rattle.match_parser.specs.Parsing.{then_read, more_by, times_at, atom_by, unary_by, prim_by, alt_at, seq_at, rep_at, atom_at, or_at, and_at, unary_at, prim_at, Chain, chain_of, with_piece, pattern_by, piece_by, chain_at}
+use Rattle.match_parser.specs.Parsing.{rep_by, then_read, more_by, atom_by, unary_by, prim_by, alt_at, seq_at, rep_at, atom_at, or_at, and_at, unary_at, prim_at, Chain, chain_of, with_piece, pattern_by, piece_by, chain_at}
 use Rattle.match_parser.proofs.Lists.{SoFar}
 
 pub alts_is : (m : ℕ) (ts : List Lexeme) → alt_at (suc m) ts ≡ then_read (seq_at m ts) (λ z rest. more_by (is_mark Plus) Choice (seq_at m) m z rest)
@@ -25,7 +25,7 @@ pub ands_is : (m : ℕ) (ts : List Lexeme) → and_at (suc m) ts ≡ then_read (
 unfolding alt_at
 ands_is m ts = refl
 
-pub reps_is : (m : ℕ) (ts : List Lexeme) → rep_at (suc m) ts ≡ then_read (atom_at m ts) times_at
+pub reps_is : (m : ℕ) (ts : List Lexeme) → rep_at (suc m) ts ≡ rep_by (atom_at m ts)
 unfolding alt_at
 reps_is m ts = refl
 
