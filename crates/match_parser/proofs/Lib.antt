@@ -1,0 +1,12 @@
+pub mod Fronts
+pub mod Lists
+pub mod KeptTrees
+pub mod Sound
+pub mod Rules
+pub mod Complete
+pub mod Fits
+pub mod Law
+pub mod Steps
+pub mod Scanning
+pub mod Small
+pub mod Whole

@@ -1,0 +1,10 @@
+-- What the reader answers where it gives no query.
+use Rattle.std.specs.Prelude.{ℕ, List}
+use Rattle.match_parser.specs.declared.fault.QueryFault.{QueryFault}
+use Rattle.match_parser.specs.declared.fault.QueryFault.TheVariants.{Memory, Bad}
+use Rattle.match_parser.specs.Reading.{FaultOf}
+
+-- the text's first fault, or want of memory
+abbrev pub IsFault : List ℕ → QueryFault → Type 0
+IsFault text Memory = Unit {0}
+IsFault text (Bad code) = FaultOf text code

@@ -1,0 +1,13 @@
+pub mod Words
+pub mod Grammar
+pub mod Translation
+pub mod Faults
+pub mod Reading
+pub mod Heads
+pub mod Kept
+pub mod Parsing
+pub mod Gives
+pub mod Views
+pub mod Scans
+pub mod Later
+pub mod Answers

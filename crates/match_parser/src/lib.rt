@@ -1,0 +1,27 @@
+//! The reader of query texts.
+//!
+//! Stands on `script_lex`, whose tokens a text is made of, and on `path_ast`, whose queries it stands for.
+//! Its definitions (`specs/`) are the grammar as trees with their spelling and their translation, and the faults of a text
+//! in order. It promises that a text reads as at most one query, and as one exactly where it has no fault.
+#![tactic(auto)]
+
+mod build;
+mod checks;
+mod facts;
+mod fault;
+mod front;
+mod kept;
+mod laws;
+mod levels;
+mod patterns;
+mod reading;
+mod scan;
+mod times;
+mod words;
+
+pub use fault::QueryFault;
+pub use laws::law_of_queries;
+pub use reading::read_query;
+
+#[cfg(test)]
+mod tests;
