@@ -84,11 +84,11 @@ fn edits_are_made_and_refused(rt: HostRuntime) -> Result<(), Fail> {
 #[test]
 fn a_family_has_4096_spans(rt: HostRuntime) -> Result<(), Fail> {
     let (mut graph, id) = with_a(rt.alloc())?;
-    for i in 0..4_096i64 {
+    for i in 0..4_096u16 {
         let live = Edit::Live {
             id,
-            from: 2 * i,
-            to: 2 * i,
+            from: 2 * i64::from(i),
+            to: 2 * i64::from(i),
         };
         apply(&mut graph, &live).ok().ok_or("live")?;
     }
