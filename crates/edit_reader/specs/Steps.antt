@@ -6,6 +6,7 @@ use Rattle.itpg_base.specs.declared.text_code.TextCode.{TextCode}
 use Rattle.itpg_edit.specs.declared.edit.Edit.{Edit}
 use Rattle.script_lex.specs.Lexemes.{Lexeme, AWord, ANumber, AQuote}
 use Rattle.script_lex.specs.Numbers.{digits_of, number_value}
+use Rattle.edit_reader.specs.Faults.{max_name}
 use Rattle.edit_reader.specs.Readings.{Reading, Changes, Watches, Shows, Unwatches, Ticks}
 
 -- what a line asks for, or its fault
@@ -42,7 +43,7 @@ moment_then number go_on = if is_near number then go_on (number_value number) el
 
 -- with a text that is short enough for a name
 abbrev pub name_then : Word → (Word → Told) → Told
-name_then text go_on = if nat_le (length text) 64 then go_on text else Err TextCode.Name
+name_then text go_on = if nat_le (length text) max_name then go_on text else Err TextCode.Name
 
 -- two numbers, and nothing behind them
 abbrev pub span_then : List Lexeme → (ℤ → ℤ → Told) → Told

@@ -5,6 +5,7 @@ use Rattle.script_lex.specs.Lexemes.{Lexeme, AWord, ANumber, AQuote, AMark}
 use Rattle.script_lex.specs.Lines.{Placed}
 use Rattle.edit_reader.specs.Readings.{Reading}
 use Rattle.edit_reader.specs.Forms.{form_of, parts_of}
+use Rattle.edit_reader.specs.Faults.{max_tokens, max_name}
 use Rattle.edit_reader.specs.Steps.{Told, is_near}
 
 -- this, where each number is near enough
@@ -18,8 +19,8 @@ near (AMark mark ∷ rest) go_on = near rest go_on
 -- this, where each word and each quoted text is short enough
 abbrev pub short : List Lexeme → Told → Told
 short [] go_on = go_on
-short (AWord word ∷ rest) go_on = if nat_le (length word) 64 then short rest go_on else Err TextCode.Name
-short (AQuote text ∷ rest) go_on = if nat_le (length text) 64 then short rest go_on else Err TextCode.Name
+short (AWord word ∷ rest) go_on = if nat_le (length word) max_name then short rest go_on else Err TextCode.Name
+short (AQuote text ∷ rest) go_on = if nat_le (length text) max_name then short rest go_on else Err TextCode.Name
 short (ANumber number ∷ rest) go_on = short rest go_on
 short (AMark mark ∷ rest) go_on = short rest go_on
 
@@ -40,7 +41,7 @@ end_told None go_on = go_on
 
 -- the faults of the tokens as they are, before their form
 abbrev pub tokens_told : Option TextCode → ℕ → Told → Told
-tokens_told end count go_on = if is_byte end then Err TextCode.Byte else (if nat_lt 4096 count then Err TextCode.Tokens else end_told end go_on)
+tokens_told end count go_on = if is_byte end then Err TextCode.Byte else (if nat_lt max_tokens count then Err TextCode.Tokens else end_told end go_on)
 
 -- what a line of these tokens is
 abbrev pub line_told : List ℕ → List Placed → Option TextCode → Told
