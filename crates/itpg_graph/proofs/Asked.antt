@@ -2,10 +2,10 @@
 use Rattle.std.proofs.Common.{◌≡◌, ◌≢◌, ℕ, suc, ◌+◌, ◌≤◌, ℤ, List, [], ◌⊎◌, inl, inr, length, Option, Some, None, refl, sym, ap, ◌∙◌, subst, arith}
 use borrow.Author.Differences.{up, down}
 use Rattle.std.proofs.lemmas.Int.{ints}
-use Rattle.std.specs.Prelude.{slice_get, IsTrue, IsSomeAnd}
+use Rattle.std.specs.Prelude.{slice_get, IsTrue, IsSomeAnd, IsNone, IfSome, unwrap_or, option_map}
 use Rattle.itpg_base.specs.Words.{Word}
 use Rattle.itpg_base.specs.Spans.{Span, Within, Covers}
-use Rattle.itpg_base.specs.Graphs.{Graph, Object, Ends, Valued, ObjectIs, Stands, HasEnd, Val}
+use Rattle.itpg_base.specs.Graphs.{Graph, Object, Begun, InHorizon, Ends, Valued, ObjectIs, Stands, HasEnd, Val}
 use Rattle.itpg_base.specs.declared.object_number.ObjNo.{ObjNo}
 use Rattle.itpg_base.proofs.Objects.{there, here, same_some}
 use Rattle.itpg_base.proofs.Searches.{both, fails, some_from}
@@ -114,3 +114,24 @@ uncovered live s not_all = elim (some_from (suc (up s.to + down s.from)) s.from 
     | inr missing ↦ let from = w.begun in let to = w.going in absurd (none (t, from, omega (arith, ints), (w, missing)))
   ]))
 ]
+
+-- the values of a property, or none
+pub values_or_none : {X : Type 0} (now : X → List Valued) (found : Option X) (none : X) (g : Graph) (o : ℕ) (name : Word) → IfSome found (λ x. AreRunsOf (Val g o name) (now x)) → (IsNone found → (t : ℤ) (value : Word) → ¬ Val g o name t value)
+    → now none ≡ [] → AreRunsOf (Val g o name) (now (unwrap_or found none))
+values_or_none now None none g o name some never empty = subst (AreRunsOf (Val g o name)) (sym empty) (no_value g o name (never refl))
+values_or_none now (Some x) none g o name some never empty = some
+
+-- what `horizon` says of the graph's moments
+pub into_horizon : (g : Graph) (h : Span) (t : ℤ) → Some h ≡ option_map (λ b. b.horizon) g.begun → Within t h → InHorizon g t
+into_horizon g h t e w = by_begun g.begun e
+  where
+    by_begun : (b : Option Begun) → Some h ≡ option_map (λ b. b.horizon) b → IsSomeAnd b (λ b. Within t b.horizon)
+    by_begun None e = let never : ⊥ = cc in absurd never
+    by_begun (Some b) e = let same : h ≡ b.horizon = cc in subst (Within t) same w
+
+pub out_of_horizon : (g : Graph) (h : Span) (t : ℤ) → Some h ≡ option_map (λ b. b.horizon) g.begun → InHorizon g t → Within t h
+out_of_horizon g h t e w = by_begun g.begun e w
+  where
+    by_begun : (b : Option Begun) → Some h ≡ option_map (λ b. b.horizon) b → IsSomeAnd b (λ b. Within t b.horizon) → Within t h
+    by_begun None e w = absurd w
+    by_begun (Some b) e w = let same : h ≡ b.horizon = cc in subst (Within t) (sym same) w
