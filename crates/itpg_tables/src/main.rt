@@ -5,6 +5,7 @@
 #![tactic(auto)]
 
 mod lines;
+mod queries;
 
 use anyhow::Result;
 use band_normal::normal;
@@ -35,5 +36,6 @@ fn main(rt: HostRuntime) -> Result<()> {
         }
     }
     println!(rt; "{alike} of {lists} lists alike")?;
+    queries::compare(&rt)?;
     Ok(())
 }
