@@ -35,11 +35,11 @@ abbrev pub AllFit : List Lexeme → Type 0
 AllFit [] = Unit {0}
 AllFit (t ∷ ts) = Fits t × AllFit ts
 
-fit_front : (xs ys : List Lexeme) → AllFit (xs ++ ys) → AllFit xs
+pub fit_front : (xs ys : List Lexeme) → AllFit (xs ++ ys) → AllFit xs
 fit_front [] ys h = tt
 fit_front (x ∷ xs) ys h = (h.0, fit_front xs ys h.1)
 
-fit_back : (xs ys : List Lexeme) → AllFit (xs ++ ys) → AllFit ys
+pub fit_back : (xs ys : List Lexeme) → AllFit (xs ++ ys) → AllFit ys
 fit_back [] ys h = h
 fit_back (x ∷ xs) ys h = fit_back xs ys h.1
 
@@ -51,7 +51,7 @@ pub value_fits : (n : List ℕ) → is_tame n ≡ true → kept_value n ≡ numb
 unfolding kept_value
 value_fits n h = rw h refl
 
-unsigned_digits : (n : List ℕ) → is_signed n ≡ false → digits_of n ≡ n
+pub unsigned_digits : (n : List ℕ) → is_signed n ≡ false → digits_of n ≡ n
 unsigned_digits n h = rw h refl
 
 count_fits : (n : List ℕ) → is_tame n ≡ true → is_signed n ≡ false → kept_count n ≡ digits_value 10 n
@@ -179,7 +179,7 @@ first_true : (a b : Bool) → (a && b) ≡ true → a ≡ true
 first_true true b e = refl
 first_true false b e = e
 
-second_true : (a b : Bool) → (a && b) ≡ true → b ≡ true
+pub second_true : (a b : Bool) → (a && b) ≡ true → b ≡ true
 second_true true b e = e
 second_true false b e = absurd (let none : ⊥ = cc in none)
 

@@ -10,3 +10,4 @@ pub mod Steps
 pub mod Scanning
 pub mod Small
 pub mod Whole
+pub mod InRange

@@ -70,11 +70,11 @@ first_or_rest : (a b : Bool) → (a || b) ≡ true → (a ≡ true) ⊎ (b ≡ t
 first_or_rest true b e = inl refl
 first_or_rest false b e = inr e
 
-neither_first : (a b : Bool) → (a || b) ≡ false → a ≡ false
+pub neither_first : (a b : Bool) → (a || b) ≡ false → a ≡ false
 neither_first true b e = e
 neither_first false b e = refl
 
-neither_rest : (a b : Bool) → (a || b) ≡ false → b ≡ false
+pub neither_rest : (a b : Bool) → (a || b) ≡ false → b ≡ false
 neither_rest true b e = absurd (true≢false e)
 neither_rest false b e = e
 

@@ -24,7 +24,7 @@ pub(crate) fn keep_name(word: &[u8]) -> Name
     }
 }
 
-// Whether the bytes are a number.
+// Whether the bytes are a number. Those of a number token are: this asks again, so that no call above has to say so.
 fn is_number(bytes: &[u8]) -> bool
     ensures { result ≡ number bytes.now }
 {

@@ -1,7 +1,8 @@
 //! The laws of query texts. Each is the contract of a function that does nothing of use when it runs.
-ghost use Rattle.std.specs.Prelude.{◌≡◌, ◌⊎◌, ℕ, List};
+ghost use Rattle.std.specs.Prelude.{◌≡◌, ◌⊎◌, ◌≤◌, ◌||◌, ℕ, List, IsTrue};
 ghost use Rattle.itpg_base.specs.declared.text_code.TextCode.{TextCode};
 ghost use Rattle.path_ast.specs.Terms.{QueryTerm};
+ghost use Rattle.path_ast.specs.Sizes.{path_size, IsPathInRange};
 ghost use Rattle.match_parser.specs.Reading.{Reads, FaultOf};
 
 use script_lex::law_of_tokens;
@@ -15,3 +16,10 @@ pub fn law_of_queries()
 {
     law_of_tokens();
 }
+
+/// What a text reads as is in range, has at most 1,024 terms, and asks for an end of its path or for both.
+pub fn law_of_read_queries()
+    ensures range { (text : List ℕ) (q : QueryTerm) → Reads text q → IsPathInRange q.path }
+    ensures terms { (text : List ℕ) (q : QueryTerm) → Reads text q → path_size q.path ≤ 1024 }
+    ensures ends { (text : List ℕ) (q : QueryTerm) → Reads text q → IsTrue (q.first || q.last) }
+{}
