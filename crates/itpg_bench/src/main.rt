@@ -1,9 +1,9 @@
 //! Measures calls of the layers over made-up input.
 //!
-//! The words `union`, `chain` and `middle` measure calls of `relation_rows`, and the next word is how many rows there are,
-//! at most a million. Two numbers measure `normal`: how many zones there are, at most a million, and how many moments lie
-//! between one zone's first departure and the next's. Without words each is measured, at 1,000 rows or zones. The number
-//! of rows or bands goes to standard output, and the time to standard error.
+//! The words `union`, `chain`, `middle` and `lasting` measure calls of `relation_rows`, and the next word is how many rows
+//! there are, at most a million. Two numbers measure `normal`: how many zones there are, at most a million, and how many
+//! moments lie between one zone's first departure and the next's. Without words each is measured, at 1,000 rows or zones.
+//! The number of rows or bands goes to standard output, and the time to standard error.
 #![tactic(auto)]
 
 mod relations;
@@ -38,7 +38,8 @@ fn measure_each(rt: &HostRuntime) -> Result<()> {
     zones::measure(rt, FEW, 7)?;
     Workload::Union.measure(rt, FEW)?;
     Workload::Chain.measure(rt, FEW)?;
-    Workload::Middle.measure(rt, FEW)
+    Workload::Middle.measure(rt, FEW)?;
+    Workload::Lasting.measure(rt, FEW)
 }
 
 fn workload(word: &str) -> Option<Workload> {
@@ -46,6 +47,7 @@ fn workload(word: &str) -> Option<Workload> {
         "union" => Some(Workload::Union),
         "chain" => Some(Workload::Chain),
         "middle" => Some(Workload::Middle),
+        "lasting" => Some(Workload::Lasting),
         _ => None,
     }
 }

@@ -11,7 +11,7 @@ use zone_core::Zone;
 
 const MOST_ROWS: u32 = 2_000_000;
 
-// No other row has this object, as there are fewer rows.
+// Above the numbers of all other objects.
 const MIDDLE: u32 = 2_000_000;
 
 type Item = (ObjNo, ObjNo, Zone);
@@ -27,6 +27,9 @@ pub(crate) enum Workload {
     /// The composition of two relations with all rows each, all to one object and all from it. Each leads there at a span
     /// of its own, and one leads on then.
     Middle,
+    /// As [`Workload::Middle`], with one more row in the second relation, from the one object to itself, that lasts as long
+    /// as all others together.
+    Lasting,
 }
 
 impl Workload {
@@ -51,6 +54,7 @@ impl Workload {
             Workload::Union => "union",
             Workload::Chain => "chain",
             Workload::Middle => "middle",
+            Workload::Lasting => "lasting",
         }
     }
 
@@ -59,7 +63,12 @@ impl Workload {
         for index in 0..self.each(count) {
             match self {
                 Workload::Union | Workload::Chain => add(&mut items, index, index + 1, 0)?,
-                Workload::Middle => add(&mut items, index, MIDDLE, begin(index))?,
+                Workload::Middle | Workload::Lasting => add(
+                    &mut items,
+                    index,
+                    MIDDLE,
+                    begin(index),
+                )?,
             }
         }
         given(Relation::from_zones(alloc, items, MOST_ROWS))
@@ -71,11 +80,16 @@ impl Workload {
             match self {
                 Workload::Union => add(&mut items, index, index + 1, later(index))?,
                 Workload::Chain => add(&mut items, index + 1, index.saturating_add(2), 5)?,
-                Workload::Middle => {
+                Workload::Middle | Workload::Lasting => {
                     let begin = begin(index).saturating_add(5);
                     add(&mut items, MIDDLE, count.saturating_sub(index), begin)?;
                 }
             }
+        }
+        if let Workload::Lasting = self
+            && let Some(zone) = diagonal(0, whole(begin(count)))
+        {
+            items.push((ObjNo(MIDDLE), ObjNo(MIDDLE), zone))?;
         }
         given(Relation::from_zones(alloc, items, MOST_ROWS))
     }
@@ -83,7 +97,9 @@ impl Workload {
     fn answer(self, first: &Relation, second: &Relation) -> Result<Relation, RelFault> {
         match self {
             Workload::Union => first.union(second, MOST_ROWS),
-            Workload::Chain | Workload::Middle => first.compose(second, MOST_ROWS),
+            Workload::Chain | Workload::Middle | Workload::Lasting => first.compose(
+                second, MOST_ROWS,
+            ),
         }
     }
 
@@ -91,15 +107,17 @@ impl Workload {
     fn each(self, count: u32) -> u32 {
         match self {
             Workload::Union => count / 2,
-            Workload::Chain | Workload::Middle => count,
+            Workload::Chain | Workload::Middle | Workload::Lasting => count,
         }
     }
 
-    // How many rows the answer has. A union has two at each third object, where the spans lie apart, and else one.
+    // How many rows the answer has. A union has two at each third object, where the spans lie apart, and else one. Where a
+    // row lasts, each row of the first relation goes on in two.
     fn right(self, count: u32) -> u32 {
         match self {
             Workload::Union => count / 2 + count / 2 / 3,
             Workload::Chain | Workload::Middle => count,
+            Workload::Lasting => count.saturating_mul(2),
         }
     }
 }
