@@ -4,6 +4,7 @@
 //! call gives something else, and how many cases are alike.
 #![tactic(auto)]
 
+mod edit_lists;
 mod list_lines;
 mod lists;
 mod script_lines;
@@ -12,5 +13,6 @@ use anyhow::Result;
 
 fn main(rt: HostRuntime) -> Result<()> {
     lists::compare(&rt)?;
-    script_lines::compare(&rt)
+    script_lines::compare(&rt)?;
+    edit_lists::compare(&rt)
 }
