@@ -1,15 +1,13 @@
 -- Relations that hold the same pairs have the same normal rows, and normal rows are those of the relation that they hold.
-use Rattle.std.proofs.Common.{◌≡◌, ◌⊎◌, inl, inr, ⊎_elim, ℕ, ◌+◌, ◌<◌, ◌≤◌, ℤ, pos, ◌+ℤ◌, ◌-ℤ◌, ◌≤ℤ◌, List, [], ◌∷◌, ◌++◌, length, refl, sym, ◌∙◌, ap, subst, arith}
+use Rattle.std.proofs.Common.{ℕ, ℤ, List, subst, arith}
 use Rattle.std.proofs.lemmas.Int.{ints}
 use Rattle.itpg_base.specs.Points.{Point, Relation}
-use Rattle.itpg_base.proofs.PointSearch.{point_ext}
 use Rattle.band_normal.specs.declared.band.Band.{Band}
-use Rattle.band_normal.specs.Lists.{Among, Ordered}
+use Rattle.band_normal.specs.Lists.{Among}
 use Rattle.band_normal.specs.Bands.{InBand, IsWellFormed, end_at}
 use Rattle.band_normal.specs.Normal.{IsRun, IsRow}
 use Rattle.relation_rows.specs.declared.rows.Row.{Row}
 use Rattle.relation_rows.specs.Rows.{between, InRow, RowsHold, NormalRows, Fits, IsWide, IsRelation}
-use Rattle.relation_rows.proofs.Listed.{rows_unique}
 
 run_alike : (R S : ℤ → ℤ → Type 0) → ((t u : ℤ) → R t u → S t u) → ((t u : ℤ) → S t u → R t u) → (t l h : ℤ) → IsRun R t l h → IsRun S t l h
 run_alike R S f g t l h r = record { some = r.some; each = λ u a b. f t u (r.each u a b); below = λ q. r.below (g t _ q); above = λ q. r.above (g t _ q) }

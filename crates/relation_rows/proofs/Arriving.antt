@@ -1,19 +1,18 @@
 -- The moments at which bands and rows depart and arrive.
-use Rattle.std.proofs.Common.{◌≡◌, ◌↔◌, ◌⊎◌, inl, inr, ⊎_elim, ℕ, ◌+◌, ◌<◌, ◌≤◌, ℤ, ◌+ℤ◌, ◌-ℤ◌, ◌≤ℤ◌, List, [], ◌∷◌, ◌++◌, length, slice_index_or, take, refl, sym, ◌∙◌, ap, subst, arith, length-append}
-use Rattle.std.proofs.lemmas.Int.{ints, clamps, by_lt_z}
+use Rattle.std.proofs.Common.{◌≡◌, ◌↔◌, ◌⊎◌, inl, inr, ⊎_elim, ℕ, ◌+◌, ◌<◌, ◌≤◌, ℤ, ◌-ℤ◌, ◌≤ℤ◌, List, [], ◌∷◌, ◌++◌, length, slice_index_or, take, refl, sym, subst, arith, length-append}
+use Rattle.std.proofs.lemmas.Int.{ints, by_lt_z}
 use Rattle.std.proofs.lemmas.List.{take_all}
-use Rattle.itpg_base.specs.declared.object_number.ObjNo.{ObjNo}
 use Rattle.itpg_base.specs.Spans.{Span, Within, IsSpan}
 use Rattle.itpg_base.specs.Points.{Point}
 use Rattle.band_normal.specs.declared.band.End.{End}
 use Rattle.band_normal.specs.declared.band.End.TheVariants.{Fixed, Moving}
 use Rattle.band_normal.specs.declared.band.Band.{Band}
 use Rattle.band_normal.specs.Lists.{Among}
-use Rattle.band_normal.specs.Bands.{InBand, IsWellFormed, end_at}
+use Rattle.band_normal.specs.Bands.{IsWellFormed, end_at}
 use Rattle.band_normal.proofs.Lists.{among_append, among_at}
 use Rattle.relation_rows.specs.declared.rows.Row.{Row}
 use Rattle.relation_rows.specs.declared.times.OneRow.{OneRow}
-use Rattle.relation_rows.specs.Rows.{InRow, RowsHold}
+use Rattle.relation_rows.specs.Rows.{InRow}
 use Rattle.relation_rows.specs.Times.{InTime, TimesHold, Departs, Arrives, DepartsIn, ArrivesIn}
 use Rattle.relation_rows.proofs.Pushing.{rows_more}
 use Rattle.relation_rows.proofs.Coalescing.{hold_more}

@@ -1,16 +1,13 @@
 -- One-time rows that are joined where they overlap or touch.
-use Rattle.std.proofs.Common.{◌≡◌, ◌↔◌, ◌⊎◌, inl, inr, ⊎_elim, ℕ, zero, suc, ◌+◌, ◌-◌, ◌<◌, ◌≤◌, ℤ, pos, ◌+ℤ◌, ◌≤ℤ◌, ◌<ℤ◌, List, [], ◌∷◌, ◌++◌, length, get_or, slice_index_or, take, drop, Option, Some, None, refl, sym, ◌∙◌, ap, subst, arith, length-append, Bool, true, false, true≢false}
+use Rattle.std.proofs.Common.{◌≡◌, ◌↔◌, ◌⊎◌, inl, inr, ⊎_elim, ℕ, ◌<◌, ◌≤◌, ℤ, pos, ◌+ℤ◌, ◌≤ℤ◌, ◌<ℤ◌, List, [], ◌∷◌, ◌++◌, length, refl, sym, ◌∙◌, ap, subst, arith, length-append}
 use Rattle.std.proofs.lemmas.Int.{ints, clamps, by_lt_z}
-use Rattle.std.proofs.lemmas.List.{take_more, take_all}
-use Rattle.std.proofs.lemmas.Bool.Decides.{eqb_tells}
-use Rattle.std.specs.Prelude.{slice_get}
 use Rattle.std.specs.Int.{int_max}
 use Rattle.itpg_base.specs.Spans.{Span, Within, IsSpan}
 use Rattle.itpg_base.specs.declared.object_number.ObjNo.{ObjNo}
 use Rattle.band_normal.specs.Lists.{Among, Ordered}
-use Rattle.band_normal.proofs.Lists.{among_append, append_first, append_second, append_ordered, ordered_first, ordered_across, ordered_at}
+use Rattle.band_normal.proofs.Lists.{among_append, append_first, append_second, append_ordered, ordered_first, ordered_across}
 use Rattle.relation_rows.specs.declared.times.OneRow.{OneRow}
-use Rattle.relation_rows.specs.Times.{InTime, TimesHold, TimeBefore, TimeUpTo, AreTimes, IsOneTime, Joins}
+use Rattle.relation_rows.specs.Times.{InTime, TimesHold, TimeBefore, TimeUpTo, AreTimes, Joins}
 
 pub both_moments : (a b c : Span) → c.from ≡ a.from → c.to ≡ int_max a.to b.to → IsSpan a → a.from ≤ℤ b.from → b.from ≤ℤ (a.to +ℤ pos 1) → (t : ℤ) → Within t c ↔ (Within t a ⊎ Within t b)
 both_moments a b c e f span up near t = (

@@ -1,24 +1,22 @@
 -- Rows of a composition, one source after the other.
-use Rattle.std.proofs.Common.{◌≡◌, ◌↔◌, ◌⊎◌, inl, inr, ⊎_elim, ℕ, ◌+◌, ◌-◌, ◌<◌, ◌≤◌, ℤ, List, [], ◌∷◌, ◌++◌, length, take, drop, Option, Some, None, Result, Ok, Err, refl, sym, ◌∙◌, ap, subst, arith, length-append}
+use Rattle.std.proofs.Common.{◌≡◌, ◌↔◌, ◌⊎◌, inl, inr, ⊎_elim, ℕ, ◌-◌, ◌<◌, ◌≤◌, List, [], ◌∷◌, ◌++◌, length, take, drop, Some, None, Err, refl, sym, ◌∙◌, subst, arith, length-append}
 use Rattle.std.specs.Prelude.{slice_get}
-use Rattle.itpg_base.specs.Decided.{Decided}
 use Rattle.itpg_base.specs.Points.{Point, Relation}
 use Rattle.itpg_base.proofs.Searches.{same_number}
-use Rattle.band_normal.specs.declared.band.Band.{Band}
 use Rattle.band_normal.specs.Lists.{Among, Ordered}
-use Rattle.band_normal.specs.Bands.{InBand, IsWellFormed, end_at}
+use Rattle.band_normal.specs.Bands.{IsWellFormed, end_at}
 use Rattle.band_normal.proofs.Lists.{among_append, append_ordered}
 use Rattle.relation_rows.specs.declared.rows.Row.{Row}
 use Rattle.relation_rows.specs.declared.rows.RelFault.{RelFault}
 use Rattle.relation_rows.specs.declared.rows.RelFault.TheVariants.{Memory, Wide}
 use Rattle.relation_rows.specs.declared.timetable.Stop.{Stop}
-use Rattle.relation_rows.specs.Rows.{between, InRow, RowsHold, KeyBefore, RowBefore, NormalRows, IsWide, IsRelation}
+use Rattle.relation_rows.specs.Rows.{between, RowsHold, RowBefore, NormalRows, IsWide}
 use Rattle.relation_rows.specs.Answers.{Gives}
 use Rattle.relation_rows.specs.Relations.{Item, ItemsHold, HasMiddlePoint}
 use Rattle.relation_rows.specs.Timetables.{StopsHold}
 use Rattle.relation_rows.specs.Ways.{AllGoOn}
 use Rattle.relation_rows.proofs.Listed.{Listed, join, goes_further, normal_of, listed_of, carried, row_apart, ordered_fewer}
-use Rattle.relation_rows.proofs.Alike.{row_alike, rows_alike, row_start, in_relation, relation_of}
+use Rattle.relation_rows.proofs.Alike.{row_alike, rows_alike, row_start, in_relation}
 use Rattle.relation_rows.proofs.Keeping.{kept_exists, kept_normal}
 use Rattle.relation_rows.proofs.Partitions.{among_either, front_among, rest_among, rest_ordered, first_among}
 

@@ -4,7 +4,6 @@ use Rattle.std.specs.Bool.{Decides}
 use Rattle.std.proofs.lemmas.Bool.Decides.{Decides-int_eq, Decides-eqb}
 use Rattle.band_normal.specs.declared.band.End.{End}
 use Rattle.band_normal.specs.declared.band.End.TheVariants.{Fixed, Moving}
-use Rattle.band_normal.specs.declared.band.Band.{Band}
 use Rattle.band_normal.specs.contracts.band.EndPartialEq.TheImpl as ends
 use Rattle.relation_rows.specs.declared.rows.Row.{Row}
 use Rattle.relation_rows.specs.contracts.rows.RowPartialEq.TheImpl as rows

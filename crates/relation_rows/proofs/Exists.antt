@@ -1,5 +1,5 @@
 -- A decided relation of finitely many points has a normal list, which is within a limit or above it.
-use Rattle.std.proofs.Common.{◌≡◌, ◌⊎◌, inl, inr, ℕ, ◌<◌, ◌≤◌, ℤ, Bool, List, length, subst, arith}
+use Rattle.std.proofs.Common.{◌⊎◌, inl, inr, ℕ, ◌<◌, ℤ, Bool, List, length, subst, arith}
 use Rattle.std.specs.Prelude.{IsTrue}
 use Rattle.itpg_base.specs.Decided.{Decided}
 use Rattle.itpg_base.specs.Points.{Point, Relation}

@@ -1,24 +1,21 @@
 -- Rows gathered from items in order, one source and target after the other.
-use Rattle.std.proofs.Common.{◌≡◌, ◌↔◌, ◌⊎◌, inl, inr, ⊎_elim, ℕ, zero, suc, ◌+◌, ◌<◌, ◌≤◌, ℤ, List, [], ◌∷◌, ◌++◌, length, map, take, drop, get_or, Option, Some, None, refl, sym, ◌∙◌, ap, subst, arith, Bool, true, false, ◌&&◌, eqb, true≢false}
+use Rattle.std.proofs.Common.{◌≡◌, ◌↔◌, ◌⊎◌, inl, inr, ⊎_elim, ℕ, ◌<◌, ℤ, List, [], ◌∷◌, ◌++◌, length, map, take, drop, Some, None, refl, sym, ◌∙◌, ap, subst, arith}
 use Rattle.std.specs.Prelude.{slice_get}
-use Rattle.std.proofs.lemmas.Bool.Decides.{eqb_tells}
-use Rattle.itpg_base.specs.Points.{Point, Relation}
-use Rattle.itpg_base.proofs.Searches.{at_most}
-use Rattle.zone_core.specs.declared.Bounds.{Bounds}
+use Rattle.itpg_base.specs.Points.{Point}
 use Rattle.zone_core.specs.Zone.{Meets}
 use Rattle.band_normal.specs.declared.band.Band.{Band}
 use Rattle.band_normal.specs.Lists.{Among, Ordered}
-use Rattle.band_normal.specs.Bands.{InBand, IsWellFormed}
+use Rattle.band_normal.specs.Bands.{IsWellFormed}
 use Rattle.band_normal.specs.Normal.{Normal}
 use Rattle.band_normal.specs.Zones.{SomeMeets}
-use Rattle.band_normal.proofs.Lists.{among_append, append_first, append_second}
+use Rattle.band_normal.proofs.Lists.{among_append}
 use Rattle.band_normal.proofs.Sorting.{normal_like}
 use Rattle.relation_rows.specs.declared.rows.Row.{Row}
 use Rattle.relation_rows.specs.Rows.{between, KeyBefore, NormalRows, IsWide, rows_at}
-use Rattle.relation_rows.specs.Relations.{Item, InItem, ItemsHold}
-use Rattle.relation_rows.specs.Gathering.{HaveOneKey, have_one_key, ItemUpTo}
-use Rattle.relation_rows.proofs.Listed.{Listed, none_listed, normal_of, with_key, wide_early, key_apart, keys_apart, key_either, at_among}
-use Rattle.relation_rows.proofs.Partitions.{among_either, front_among, rest_among, rest_ordered, first_among, first_before}
+use Rattle.relation_rows.specs.Relations.{Item, ItemsHold}
+use Rattle.relation_rows.specs.Gathering.{HaveOneKey, ItemUpTo}
+use Rattle.relation_rows.proofs.Listed.{Listed, normal_of, with_key, wide_early, key_apart, at_among}
+use Rattle.relation_rows.proofs.Partitions.{among_either, front_among, rest_among, rest_ordered, first_among}
 
 -- the key comes before those of the items
 abbrev pub Ahead : List Item → ℕ → ℕ → Type 0

@@ -1,5 +1,5 @@
 -- What answers with a limit say of relations that hold the same pairs.
-use Rattle.std.proofs.Common.{◌≡◌, ℕ, List, Result, Ok, Err, refl, sym, subst}
+use Rattle.std.proofs.Common.{ℕ, List, Result, Ok, Err}
 use Rattle.itpg_base.specs.Points.{Point, Relation}
 use Rattle.relation_rows.specs.declared.rows.Row.{Row}
 use Rattle.relation_rows.specs.declared.rows.RelFault.{RelFault}

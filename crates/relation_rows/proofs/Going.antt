@@ -1,5 +1,5 @@
 -- Ways that begin with a row, and those that begin with one of some rows.
-use Rattle.std.proofs.Common.{◌≡◌, ◌↔◌, ◌⊎◌, inl, inr, ⊎_elim, ℕ, ◌+◌, ◌<◌, ◌≤◌, ℤ, ◌≤ℤ◌, List, [], ◌∷◌, ◌++◌, length, slice_index_or, take, Option, Some, None, refl, sym, ◌∙◌, ap, subst, arith}
+use Rattle.std.proofs.Common.{◌≡◌, ◌↔◌, ◌⊎◌, inl, inr, ⊎_elim, ℕ, ◌+◌, ◌<◌, ◌≤◌, ℤ, ◌≤ℤ◌, List, [], ◌∷◌, ◌++◌, length, slice_index_or, take, Option, Some, None, refl, sym, ◌∙◌, subst, arith}
 use Rattle.std.proofs.lemmas.Int.{ints}
 use Rattle.std.proofs.lemmas.List.{take_more, take_all}
 use Rattle.itpg_base.specs.declared.object_number.ObjNo.{ObjNo}
@@ -13,8 +13,7 @@ use Rattle.band_normal.proofs.Lists.{among_append, append_first, append_second, 
 use Rattle.relation_rows.specs.declared.rows.Row.{Row}
 use Rattle.relation_rows.specs.declared.timetable.Stop.{Stop}
 use Rattle.relation_rows.specs.Rows.{InRow, RowsHold}
-use Rattle.relation_rows.specs.Relations.{Item, InItem, ItemsHold}
-use Rattle.relation_rows.specs.Timetables.{StopsHold}
+use Rattle.relation_rows.specs.Relations.{Item, ItemsHold}
 use Rattle.relation_rows.specs.Ways.{ItemThere, GoesOn, AllGoOn}
 use Rattle.relation_rows.proofs.Pushing.{items_more, rows_more}
 

@@ -1,12 +1,11 @@
 -- Whether some of the rows of one source and one target has a pair.
-use Rattle.std.proofs.Common.{◌≡◌, ◌↔◌, ◌⊎◌, inl, inr, ⊎_elim, ℕ, zero, suc, ◌+◌, ◌<◌, ◌≤◌, ℤ, List, [], ◌∷◌, ◌++◌, length, take, slice_index_or, refl, sym, ◌∙◌, subst, arith}
+use Rattle.std.proofs.Common.{◌≡◌, ◌↔◌, ⊎_elim, ℕ, ◌+◌, ◌<◌, ◌≤◌, ℤ, List, [], ◌∷◌, length, take, slice_index_or, sym, subst}
 use Rattle.std.proofs.lemmas.List.{take_more, take_all}
-use Rattle.itpg_base.specs.Points.{Point}
 use Rattle.band_normal.specs.Lists.{Among}
 use Rattle.band_normal.specs.Bands.{InBand, IsWellFormed}
 use Rattle.band_normal.proofs.Lists.{among_append, among_at}
 use Rattle.relation_rows.specs.declared.rows.Row.{Row}
-use Rattle.relation_rows.specs.Rows.{HasKey, InRow, RowsHold}
+use Rattle.relation_rows.specs.Rows.{HasKey, RowsHold}
 
 pub found : (rows items : List Row) (o p : ℕ) (t u : ℤ) (i : ℕ) (d : Row) → ((r : Row) → Among items r ↔ (Among rows r × HasKey r o p)) → i < length items → InBand (slice_index_or items i d).band t u
     → RowsHold rows (record { object = o; moment = t }) (record { object = p; moment = u })

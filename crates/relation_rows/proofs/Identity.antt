@@ -1,16 +1,14 @@
 -- Items that lead from each object to itself.
-use Rattle.std.proofs.Common.{◌≡◌, ◌↔◌, ◌⊎◌, inl, inr, ⊎_elim, ℕ, ◌<◌, ℤ, ◌≤ℤ◌, List, [], ◌∷◌, map, Option, Some, None, refl, sym, ◌∙◌, ap, subst, arith}
-use Rattle.std.proofs.lemmas.Int.{ints}
+use Rattle.std.proofs.Common.{◌≡◌, ◌↔◌, inl, inr, ◌<◌, ℤ, List, [], ◌∷◌, map, Option, Some, refl, sym, ◌∙◌, ap, subst}
 use Rattle.itpg_base.specs.declared.object_number.ObjNo.{ObjNo}
-use Rattle.itpg_base.specs.Spans.{Span, Within}
+use Rattle.itpg_base.specs.Spans.{Span}
 use Rattle.itpg_base.specs.Points.{Point}
 use Rattle.itpg_base.proofs.PointSearch.{point_ext}
 use Rattle.zone_core.specs.declared.Bounds.{Bounds}
 use Rattle.zone_core.specs.Zone.{Meets, Holds, IsZoneOf}
 use Rattle.zone_compose.specs.Compose.{Stays}
 use Rattle.band_normal.specs.Lists.{Among, Ordered}
-use Rattle.relation_rows.specs.Rows.{KeyBefore}
-use Rattle.relation_rows.specs.Relations.{Item, InItem, ItemsHold, Rise, IsOneOf, IsItself}
+use Rattle.relation_rows.specs.Relations.{Item, ItemsHold, Rise, IsItself}
 use Rattle.relation_rows.specs.Gathering.{ItemUpTo}
 
 module _ (zone : Bounds) where

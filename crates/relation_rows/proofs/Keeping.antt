@@ -1,14 +1,13 @@
 -- Rows that are kept for their source and target are normal for what leads between these.
-use Rattle.std.proofs.Common.{◌≡◌, ◌⊎◌, inl, inr, ⊎_elim, ℕ, zero, suc, ◌+◌, ◌<◌, ◌≤◌, List, [], ◌∷◌, ◌++◌, length, take, slice_index_or, refl, sym, ◌∙◌, ap, subst, arith}
+use Rattle.std.proofs.Common.{◌≡◌, ◌⊎◌, inl, inr, ⊎_elim, ℕ, zero, suc, ◌+◌, ◌<◌, ◌≤◌, List, [], ◌∷◌, ◌++◌, length, take, slice_index_or, refl, sym, subst}
 use Rattle.std.proofs.lemmas.List.{take_all}
 use Rattle.itpg_base.specs.Decided.{Decided}
-use Rattle.itpg_base.specs.Points.{Point, Relation}
+use Rattle.itpg_base.specs.Points.{Relation}
 use Rattle.itpg_base.specs.declared.object_number.ObjNo.{ObjNo}
 use Rattle.band_normal.specs.Lists.{Among, Ordered}
-use Rattle.band_normal.specs.Bands.{IsWellFormed}
 use Rattle.band_normal.proofs.Lists.{among_append, append_first, append_second, append_ordered, ordered_at}
 use Rattle.relation_rows.specs.declared.rows.Row.{Row}
-use Rattle.relation_rows.specs.Rows.{between, InRow, RowsHold, RowBefore, NormalRows, IsRelation}
+use Rattle.relation_rows.specs.Rows.{between, RowsHold, RowBefore, NormalRows, IsRelation}
 use Rattle.relation_rows.specs.Relations.{IsOneOf, IsBetween}
 use Rattle.relation_rows.specs.Searching.{AreKept}
 use Rattle.relation_rows.proofs.Alike.{row_alike, rows_alike, relation_of}

@@ -1,22 +1,20 @@
 -- Zones, rows and items without the pairs of others.
-use Rattle.std.proofs.Common.{◌≡◌, ◌↔◌, ◌⊎◌, inl, inr, ⊎_elim, ℕ, ◌+◌, ◌-◌, ◌<◌, ◌≤◌, ℤ, ◌≤ℤ◌, List, [], ◌∷◌, ◌++◌, length, map, get_or, slice_index_or, take, drop, Option, Some, None, refl, sym, ◌∙◌, ap, subst, arith, Bool, true, false, true≢false}
+use Rattle.std.proofs.Common.{◌≡◌, ◌↔◌, ◌⊎◌, inl, inr, ⊎_elim, ℕ, ◌+◌, ◌<◌, ◌≤◌, ℤ, ◌≤ℤ◌, List, [], ◌∷◌, ◌++◌, length, slice_index_or, take, Option, Some, None, refl, sym, ◌∙◌, ap, subst, arith}
 use Rattle.std.proofs.lemmas.Int.{ints}
 use Rattle.std.proofs.lemmas.List.{take_more, take_all}
-use Rattle.itpg_base.specs.declared.object_number.ObjNo.{ObjNo}
 use Rattle.itpg_base.specs.Points.{Point}
 use Rattle.zone_core.specs.declared.Bounds.{Bounds}
 use Rattle.zone_core.specs.Zone.{Meets, MeetsFirstOnly, Holds, SomeHolds}
-use Rattle.band_normal.specs.Lists.{Among, Ordered}
-use Rattle.band_normal.specs.Bands.{InBand, IsWellFormed}
+use Rattle.band_normal.specs.Lists.{Among}
+use Rattle.band_normal.specs.Bands.{InBand}
 use Rattle.band_normal.specs.Zones.{SomeMeets}
 use Rattle.band_normal.proofs.Lists.{among_append, append_first, append_second, among_at}
 use Rattle.relation_rows.specs.declared.rows.Row.{Row}
 use Rattle.relation_rows.specs.declared.timetable.Stop.{Stop}
-use Rattle.relation_rows.specs.Rows.{HasKey, InRow, RowsHold}
-use Rattle.relation_rows.specs.Relations.{Item, InItem, ItemsHold}
+use Rattle.relation_rows.specs.Rows.{HasKey}
+use Rattle.relation_rows.specs.Relations.{Item, ItemsHold}
 use Rattle.relation_rows.specs.Rest.{SomeStopHas, IsLeft, AnyIsLeft}
 use Rattle.relation_rows.proofs.Pushing.{items_more}
-use Rattle.relation_rows.proofs.Partitions.{among_more, more_among}
 
 meets_more : (zs : List Bounds) (z : Bounds) (t u : ℤ) → SomeMeets (zs ++ z ∷ []) t u ↔ (SomeMeets zs t u ⊎ Meets z t u)
 meets_more [] z t u = (λ h. ⊎_elim (λ a. inr a) (λ a. absurd a) h, λ h. ⊎_elim (λ a. absurd a) (λ a. inl a) h)

@@ -1,14 +1,13 @@
 -- Rows, zones and items that are pushed one after the other.
-use Rattle.std.proofs.Common.{◌≡◌, ◌↔◌, ◌⊎◌, inl, inr, ⊎_elim, ℕ, ◌+◌, ◌<◌, ◌≤◌, ℤ, List, [], ◌∷◌, ◌++◌, length, map, take, slice_index_or, append_assoc, refl, sym, ◌∙◌, ap, subst, arith}
+use Rattle.std.proofs.Common.{◌≡◌, ◌↔◌, ◌⊎◌, inl, inr, ⊎_elim, ℕ, ◌+◌, ◌<◌, ◌≤◌, ℤ, List, [], ◌∷◌, ◌++◌, length, take, slice_index_or, append_assoc, refl, sym, ◌∙◌, ap, subst}
 use Rattle.std.proofs.lemmas.List.{take_more, take_all}
-use Rattle.itpg_base.specs.declared.object_number.ObjNo.{ObjNo}
-use Rattle.itpg_base.specs.Points.{Point, Relation}
+use Rattle.itpg_base.specs.Points.{Point}
 use Rattle.zone_core.specs.declared.Bounds.{Bounds}
 use Rattle.zone_core.specs.Zone.{Meets}
 use Rattle.band_normal.specs.declared.band.Band.{Band}
 use Rattle.band_normal.specs.Lists.{Among}
 use Rattle.band_normal.specs.Bands.{InBand}
-use Rattle.band_normal.proofs.Lists.{among_append, append_first, append_second, among_at}
+use Rattle.band_normal.proofs.Lists.{among_append, append_first, append_second}
 use Rattle.relation_rows.specs.declared.rows.Row.{Row}
 use Rattle.relation_rows.specs.Rows.{InRow, RowsHold, rows_at}
 use Rattle.relation_rows.specs.Relations.{Item, InItem, ItemsHold}

@@ -1,16 +1,15 @@
 -- The loop that joins one-time rows, and the order in which it takes them.
-use Rattle.std.proofs.Common.{◌≡◌, ◌↔◌, ◌⊎◌, inl, inr, ⊎_elim, ℕ, zero, suc, ◌+◌, ◌-◌, ◌<◌, ◌≤◌, ℤ, ◌+ℤ◌, ◌≤ℤ◌, ◌<ℤ◌, List, [], ◌∷◌, ◌++◌, length, get_or, slice_index_or, take, drop, Option, Some, None, refl, sym, ◌∙◌, ap, subst, arith, length-append, Bool, true, false, true≢false}
+use Rattle.std.proofs.Common.{◌≡◌, ◌↔◌, ◌⊎◌, inl, ⊎_elim, ℕ, ◌+◌, ◌-◌, ◌<◌, ◌≤◌, ℤ, ◌≤ℤ◌, List, [], ◌∷◌, ◌++◌, length, get_or, slice_index_or, take, drop, Some, None, refl, sym, ◌∙◌, ap, subst, arith, false}
 use Rattle.std.proofs.lemmas.Int.{ints}
 use Rattle.std.proofs.lemmas.List.{take_more, take_all, get_or-take, get_or-drop, length-take, length-drop}
 use Rattle.std.specs.Prelude.{slice_get}
 use Rattle.std.specs.Ordering.{nat_cmp, int_cmp, is_lt, ordering_then}
 use Rattle.std.specs.List.Sorted.{IsPermutation}
-use Rattle.itpg_base.specs.declared.object_number.ObjNo.{ObjNo}
-use Rattle.itpg_base.specs.Spans.{Span, Within, IsSpan}
+use Rattle.itpg_base.specs.Spans.{Within, IsSpan}
 use Rattle.band_normal.specs.Lists.{Among, Ordered}
 use Rattle.band_normal.proofs.Lists.{ordered_at, ordered_from_neighbours, permutation_among, among_permutation}
 use Rattle.relation_rows.specs.declared.times.OneRow.{OneRow}
-use Rattle.relation_rows.specs.Times.{InTime, TimesHold, TimeBefore, TimeUpTo, AreTimes, IsOneTime, Joins}
+use Rattle.relation_rows.specs.Times.{TimesHold, TimeUpTo, AreTimes, IsOneTime, Joins}
 use Rattle.relation_rows.proofs.Partitions.{front_among}
 use Rattle.relation_rows.proofs.Stops.{up_to}
 use Rattle.relation_rows.proofs.Coalescing.{Coalesced, coalesced_first, coalesced_joined, coalesced_pushed, time_trans}

@@ -1,11 +1,11 @@
 -- Items that are sorted by source and target.
-use Rattle.std.proofs.Common.{◌≡◌, ◌↔◌, ◌⊎◌, inl, inr, ⊎_elim, ℕ, ◌+◌, ◌<◌, ◌≤◌, List, [], ◌∷◌, length, get_or, Bool, true, false, refl, sym, ◌∙◌, ap, subst, arith, true≢false}
+use Rattle.std.proofs.Common.{◌≡◌, ◌⊎◌, inl, inr, ℕ, ◌+◌, ◌<◌, ◌≤◌, List, length, get_or, false, sym, ◌∙◌, subst, arith, true≢false}
 use Rattle.std.specs.Ordering.{nat_cmp, is_lt, ordering_then}
 use Rattle.std.specs.declared.cmp.Ordering.{Ordering}
-use Rattle.std.specs.declared.cmp.Ordering.TheVariants.{Less, Equal, Greater}
+use Rattle.std.specs.declared.cmp.Ordering.TheVariants.{Less, Equal}
 use Rattle.std.specs.List.Sorted.{IsPermutation}
 use Rattle.itpg_base.specs.Points.{Point}
-use Rattle.band_normal.specs.Lists.{Among, Ordered}
+use Rattle.band_normal.specs.Lists.{Ordered}
 use Rattle.band_normal.proofs.Lists.{ordered_from_neighbours, permutation_among, among_permutation}
 use Rattle.relation_rows.specs.Rows.{KeyBefore}
 use Rattle.relation_rows.specs.Relations.{Item, ItemsHold}

@@ -1,5 +1,5 @@
 -- A difference, one source and target after the other.
-use Rattle.std.proofs.Common.{◌≡◌, ◌↔◌, ◌⊎◌, inl, inr, ⊎_elim, ℕ, ◌+◌, ◌-◌, ◌<◌, ◌≤◌, ℤ, ◌≤ℤ◌, List, [], ◌∷◌, ◌++◌, length, map, get_or, take, drop, Option, Some, None, refl, sym, ◌∙◌, ap, subst, arith, Bool, true, false, true≢false}
+use Rattle.std.proofs.Common.{◌≡◌, ◌↔◌, ◌⊎◌, inl, inr, ⊎_elim, ℕ, ◌-◌, ◌<◌, ◌≤◌, ◌≤ℤ◌, List, [], ◌∷◌, length, map, get_or, take, drop, Some, None, refl, sym, ◌∙◌, ap, subst, arith, Bool, true, false, true≢false}
 use Rattle.std.specs.Prelude.{slice_get}
 use Rattle.std.specs.List.Sorted.{IsPartitionedBy, IsPartitionPoint}
 use Rattle.std.proofs.lemmas.Int.{ints}
@@ -12,15 +12,15 @@ use Rattle.band_normal.specs.Bands.{InBand, IsWellFormed}
 use Rattle.band_normal.proofs.Lists.{among_at}
 use Rattle.relation_rows.specs.declared.rows.Row.{Row}
 use Rattle.relation_rows.specs.declared.timetable.Stop.{Stop}
-use Rattle.relation_rows.specs.Rows.{HasKey, InRow, RowsHold, RowBefore}
+use Rattle.relation_rows.specs.Rows.{HasKey, RowsHold, RowBefore}
 use Rattle.relation_rows.specs.Relations.{Item, ItemsHold, OnlyFirstHolds}
 use Rattle.relation_rows.specs.Searching.{has_key, comes_before}
 use Rattle.relation_rows.specs.Timetables.{DepartsUpTo, StopUpTo, IsTimetable}
-use Rattle.relation_rows.specs.Rest.{SomeStopHas, IsLeft, AnyIsLeft}
+use Rattle.relation_rows.specs.Rest.{SomeStopHas, AnyIsLeft}
 use Rattle.relation_rows.proofs.Listed.{key_apart, keys_apart}
 use Rattle.relation_rows.proofs.Keys.{key_is, is_key, key_partitioned, comes_is}
 use Rattle.relation_rows.proofs.Stops.{row_of, row_among, among_row}
-use Rattle.relation_rows.proofs.Partitions.{among_before, among_either, front_among, rest_among, rest_ordered, first_among, first_before}
+use Rattle.relation_rows.proofs.Partitions.{among_before, among_either, front_among, rest_among, rest_ordered, first_before}
 
 -- ---- the first rows that have one source and target
 

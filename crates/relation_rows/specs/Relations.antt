@@ -1,5 +1,5 @@
 -- The relations that the calls work out.
-use Rattle.std.specs.Prelude.{◌≡◌, ◌⊎◌, ℕ, ◌<◌, ℤ, List, [], ◌∷◌}
+use Rattle.std.specs.Prelude.{◌≡◌, ◌⊎◌, ℕ, ◌<◌, List}
 use Rattle.itpg_base.specs.declared.object_number.ObjNo.{ObjNo}
 use Rattle.itpg_base.specs.Spans.{Span, Within}
 use Rattle.itpg_base.specs.Points.{Point, Relation}
@@ -7,7 +7,7 @@ use Rattle.zone_core.specs.declared.Bounds.{Bounds}
 use Rattle.zone_core.specs.Zone.{Meets}
 use Rattle.band_normal.specs.Lists.{Among, Ordered}
 use Rattle.relation_rows.specs.declared.rows.Row.{Row}
-use Rattle.relation_rows.specs.Rows.{RowsHold, KeyBefore}
+use Rattle.relation_rows.specs.Rows.{RowsHold}
 
 -- a zone of moments from a source to a target
 abbrev pub Item : Type 0

@@ -1,6 +1,6 @@
 -- What is left of rows without others.
 use Rattle.std.specs.Prelude.{ℤ, List}
-use Rattle.itpg_base.specs.Points.{Point, Relation}
+use Rattle.itpg_base.specs.Points.{Relation}
 use Rattle.band_normal.specs.Lists.{Among}
 use Rattle.band_normal.specs.Bands.{InBand}
 use Rattle.relation_rows.specs.declared.rows.Row.{Row}

@@ -1,6 +1,6 @@
 -- One-time rows, and the moments at which a relation departs and arrives.
 use Rattle.std.specs.Prelude.{◌≡◌, ◌⊎◌, ◌==◌, ◌&&◌, ◌||◌, nat_lt, int_le, int_lt, Bool, ℕ, ◌<◌, ℤ, pos, ◌+ℤ◌, ◌≤ℤ◌, ◌<ℤ◌, List}
-use Rattle.itpg_base.specs.Spans.{Span, Within, IsSpan}
+use Rattle.itpg_base.specs.Spans.{Within, IsSpan}
 use Rattle.itpg_base.specs.Points.{Point}
 use Rattle.band_normal.specs.declared.band.Band.{Band}
 use Rattle.band_normal.specs.Lists.{Among, Ordered}

@@ -1,12 +1,12 @@
 -- Ways: a row, and then a stop's row from where it arrives.
-use Rattle.std.specs.Prelude.{◌≡◌, ◌⊎◌, ℕ, Option, Some, None, List}
+use Rattle.std.specs.Prelude.{Option, Some, None, List}
 use Rattle.itpg_base.specs.declared.object_number.ObjNo.{ObjNo}
 use Rattle.itpg_base.specs.Points.{Point, Relation}
 use Rattle.zone_core.specs.declared.Bounds.{Bounds}
 use Rattle.relation_rows.specs.declared.rows.Row.{Row}
 use Rattle.relation_rows.specs.declared.timetable.Stop.{Stop}
 use Rattle.relation_rows.specs.Rows.{InRow, RowsHold}
-use Rattle.relation_rows.specs.Relations.{Item, InItem}
+use Rattle.relation_rows.specs.Relations.{InItem}
 use Rattle.relation_rows.specs.Timetables.{StopsHold}
 
 -- the zone is there, and has the pair, from the source to the target

@@ -1,4 +1,4 @@
-use Rattle.std.proofs.Common.{rules, sym, subst, List, ◌≡◌}
+use Rattle.std.proofs.Common.{rules, sym, subst, List}
 use Rattle.std.proofs.lemmas.Fn.{always_returns_same}
 use Rattle.band_normal.specs.Lists.{Ordered}
 use Rattle.relation_rows.specs.Gathering.{ItemUpTo}

@@ -1,5 +1,5 @@
 use Rattle.band_normal.proofs.Lists.{among_at}
-use Rattle.relation_rows.proofs.Pushing.{zone_more, zones_start, zones_all}
+use Rattle.relation_rows.proofs.Pushing.{zone_more, zones_all}
 use Rattle.relation_rows.proofs.gather.push_zones.Goals as goal
 
 pub zone_of-requires : goal.zone_of-requires

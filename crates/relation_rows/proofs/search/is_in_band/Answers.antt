@@ -1,6 +1,6 @@
-use Rattle.std.proofs.Common.{SFits, w64, rules, to_z-of_z, arith, ℤ, ◌≤ℤ◌, ◌<ℤ◌, sym}
+use Rattle.std.proofs.Common.{SFits, w64, to_z-of_z, arith}
 use Rattle.std.proofs.lemmas.Int.{ints}
-use Rattle.band_normal.specs.Bands.{end_at, InBand}
+use Rattle.band_normal.specs.Bands.{end_at}
 use Rattle.relation_rows.proofs.search.is_in_band.Goals as goal
 
 pub at-requires-then-at-u : goal.at-requires-then-at-u

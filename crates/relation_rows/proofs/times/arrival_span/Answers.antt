@@ -1,4 +1,4 @@
-use Rattle.std.proofs.Common.{◌≡◌, ◌∙◌, ap, ℤ, ◌≤ℤ◌, SFits, w64, to_z-of_z, rules, arith}
+use Rattle.std.proofs.Common.{◌∙◌, ap, SFits, w64, to_z-of_z, rules, arith}
 use Rattle.std.proofs.lemmas.Int.{ints}
 use Rattle.itpg_base.specs.Spans.{Span}
 use Rattle.band_normal.specs.Bands.{end_at}

@@ -1,4 +1,3 @@
-use Rattle.std.proofs.Common.{◌∙◌, arith}
 use Rattle.relation_rows.specs.Times.{Arrives}
 use Rattle.relation_rows.proofs.Arriving.{no_arrivals, push_arrival, all_holds, formed_row}
 use Rattle.relation_rows.proofs.times.arrivals.Goals as goal

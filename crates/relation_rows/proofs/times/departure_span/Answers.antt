@@ -1,4 +1,4 @@
-use Rattle.std.proofs.Common.{◌≡◌, ◌∙◌, ap, SFits, w64, to_z-of_z, rules, arith}
+use Rattle.std.proofs.Common.{ap, SFits, w64, to_z-of_z, rules}
 use Rattle.itpg_base.specs.Spans.{Span}
 use Rattle.relation_rows.proofs.Arriving.{departs_in}
 use Rattle.relation_rows.proofs.times.departure_span.Goals as goal

@@ -1,4 +1,3 @@
-use Rattle.std.proofs.Common.{◌∙◌, arith}
 use Rattle.relation_rows.specs.Times.{Departs}
 use Rattle.relation_rows.proofs.Arriving.{no_departures, push_departure, all_holds, formed_row}
 use Rattle.relation_rows.proofs.times.departures.Goals as goal

@@ -1,8 +1,8 @@
-use Rattle.std.proofs.Common.{◌≡◌, ◌+◌, ◌∙◌, List, take, sym, subst, true≢false}
+use Rattle.std.proofs.Common.{◌+◌, ◌∙◌, take, sym, subst, true≢false}
 use Rattle.std.specs.Global.{Global}
 use Rattle.std.specs.declared.vec.Vec.{Vec}
 use Rattle.relation_rows.specs.declared.times.OneRow.{OneRow}
-use Rattle.relation_rows.proofs.Runs.{init, item_up, item_joined, item_pushed, all_read, none_read}
+use Rattle.relation_rows.proofs.Runs.{init, item_up, item_joined, item_pushed, all_read}
 use Rattle.relation_rows.proofs.Coalescing.{Coalesced, coalesced_times, coalesced_few}
 use Rattle.relation_rows.proofs.times.joined_all.Goals.{then-joins, else-joins+in_ok-push}
 use Rattle.relation_rows.proofs.times.joined_all.Goals as goal

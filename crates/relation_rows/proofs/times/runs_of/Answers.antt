@@ -1,4 +1,4 @@
-use Rattle.std.proofs.Common.{◌≡◌, List, rules, sym, subst}
+use Rattle.std.proofs.Common.{List, rules, sym, subst}
 use Rattle.std.proofs.lemmas.Fn.{always_returns_same}
 use Rattle.band_normal.specs.Lists.{Among, Ordered}
 use Rattle.band_normal.proofs.Lists.{permutation_among}

@@ -1,4 +1,4 @@
-use Rattle.std.proofs.Common.{◌≡◌, ◌∙◌, List, SFits, w64, to_z-of_z, rules, sym, subst}
+use Rattle.std.proofs.Common.{◌∙◌, List, SFits, w64, to_z-of_z, rules, sym, subst}
 use Rattle.band_normal.specs.Lists.{Ordered}
 use Rattle.relation_rows.specs.Answers.{Gives}
 use Rattle.relation_rows.specs.Gathering.{ItemUpTo}

@@ -1,4 +1,4 @@
-use Rattle.std.proofs.Common.{◌↔◌, ◌∙◌, ℕ, ℤ, List, sym, subst}
+use Rattle.std.proofs.Common.{◌∙◌, List, sym, subst}
 use Rattle.relation_rows.specs.declared.times.OneRow.{OneRow}
 use Rattle.relation_rows.specs.Times.{TimesHold, OnlyFirstHas, AreTimes, IsOneTime}
 use Rattle.relation_rows.proofs.Runs.{times_alike}
