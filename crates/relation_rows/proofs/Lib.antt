@@ -23,5 +23,6 @@ pub mod Meeting
 pub mod Cutting
 pub mod Leaving
 pub mod Subtracting
+pub mod TimeLaws
 pub mod Giving
 pub mod Sorting
