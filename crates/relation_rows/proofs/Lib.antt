@@ -24,5 +24,6 @@ pub mod Cutting
 pub mod Leaving
 pub mod Subtracting
 pub mod TimeLaws
+pub mod Merged
 pub mod Giving
 pub mod Sorting
