@@ -29,12 +29,12 @@ pub record HasGathered (items left : List Item) (rows : List Row) : Type 0 where
   pub there : (i : Item) → Among left i → Among items i
   pub each : (i : Item) → Among items i → Ahead left i.0.0 i.1.0 ⊎ Among left i
 
-some_meets : (items : List Item) (i : Item) (t u : ℤ) → Among items i → Meets i.2 t u → SomeMeets (map (λ (j : Item). j.2) items) t u
+pub some_meets : (items : List Item) (i : Item) (t u : ℤ) → Among items i → Meets i.2 t u → SomeMeets (map (λ (j : Item). j.2) items) t u
 some_meets [] i t u a m = absurd a
 some_meets (j ∷ js) i t u (inl e) m = inl (subst (λ (v : Item). Meets v.2 t u) (sym e) m)
 some_meets (j ∷ js) i t u (inr a) m = inr (some_meets js i t u a m)
 
-meets_some : (items : List Item) (t u : ℤ) → SomeMeets (map (λ (j : Item). j.2) items) t u → (i : Item) × Among items i × Meets i.2 t u
+pub meets_some : (items : List Item) (t u : ℤ) → SomeMeets (map (λ (j : Item). j.2) items) t u → (i : Item) × Among items i × Meets i.2 t u
 meets_some [] t u h = absurd h
 meets_some (j ∷ js) t u (inl m) = (j, inl refl, m)
 meets_some (j ∷ js) t u (inr h) = let w = meets_some js t u h in (w.0, inr w.1, w.2)

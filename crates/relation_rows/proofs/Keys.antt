@@ -70,7 +70,7 @@ either_true false b e = inr e
 pub comes_is : (r : Row) (o p : ℕ) → comes_before r o p ≡ true → KeyBefore r.source.0 r.target.0 o p
 comes_is r o p e = grind (arith, Decides-ltb)
 
-is_coming : (r : Row) (o p : ℕ) → KeyBefore r.source.0 r.target.0 o p → comes_before r o p ≡ true
+pub is_coming : (r : Row) (o p : ℕ) → KeyBefore r.source.0 r.target.0 o p → comes_before r o p ≡ true
 is_coming r o p (inl l) = grind (arith, Decides-ltb)
 is_coming r o p (inr (e, l)) = grind (arith, Decides-ltb)
 

@@ -23,5 +23,7 @@ pub mod Meeting
 pub mod Cutting
 pub mod Leaving
 pub mod Subtracting
+pub mod TimeLaws
+pub mod Merged
 pub mod Giving
 pub mod Sorting

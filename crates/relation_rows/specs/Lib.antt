@@ -8,3 +8,4 @@ pub mod Ways
 pub mod Times
 pub mod Rest
 pub mod Answered
+pub mod Uniting

@@ -56,21 +56,27 @@ fn zones_of(alloc: Global, items: &[Item]) -> Result<Vec<Zone>, AllocError>
     Ok(zones)
 }
 
-fn bands_of_all(alloc: Global, items: &[Item]) -> Result<Vec<Band>, AllocError>
+/// The normal list of the bands of all items.
+pub(crate) fn bands_of_all(alloc: Global, items: &[Item]) -> Result<Vec<Band>, AllocError>
     ensures normal { IfOk result (λ bands. Normal (SomeMeets (map (λ (i : Item). i.2) items.now)) bands.items) }
     ensures formed { IfOk result (λ bands. (b : Band) → Among bands.items b → IsWellFormed b) }
 {
     normal(alloc, zones_of(alloc, items)?)
 }
 
-// The bands as rows of the item's source and target, behind those that there are.
-fn push_bands(rows: &mut Vec<Row>, first: &Item, bands: &[Band]) -> Result<(), AllocError>
-    ensures { OnOk result (rows.new.items ≡ rows.old.items ++ rows_at first.now.0.0 first.now.1.0 bands.now) }
+/// The bands as rows of the source and target, behind those that there are.
+pub(crate) fn push_bands(
+    rows: &mut Vec<Row>,
+    source: ObjNo,
+    target: ObjNo,
+    bands: &[Band],
+) -> Result<(), AllocError>
+    ensures { OnOk result (rows.new.items ≡ rows.old.items ++ rows_at source.0 target.0 bands.now) }
 {
     for band in bands {
         rows.push(Row {
-            source: first.0,
-            target: first.1,
+            source,
+            target,
             band: *band,
         })?;
     }
@@ -87,7 +93,7 @@ pub(crate) fn gathered(alloc: Global, items: &[Item], room: usize) -> Result<Rel
     let mut left = items;
     while let Some(first) = left.first() {
         let (group, later) = left.split_at(first_count(left, first));
-        push_bands(&mut rows, first, &bands_of_all(alloc, group)?)?;
+        push_bands(&mut rows, first.0, first.1, &bands_of_all(alloc, group)?)?;
         if rows.len() > room {
             return Err(RelFault::Wide);
         }

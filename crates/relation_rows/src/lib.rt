@@ -17,6 +17,7 @@ mod search;
 mod tests;
 pub mod times;
 mod timetable;
+mod unite;
 mod ways;
 
 pub use answered::Answer;

@@ -11,12 +11,13 @@ ghost use Rattle.relation_rows.specs.Answers.{Gives};
 ghost use Rattle.relation_rows.specs.Times.{AreTimes, Departs, Arrives};
 ghost use Rattle.relation_rows.specs.Relations.{ItemsHold, Rise, IsItself, EitherHolds, HasMiddlePoint, IsBetween, OnlyFirstHolds};
 
-use crate::gather::{from_each_to_itself, gathered, gathered_all, gathered_of, push_zones};
+use crate::gather::{from_each_to_itself, gathered, gathered_all, gathered_of};
 use crate::rest::only_in_first;
 use crate::rows::{RelFault, Row};
 use crate::search::{is_in_band, rows_between, rows_of_key};
 use crate::times::{OneTime, arrivals, departures, runs_of};
 use crate::timetable::timetable;
+use crate::unite::united;
 use crate::ways::composed;
 use interval_set::Span;
 use itpg_base::ObjNo;
@@ -127,10 +128,7 @@ impl Relation {
         ensures { Gives result (EitherHolds self.now other.now) max_rows }
     {
         let alloc = *self.rows.allocator();
-        let mut items = Vec::new(alloc);
-        push_zones(&mut items, &self.rows)?;
-        push_zones(&mut items, &other.rows)?;
-        gathered_of(alloc, items, max_rows as usize)
+        united(alloc, &self.rows, &other.rows, max_rows as usize)
     }
 
     /// The pairs with a middle point, to which this relation leads and from which the other does. `Wide`

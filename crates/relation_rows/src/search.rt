@@ -32,7 +32,8 @@ pub(crate) fn is_in_band(band: &Band, t: i64, u: i64) -> bool
     band.low.at(t) <= u && u <= band.high.at(t)
 }
 
-fn comes_before_key(row: &Row, source: ObjNo, target: ObjNo) -> bool
+/// Whether the row's source and target come before these.
+pub(crate) fn comes_before_key(row: &Row, source: ObjNo, target: ObjNo) -> bool
     ensures { result ≡ comes_before row.now source.0 target.0 }
 {
     row.source.0 < source.0 || row.source.0 == source.0 && row.target.0 < target.0

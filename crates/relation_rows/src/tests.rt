@@ -99,6 +99,11 @@ fn two_relations_are_united_and_subtracted(rt: HostRuntime) -> Result<(), Fail> 
     let both = late.union(&early, 1)?;
     is(&rt, &both, &[staying(0, 1, 0, 12)]);
     is(&rt, &late.minus(&early)?, &[staying(0, 1, 10, 12)]);
+    let back = relation(rt.alloc(), 1, 0, from_zero()?)?;
+    let round = [staying(0, 1, 5, 12), staying(1, 0, 0, 9)];
+    is(&rt, &late.union(&back, 2)?, &round);
+    is(&rt, &back.union(&late, 2)?, &round);
+    assert!(rt; matches!(late.union(&back, 1), Err(RelFault::Wide)));
     assert!(rt; both.same(&early.union(&late, 1)?));
     assert!(rt; !both.same(&late));
     assert!(rt; late.has(ObjNo(0), 5, ObjNo(1), 5));

@@ -1,0 +1,112 @@
+//! Union: one walk along both lists of rows, source and target by source and target.
+//!
+//! The rows of a source and a target that only one of the relations has are taken as they are.
+
+ghost use Rattle.std.specs.Prelude.{◌≡◌, ◌⊎◌, ◌≤◌, [], length, take, drop, IfOk, OnOk, IfSome, IfNone};
+ghost use Rattle.band_normal.specs.declared.band.Band.{Band as PlainBand};
+ghost use Rattle.band_normal.specs.Lists.{Among, Ordered};
+ghost use Rattle.band_normal.specs.Bands.{IsWellFormed};
+ghost use Rattle.band_normal.specs.Normal.{Normal};
+ghost use Rattle.relation_rows.specs.declared.rows.Row.{Row as PlainRow};
+ghost use Rattle.relation_rows.specs.Rows.{RowBefore, HasKey, KeyBefore, IsRelation};
+ghost use Rattle.relation_rows.specs.Answers.{Gives};
+ghost use Rattle.relation_rows.specs.Relations.{EitherHolds};
+ghost use Rattle.relation_rows.specs.Uniting.{KeyUpTo, IsNext, IsPart, EitherHas, HasPushed};
+
+use crate::gather::{bands_of_all, push_bands, push_zones};
+use crate::relations::Relation;
+use crate::rows::{RelFault, Row};
+use crate::search::{comes_before_key, is_of_key};
+use band_normal::Band;
+use std::alloc::{AllocError, Global};
+
+// Of both lists a first row, whose source and target come first.
+fn next_row(first: &[Row], second: &[Row]) -> Option<Row>
+    requires first { Ordered RowBefore first.now }
+    requires second { Ordered RowBefore second.now }
+    ensures none { IfNone result ((first.now ≡ []) × (second.now ≡ [])) }
+    ensures some { IfSome result (λ r. IsNext first.now second.now r) }
+{
+    let Some(row) = first.first() else {
+        return second.first().copied();
+    };
+    let Some(other) = second.first() else {
+        return Some(*row);
+    };
+    if comes_before_key(other, row.source, row.target) {
+        Some(*other)
+    } else {
+        Some(*row)
+    }
+}
+
+// How many of the rows, from the first on, have the source and the target of the other.
+fn leading(rows: &[Row], key: &Row) -> usize
+    requires order { Ordered RowBefore rows.now }
+    requires up { (r : PlainRow) → Among rows.now r → KeyUpTo key.now r }
+    ensures within { result ≤ length rows.now }
+    ensures same { (r : PlainRow) → Among (take result rows.now) r → HasKey r key.now.source.0 key.now.target.0 }
+    ensures later { (r : PlainRow) → Among (drop result rows.now) r → KeyBefore key.now.source.0 key.now.target.0 r.source.0 r.target.0 }
+{
+    rows.partition_point(|row| is_of_key(row, key.source, key.target))
+}
+
+// The normal list of the bands of both.
+fn bands_of_both(alloc: Global, here: &[Row], there: &[Row]) -> Result<Vec<Band>, AllocError>
+    requires here { (r : PlainRow) → Among here.now r → IsWellFormed r.band }
+    requires there { (r : PlainRow) → Among there.now r → IsWellFormed r.band }
+    ensures normal { IfOk result (λ bands. Normal (EitherHas here.now there.now) bands.items) }
+    ensures formed { IfOk result (λ bands. (b : PlainBand) → Among bands.items b → IsWellFormed b) }
+{
+    let mut items = Vec::new(alloc);
+    push_zones(&mut items, here)?;
+    push_zones(&mut items, there)?;
+    let bands = bands_of_all(alloc, &items)?;
+    Ok(bands)
+}
+
+// Adds the rows of one source and one target.
+fn push_both(rows: &mut Vec<Row>, key: &Row, here: &[Row], there: &[Row]) -> Result<(), AllocError>
+    requires here { IsPart key.now here.now }
+    requires there { IsPart key.now there.now }
+    ensures { OnOk result (HasPushed key.now here.now there.now rows.old.items rows.new.items) }
+{
+    if there.is_empty() {
+        rows.extend_from_slice(here)?;
+        return Ok(());
+    }
+    if here.is_empty() {
+        rows.extend_from_slice(there)?;
+        return Ok(());
+    }
+    let bands = bands_of_both(*rows.allocator(), here, there)?;
+    push_bands(rows, key.source, key.target, &bands)?;
+    Ok(())
+}
+
+/// The relation of what either list of rows holds.
+pub(crate) fn united(
+    alloc: Global,
+    first: &[Row],
+    second: &[Row],
+    max_rows: usize,
+) -> Result<Relation, RelFault>
+    requires first { IsRelation first.now }
+    requires second { IsRelation second.now }
+    ensures { Gives result (EitherHolds first.now second.now) max_rows }
+{
+    let mut rows = Vec::new(alloc);
+    let mut left = first;
+    let mut right = second;
+    while let Some(key) = next_row(left, right) {
+        let (here, later) = left.split_at(leading(left, &key));
+        let (there, others) = right.split_at(leading(right, &key));
+        push_both(&mut rows, &key, here, there)?;
+        if rows.len() > max_rows {
+            return Err(RelFault::Wide);
+        }
+        left = later;
+        right = others;
+    }
+    Ok(Relation { rows })
+}
