@@ -1,24 +1,24 @@
 -- What is found out of an edit, and the rules that it breaks or doesn't.
-use Rattle.std.proofs.Common.{◌≡◌, ℕ, zero, suc, ◌+◌, ◌<◌, ◌≤◌, ℤ, ◌≤ℤ◌, List, [], ◌∷◌, ◌⊎◌, inl, inr, ⊎_elim, length, take, get_or, Option, Some, None, Bool, true, false, not, ◌==◌, true≢false, refl, sym, ap, ◌∙◌, subst, arith}
+use Rattle.std.proofs.Common.{◌≡◌, ℕ, zero, suc, ◌+◌, ◌<◌, ◌≤◌, ℤ, ◌≤ℤ◌, List, [], ◌∷◌, ◌⊎◌, inl, inr, ⊎_elim, length, take, get_or, Option, Some, None, Bool, true, not, ◌==◌, true≢false, refl, sym, ap, ◌∙◌, subst, arith}
 use Rattle.std.specs.Prelude.{IsSome, IsNone, option_map}
 use Rattle.std.proofs.lemmas.Int.{ints}
 use Rattle.itpg_base.specs.Words.{Word}
 use Rattle.itpg_base.specs.Spans.{Span, Within}
-use Rattle.itpg_base.specs.Graphs.{Graph, Object, Good, Named, Stands, Exists, HasEnd, ObjectIs}
-use Rattle.itpg_base.proofs.Objects.{there, here, same_some}
-use Rattle.itpg_base.specs.declared.rule_code.RuleCode.{RuleCode}
-use Rattle.itpg_base.specs.declared.rule_code.RuleCode.TheVariants.{NoGraph, Unknown, Backwards, Horizon, Ends, Absent, Held, Incident, Full}
+use Rattle.itpg_base.specs.Graphs.{Graph, Object, Good, Named, Exists, HasEnd}
+use Rattle.itpg_base.proofs.Objects.{there, same_some}
+use Rattle.itpg_base.specs.declared.rule_code.RuleCode.TheVariants.{NoGraph, Unknown, Backwards, Horizon, Ends, Absent, Held, Full}
 use Rattle.itpg_base.specs.declared.object_number.ObjNo.{ObjNo}
 use Rattle.itpg_graph.specs.Edges.{HasNumber, AreNumbers}
 use Rattle.itpg_graph.specs.Changes.{FitFamily}
-use Rattle.itpg_graph.specs.Families.{ExistsOutside, ValOutside, ValPut, HasProperty, FitCut, FitPut, FitClear, HasPlace}
+use Rattle.itpg_graph.specs.Families.{ExistsOutside, ValOutside, ValPut, FitCut, FitPut, FitClear, HasPlace}
 use Rattle.itpg_edit.specs.declared.edit.Edit.TheVariants.{Live, Gone, Put, Clear, Remove}
 use Rattle.itpg_edit.specs.declared.place.Place.{Place}
-use Rattle.itpg_edit.specs.Facts.{span_of, LacksEnd, IsAbsent, IsHeld, IsIncident, AreManySpans, AreManyRuns, HasNoPlace}
-use Rattle.itpg_edit.specs.Rules.{Breaks, NoneOf, FirstOf, Broken, Unbroken, NameBreaks, PlaceBreaks}
+use Rattle.itpg_edit.specs.Facts.{span_of, LacksEnd, IsAbsent, IsHeld, AreManySpans, AreManyRuns, HasNoPlace}
+use Rattle.itpg_edit.specs.Rules.{Breaks, NoneOf, FirstOf, Broken, Unbroken, PlaceBreaks}
 use Rattle.itpg_edit.specs.Places.{IsPlace, EndsExist, IsFree, IsThere}
 use Rattle.itpg_edit.proofs.FirstOf.{first_after, none_after}
-use Rattle.itpg_edit.proofs.Moments.{begun_some, out_of_horizon, into_horizon}
+use Rattle.itpg_graph.proofs.Asked.{into_horizon, out_of_horizon}
+use Rattle.itpg_edit.proofs.Moments.{begun_some}
 
 not_both : {X : Type 0} (o : Option X) → IsSome o → IsNone o → ⊥
 not_both None some none = let never : ⊥ = cc in never
@@ -146,9 +146,6 @@ module _ (g : Graph) (id : Word) (o : ℕ) (good : Good g) (begun : IsSome g.beg
   remove_unbroken free =
       ((λ none. not_both g.begun begun none), ((λ u. u o named), ((λ i. free i.edge (subst (HasEnd g i.edge) (good.names_differ i.node o id i.named named) i.has)), tt)))
 
-pub named_stands : (g : Graph) (o : ℕ) (name : Word) → Named g o name → Stands g o
-named_stands g o name h = let t = there g.objects o _ h in here g.objects o _ t.0 t.1 t.2.0
-
 -- the rules on the place of an edit, in order
 module _ (g : Graph) (id : Word) (from to : ℤ) (o : ObjNo) (h span : Span) (good : Good g) (horizon : Some h ≡ option_map (λ b. b.horizon) g.begun) (named : Named g o.0 id) (is : span ≡ span_of from to) (ordered : from ≤ℤ to) where
   pub outside : ((t : ℤ) × Within t span × (Within t h → ⊥)) → FirstOf (PlaceBreaks g id from to) (NoGraph ∷ Unknown ∷ Backwards ∷ Horizon ∷ []) Horizon
@@ -160,7 +157,7 @@ module _ (g : Graph) (id : Word) (from to : ℤ) (o : ObjNo) (h span : Span) (go
           (λ u. u o.0 named),
           inr (
             (λ lt. omega (arith, ints)),
-            inl (record { moment = l.0; within = subst (Within l.0) is l.1; outside = λ w. l.2 (out_of_horizon g.begun h l.0 horizon w) }, refl),
+            inl (record { moment = l.0; within = subst (Within l.0) is l.1; outside = λ w. l.2 (out_of_horizon g h l.0 horizon w) }, refl),
           ),
         ),
       )
@@ -172,7 +169,7 @@ module _ (g : Graph) (id : Word) (from to : ℤ) (o : ObjNo) (h span : Span) (go
     named = named;
     span = is;
     ordered = ordered;
-    inside = λ t w. into_horizon g.begun h t horizon (all t (subst (Within t) (sym is) w));
+    inside = λ t w. into_horizon g h t horizon (all t (subst (Within t) (sym is) w));
   }
 
 -- some edge of a list that isn't empty

@@ -1,21 +1,21 @@
 -- Whether an edit breaks a rule is decided on a good graph.
-use Rattle.std.proofs.Common.{◌≡◌, ◌≢◌, ℕ, zero, suc, ◌+◌, ◌<◌, ◌≤◌, ℤ, ◌≤ℤ◌, ◌<ℤ◌, List, [], ◌∷◌, ◌⊎◌, inl, inr, ⊎_elim, length, Option, Some, None, true, refl, sym, ap, ◌∙◌, subst, arith}
+use Rattle.std.proofs.Common.{◌≡◌, ℕ, zero, suc, ◌<◌, ◌≤◌, ℤ, List, [], ◌∷◌, ◌⊎◌, inl, inr, ⊎_elim, length, Option, Some, None, refl, sym, subst, arith}
 use Rattle.std.specs.Prelude.{IsSome, IsNone, IsSomeAnd, IsTrue, slice_get}
-use Rattle.std.proofs.lemmas.Int.{ints, by_lt_z}
+use Rattle.std.proofs.lemmas.Int.{ints}
 use Rattle.std.proofs.lemmas.Bool.{cases_lt}
 use Rattle.itpg_base.specs.Words.{Word, IsBefore, IsRising}
 use Rattle.itpg_base.specs.Spans.{Span, Within, Covers}
 use Rattle.itpg_base.specs.Decided.{Decided}
-use Rattle.itpg_base.specs.Graphs.{Graph, Object, Ends, Begun, Property, Valued, Good, Named, Stands, Exists, Val, HasEnd, InHorizon, ObjectIs, IsObject, AreFamilies, IsFamily, PropertiesHave, RunsHave, AreRunsOfValues, property_names}
+use Rattle.itpg_base.specs.Graphs.{Graph, Object, Property, Valued, Good, Named, Exists, Val, HasEnd, InHorizon, ObjectIs, AreFamilies, PropertiesHave, property_names}
 use Rattle.itpg_base.specs.declared.rule_code.RuleCode.{RuleCode}
 use Rattle.itpg_base.specs.declared.rule_code.RuleCode.TheVariants.{NoGraph, Again, Taken, Unknown, Kind, Backwards, Horizon, Ends as EndsRule, Absent, Held, Incident, Full, GraphName, Later}
 use Rattle.itpg_base.proofs.Searches.{both, either, fails, as_well, at_most, before, is_true, if_some, same_word, same_number, some_below}
-use Rattle.itpg_base.proofs.Objects.{there, here, same_some}
+use Rattle.itpg_base.proofs.Objects.{there, here}
 use Rattle.interval_set.specs.Runs.{AreRuns, AreRunsOf, HasPut, HasCleared}
 use Rattle.interval_set.proofs.Unique.{runs_unique, runs_alike}
 use Rattle.interval_set.proofs.UniqueValues.{runs_of_unique}
 use Rattle.interval_set.proofs.Changed.{joined_exists, cut_exists, put_exists, clear_exists}
-use Rattle.interval_set.proofs.Coalesced.{decide_within, decide_covers}
+use Rattle.interval_set.proofs.Coalesced.{decide_within}
 use Rattle.itpg_graph.specs.Families.{ExistsOutside, ValOutside, ValPut, HasProperty}
 use Rattle.itpg_graph.proofs.Names.{not_before_itself, has_after, after_first}
 use Rattle.itpg_edit.specs.declared.edit.Edit.{Edit}

@@ -1,5 +1,5 @@
 -- `apply` answers a rule exactly where it is the first that the edit breaks.
-use Rattle.std.proofs.Common.{◌≡◌, Result, Ok, Err, IfOk, IfErr, refl, sym, ap, ◌∙◌, subst}
+use Rattle.std.proofs.Common.{◌≡◌, Result, Ok, Err, IfOk, IfErr, ap, subst}
 use Rattle.std.specs.Prelude.{◌↔◌}
 use Rattle.itpg_base.specs.Graphs.{Graph}
 use Rattle.itpg_base.specs.declared.touch.Touch.{Touch}
@@ -7,7 +7,7 @@ use Rattle.itpg_base.specs.declared.rule_code.RuleCode.{RuleCode}
 use Rattle.itpg_edit.specs.declared.edit.Edit.{Edit}
 use Rattle.itpg_edit.specs.declared.fault.EditFault.{EditFault}
 use Rattle.itpg_edit.specs.declared.fault.EditFault.TheVariants.{Memory, Rule}
-use Rattle.itpg_edit.specs.Rules.{Breaks, rules_of, Broken, Unbroken}
+use Rattle.itpg_edit.specs.Rules.{Breaks, rules_of, Broken}
 use Rattle.itpg_edit.specs.Next.{Makes, Excuses}
 use Rattle.itpg_edit.proofs.FirstOf.{first_unique, first_or_unbroken}
 

@@ -1,17 +1,16 @@
 -- Whether a family fits after a change.
-use Rattle.std.proofs.Common.{◌≡◌, ◌≢◌, ℕ, ◌<◌, ◌≤◌, ℤ, ◌≤ℤ◌, List, [], ◌∷◌, ◌⊎◌, inl, inr, ⊎_elim, length, Option, Some, None, refl, sym, ap, ◌∙◌, subst, arith}
-use Rattle.std.specs.Prelude.{IsNone, IsSomeAnd, slice_get}
+use Rattle.std.proofs.Common.{◌≡◌, ℕ, ◌<◌, ◌≤◌, ℤ, List, [], ◌∷◌, ◌⊎◌, inl, inr, ⊎_elim, length, refl, sym, ap, arith}
 use Rattle.std.proofs.lemmas.Int.{ints}
 use Rattle.itpg_base.specs.Words.{Word}
 use Rattle.itpg_base.specs.Spans.{Span, IsSpan, Within, Covers}
-use Rattle.itpg_base.specs.Graphs.{Graph, Valued, Val, Exists, ObjectIs, RunsHave, AreRunsOfValues}
+use Rattle.itpg_base.specs.Graphs.{Graph, Valued, Val, Exists, ObjectIs}
 use Rattle.interval_set.specs.Runs.{AreRuns, AreRunsOf, HasPut, HasCleared}
 use Rattle.interval_set.proofs.Unique.{runs_alike}
 use Rattle.interval_set.proofs.UniqueValues.{runs_of_unique}
 use Rattle.interval_set.proofs.Changed.{joined_exists, put_exists, clear_exists}
 use Rattle.itpg_graph.specs.Changes.{FitFamily}
-use Rattle.itpg_graph.specs.Families.{ExistsOutside, ValOutside, ValPut, HasCutFamily, FitCut, FitPut, FitClear, HasProperty, HasPlace}
-use Rattle.itpg_edit.specs.Facts.{AreManySpans, AreManyRuns, HasNoPlace}
+use Rattle.itpg_graph.specs.Families.{ExistsOutside, ValOutside, ValPut, HasCutFamily, FitCut, FitPut, FitClear, HasProperty}
+use Rattle.itpg_edit.specs.Facts.{AreManySpans, AreManyRuns}
 use Rattle.itpg_edit.proofs.Moments.{covered, existing}
 
 pub runs_of_alike : (H K : ℤ → Word → Type 0) (runs : List Valued) → ((t : ℤ) (v : Word) → H t v → K t v) → ((t : ℤ) (v : Word) → K t v → H t v) → AreRunsOf H runs → AreRunsOf K runs

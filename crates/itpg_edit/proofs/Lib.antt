@@ -5,5 +5,4 @@ pub mod Deciding
 pub mod Unique
 pub mod Unbroken
 pub mod Checked
-pub mod Ends
 pub mod Exact

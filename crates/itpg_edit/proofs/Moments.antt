@@ -1,12 +1,12 @@
 -- What is so, or isn't, at some moment of a span.
-use Rattle.std.proofs.Common.{◌≡◌, ℕ, zero, suc, ◌+◌, ℤ, pos, ◌≤ℤ◌, ◌<ℤ◌, ◌⊎◌, inl, inr, List, Option, Some, None, refl, sym, ap, ◌∙◌, subst, arith}
-use Rattle.std.specs.Prelude.{IsSomeAnd, IsSome, slice_get, option_map}
+use Rattle.std.proofs.Common.{◌≡◌, ℕ, suc, ◌+◌, ℤ, List, Option, Some, None, refl, sym, ap, ◌∙◌, subst, arith}
+use Rattle.std.specs.Prelude.{IsSome, slice_get, option_map}
 use Rattle.std.proofs.lemmas.Int.{ints}
 use borrow.Author.Differences.{up, down}
 use Rattle.itpg_base.specs.Spans.{Span, Within, Covers}
 use Rattle.itpg_base.specs.Decided.{Decided}
-use Rattle.itpg_base.specs.Graphs.{Graph, Begun, Object, Exists, ObjectIs, InHorizon}
-use Rattle.itpg_base.proofs.Searches.{both, fails, as_well, some_from, if_some}
+use Rattle.itpg_base.specs.Graphs.{Graph, Begun, Object, Exists, ObjectIs}
+use Rattle.itpg_base.proofs.Searches.{both, as_well, some_from, if_some}
 use Rattle.itpg_base.proofs.Objects.{there, here, same_some}
 use Rattle.interval_set.proofs.Coalesced.{decide_within, decide_covers}
 
@@ -20,13 +20,6 @@ some_moment s P each = as_well
 pub decide_exists : (g : Graph) (o : ℕ) (t : ℤ) → Decided (Exists g o t)
 decide_exists g o t = if_some (slice_get g.objects o) (λ x. Covers x.live t) (λ x. decide_covers x.live t)
 
--- where not each moment of the span is in the list, one is missing
-pub missing_moment : (live : List Span) (s : Span) → (((t : ℤ) → Within t s → Covers live t) → ⊥) → (t : ℤ) × Within t s × (Covers live t → ⊥)
-missing_moment live s not = elim (some_moment s (λ t. Covers live t → ⊥) (λ t. fails (decide_covers live t))) [
-  | inl h ↦ h
-  | inr none ↦ absurd (not (λ t w. elim (decide_covers live t) [ inl c ↦ c | inr n ↦ absurd (none (t, w, n)) ]))
-]
-
 -- an object's moments, and the list that it keeps
 module _ (g : Graph) (o : ℕ) (live : List Span) (is : ObjectIs g o (λ x. live ≡ x.live)) where
   pub covered : (t : ℤ) → Exists g o t → Covers live t
@@ -38,15 +31,7 @@ module _ (g : Graph) (o : ℕ) (live : List Span) (is : ObjectIs g o (λ x. live
   pub existing : (t : ℤ) → Covers live t → Exists g o t
   existing t h = let a = there g.objects o _ is in here g.objects o _ a.0 a.1 (subst (λ l. Covers l t) a.2 h)
 
--- the horizon
-pub into_horizon : (b : Option Begun) (h : Span) (t : ℤ) → Some h ≡ option_map (λ b. b.horizon) b → Within t h → IsSomeAnd b (λ b. Within t b.horizon)
-into_horizon None h t e w = let none : ⊥ = cc in absurd none
-into_horizon (Some b) h t e w = let same : h ≡ b.horizon = cc in subst (Within t) same w
-
-pub out_of_horizon : (b : Option Begun) (h : Span) (t : ℤ) → Some h ≡ option_map (λ b. b.horizon) b → IsSomeAnd b (λ b. Within t b.horizon) → Within t h
-out_of_horizon None h t e w = absurd w
-out_of_horizon (Some b) h t e w = let same : h ≡ b.horizon = cc in subst (Within t) (sym same) w
-
+-- a graph with a horizon is begun
 pub begun_some : (b : Option Begun) (h : Span) → Some h ≡ option_map (λ b. b.horizon) b → IsSome b
 begun_some None h e = let none : ⊥ = cc in absurd none
 begun_some (Some b) h e = refl

@@ -1,22 +1,20 @@
 -- An edit that breaks no rule leads from a good graph to a good one.
-use Rattle.std.proofs.Common.{◌≡◌, ℕ, ◌<◌, ◌≤◌, ℤ, ◌≤ℤ◌, ◌<ℤ◌, ◌⊎◌, inl, inr, List, length, Option, Some, None, refl, sym, subst, arith}
-use Rattle.std.specs.Prelude.{IsSome, IsNone, IsTrue, slice_get}
-use Rattle.std.proofs.lemmas.Int.{ints, by_lt_z}
+use Rattle.std.proofs.Common.{◌≡◌, ℕ, ◌<◌, ◌≤◌, ℤ, ◌≤ℤ◌, ◌<ℤ◌, inl, inr, length, Option, Some, None, refl, sym, subst, arith}
+use Rattle.std.specs.Prelude.{IsSome, IsNone}
+use Rattle.std.proofs.lemmas.Int.{by_lt_z}
 use Rattle.std.proofs.lemmas.Bool.{cases_lt}
 use Rattle.itpg_base.specs.Words.{Word}
 use Rattle.itpg_base.specs.Spans.{Span, Within}
-use Rattle.itpg_base.specs.Graphs.{Graph, Object, Ends, Good, Named, Stands, Exists, HasEnd, InHorizon, ObjectIs}
-use Rattle.itpg_base.proofs.Objects.{there, here, same_some}
+use Rattle.itpg_base.specs.Graphs.{Graph, Ends, Good, Named, Stands, InHorizon}
+use Rattle.itpg_base.proofs.Objects.{there, here}
 use Rattle.itpg_graph.specs.Kinds.{IsNode}
-use Rattle.itpg_graph.specs.Changes.{FitFamily}
-use Rattle.itpg_graph.specs.Families.{HasProperty, FitCut, FitPut, FitClear, HasPlace}
+use Rattle.itpg_graph.specs.Families.{HasPlace}
 use Rattle.itpg_graph.proofs.Goodness.{good_begun, good_node, good_edge, good_live, good_without}
 use Rattle.itpg_graph.proofs.Kept.{good_cut, good_put, good_cleared}
 use Rattle.itpg_edit.specs.declared.edit.Edit.{Edit}
 use Rattle.itpg_edit.specs.declared.edit.Edit.TheVariants.{Begin, AddNode, AddEdge, Live, Gone, Put, Clear, Remove}
-use Rattle.itpg_base.specs.declared.rule_code.RuleCode.TheVariants.{Full}
-use Rattle.itpg_edit.specs.Facts.{span_of, IsEdge, LeavesHorizon, LacksEnd, IsAbsent, IsHeld, IsIncident, HasNoPlace}
-use Rattle.itpg_edit.specs.Rules.{Breaks, Unbroken}
+use Rattle.itpg_edit.specs.Facts.{span_of, IsEdge, LeavesHorizon, LacksEnd, IsAbsent, IsHeld, HasNoPlace}
+use Rattle.itpg_edit.specs.Rules.{Unbroken}
 use Rattle.itpg_edit.specs.Next.{Next}
 use Rattle.itpg_edit.specs.Places.{HasMoments, HasLabels, EndsExist, IsFree, IsThere}
 use Rattle.itpg_edit.proofs.Moments.{decide_exists}

@@ -1,6 +1,6 @@
 -- There is at most one next graph.
-use Rattle.std.proofs.Common.{◌≡◌, ℕ, sym, ap₂, ◌∙◌, subst}
-use Rattle.itpg_base.specs.Graphs.{Graph, Good, Named}
+use Rattle.std.proofs.Common.{◌≡◌, sym, ap₂, ◌∙◌, subst}
+use Rattle.itpg_base.specs.Graphs.{Graph, Good}
 use Rattle.itpg_graph.specs.Changes.{with_edge, without, JoinsLive, CutsLive, PutsValue, ClearsValue}
 use Rattle.itpg_graph.proofs.Unique.{joins_one, cuts_one, puts_one, clears_one}
 use Rattle.itpg_edit.specs.declared.edit.Edit.{Edit}

@@ -1,8 +1,8 @@
 -- What the rules of edits say of a graph, moment by moment.
-use Rattle.std.specs.Prelude.{◌≡◌, ℕ, ◌<◌, ◌≤◌, ℤ, List, [], ◌∷◌, length, IsSome, ◌⊎◌}
+use Rattle.std.specs.Prelude.{ℕ, ◌<◌, ◌≤◌, ℤ, List, length, IsSome}
 use Rattle.itpg_base.specs.Words.{Word}
 use Rattle.itpg_base.specs.Spans.{Span, Within}
-use Rattle.itpg_base.specs.Graphs.{Graph, Valued, Named, Exists, Val, HasEnd, InHorizon, ObjectIs}
+use Rattle.itpg_base.specs.Graphs.{Graph, Valued, Named, Exists, HasEnd, InHorizon, ObjectIs}
 use Rattle.interval_set.specs.Runs.{AreRuns, AreRunsOf}
 use Rattle.itpg_graph.specs.Families.{HasProperty}
 

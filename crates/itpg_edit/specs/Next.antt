@@ -1,5 +1,5 @@
 -- What an edit that breaks no rule leaves, what it touches, and what `apply` answers.
-use Rattle.std.specs.Prelude.{◌≡◌, ℕ, List, Result, Ok, Err}
+use Rattle.std.specs.Prelude.{◌≡◌, ℕ, List}
 use Rattle.itpg_base.specs.Graphs.{Graph, Named, ObjectIs}
 use Rattle.itpg_base.specs.declared.touch.Touch.{Touch}
 use Rattle.itpg_base.specs.declared.touch.Touch.TheVariants as touched

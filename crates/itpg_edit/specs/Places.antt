@@ -6,7 +6,7 @@ use Rattle.itpg_base.specs.Graphs.{Graph, Good, Named, Stands, Exists, HasEnd, I
 use Rattle.itpg_base.specs.declared.object_number.ObjNo.{ObjNo}
 use Rattle.itpg_graph.specs.Edges.{HasNumber}
 use Rattle.itpg_edit.specs.declared.edit.Edit.{Edit}
-use Rattle.itpg_edit.specs.declared.edit.Edit.TheVariants.{Begin, AddNode, AddEdge, Live, Gone, Put, Clear, Remove}
+use Rattle.itpg_edit.specs.declared.edit.Edit.TheVariants.{Begin, AddNode, AddEdge, Live, Gone, Put, Clear}
 use Rattle.itpg_edit.specs.declared.place.Place.{Place}
 use Rattle.itpg_edit.specs.Facts.{span_of}
 

@@ -1,4 +1,4 @@
-use Rattle.itpg_edit.proofs.Checked.{clear_full, clear_unbroken}
+use Rattle.itpg_edit.proofs.Checked.{clear_unbroken}
 use Rattle.itpg_edit.proofs.checks.check_clear.Goals as goal
 
 pub returns-else-clears_too_many-clause-unbroken : goal.returns-else-clears_too_many-clause-unbroken

@@ -1,6 +1,6 @@
 use Rattle.std.proofs.Common.{arith}
 use Rattle.std.proofs.lemmas.Grind.{common_steps}
-use Rattle.itpg_edit.proofs.Families.{cuts_many, cuts_few}
+use Rattle.itpg_edit.proofs.Families.{cuts_few}
 use Rattle.itpg_edit.proofs.facts.cuts_too_many.Goals as goal
 
 pub returns-clause-few : goal.returns-clause-few

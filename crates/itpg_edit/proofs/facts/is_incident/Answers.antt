@@ -1,6 +1,6 @@
 use Rattle.itpg_graph.specs.Edges.{LeadsFrom, LeadsTo}
 use Rattle.itpg_edit.proofs.Checked.{some_number}
-use Rattle.itpg_edit.proofs.Ends.{from_end, to_end}
+use Rattle.itpg_graph.proofs.Asked.{from_end, to_end}
 use Rattle.itpg_edit.proofs.facts.is_incident.Goals as goal
 
 pub returns-then-not-is_empty-clause-end : goal.returns-then-not-is_empty-clause-end

@@ -1,6 +1,5 @@
-use Rattle.std.proofs.Common.{◌≡◌, ◌<◌, inl, inr, length, refl, sym, subst, arith, true≢false}
+use Rattle.std.proofs.Common.{◌<◌, inl, inr, length, refl, arith, true≢false}
 use Rattle.std.proofs.lemmas.Grind.{common_steps}
-use Rattle.itpg_base.specs.Graphs.{Object}
 use Rattle.itpg_base.proofs.Objects.{there, here}
 use Rattle.itpg_edit.proofs.Families.{puts_few, puts_many, puts_first, has_property}
 use Rattle.itpg_edit.proofs.facts.puts_too_many.Goals as goal

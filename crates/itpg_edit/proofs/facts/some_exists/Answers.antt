@@ -1,4 +1,4 @@
-use Rattle.std.proofs.Common.{◌≡◌, get_or, ⊎_elim, subst, true≢false, sym, ◌∙◌}
+use Rattle.std.proofs.Common.{get_or, ⊎_elim, subst, true≢false, sym, ◌∙◌}
 use Rattle.itpg_base.specs.Graphs.{Exists}
 use Rattle.itpg_base.specs.declared.object_number.ObjNo.{ObjNo}
 use Rattle.itpg_edit.proofs.Checked.{taken_number, number_at}
