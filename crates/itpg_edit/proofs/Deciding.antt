@@ -58,7 +58,7 @@ some_named g name P each = as_well
       | inr isnt ↦ inr (λ h. isnt h.0)
     ]))
 
-decide_taken : (g : Graph) (name : Word) → Decided (IsTaken g name)
+pub decide_taken : (g : Graph) (name : Word) → Decided (IsTaken g name)
 decide_taken g name = some_object g (λ o. Named g o name) (λ o h. named_below g o name h) (λ o. decide_named g o name)
 
 decide_unknown : (g : Graph) (name : Word) → Decided (IsUnknown g name)

@@ -4,5 +4,6 @@ pub mod Families
 pub mod Deciding
 pub mod Unique
 pub mod Unbroken
+pub mod Exists
 pub mod Checked
 pub mod Exact

@@ -28,7 +28,7 @@ some_of : {X : Type 0} (o : Option X) → (IsNone o → ⊥) → IsSome o
 some_of None never = absurd (never refl)
 some_of (Some x) never = refl
 
-not_after : (a b : ℤ) → (b <ℤ a → ⊥) → a ≤ℤ b
+pub not_after : (a b : ℤ) → (b <ℤ a → ⊥) → a ≤ℤ b
 not_after a b never = by_lt_z b a (λ lt. absurd (never lt)) (λ le. le)
 
 below : (n m : ℕ) → (m ≤ n → ⊥) → n < m

@@ -14,8 +14,9 @@ pub fn law_of_rules()
     ensures apart { (g : Graph) (edit : Edit) (r : RuleCode) → Broken g edit r → Unbroken g edit → ⊥ }
 {}
 
-/// An edit that breaks no rule leads from a good graph to a good one, and to one alone.
+/// An edit that breaks no rule leads from a good graph to exactly one, which is good.
 pub fn law_of_next()
+    ensures some { (g : Graph) (edit : Edit) → Good g → Unbroken g edit → (new : Graph) × Next g edit new }
     ensures good { (g new : Graph) (edit : Edit) → Good g → HasMoments edit → HasLabels edit → Unbroken g edit → Next g edit new → Good new }
     ensures one { (g x y : Graph) (edit : Edit) → Good g → Next g edit x → Next g edit y → x ≡ y }
 {}
