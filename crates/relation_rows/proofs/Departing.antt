@@ -1,85 +1,140 @@
 -- The stops that a search in a timetable finds.
-use Rattle.std.proofs.Common.{◌≡◌, ◌⊎◌, inl, inr, ⊎_elim, ℕ, ◌-◌, ◌<◌, ◌≤◌, ℤ, ◌≤ℤ◌, ◌<ℤ◌, List, length, get_or, take, drop, sym, ◌∙◌, subst, arith, true, false, true≢false}
+use Rattle.std.proofs.Common.{◌≡◌, ◌↔◌, ◌⊎◌, inl, inr, ⊎_elim, ℕ, suc, ◌<◌, ◌/◌, ℤ, ◌≤ℤ◌, ◌<ℤ◌, List, [], ◌∷◌, ◌++◌, length, sym, ◌∙◌, subst, arith, true, false, true≢false}
 use Rattle.std.proofs.lemmas.Int.{ints}
-use Rattle.std.proofs.lemmas.List.{take_all, length-drop, take-append-drop}
-use Rattle.std.proofs.lemmas.Bool.Decides.{eqb_tells, Decides-ltb}
-use Rattle.std.specs.List.Sorted.{IsPartitionedBy, IsPartitionPoint}
+use Rattle.std.proofs.lemmas.Bool.Decides.{Decides-ltb}
 use Rattle.band_normal.specs.Lists.{Among, Ordered}
-use Rattle.band_normal.proofs.Lists.{ordered_by_place, ordered_first}
+use Rattle.band_normal.proofs.Lists.{among_append, append_first, append_second, ordered_first, ordered_second}
+use Rattle.relation_rows.specs.declared.timetable.Reach.{Reach}
 use Rattle.relation_rows.specs.declared.timetable.Stop.{Stop}
-use Rattle.relation_rows.specs.Timetables.{StopUpTo, IsTimetable, departs_by, has_left}
-use Rattle.relation_rows.proofs.Partitions.{among_before, among_behind, among_either, front_among, rest_among}
+use Rattle.relation_rows.specs.Timetables.{StopUpTo, AreReached, DepartsWithin, HasFound, departs_within, departs_by, is_short_of}
 
--- the stop is of an object before o, or of o and so
-abbrev Past : Stop → ℕ → Type 0 → Type 0
-Past s o P = (s.row.source.0 < o) ⊎ ((s.row.source.0 ≡ o) × P)
+within_is : (s : Stop) (o : ℕ) (first last : ℤ) → departs_within s o first last ≡ true → DepartsWithin s o first last
+within_is s o first last e = record { source = grind (arith, ints, Decides-ltb); begins = grind (arith, ints, Decides-ltb); ends = grind (arith, ints, Decides-ltb) }
 
-departs_is : (s : Stop) (o : ℕ) (t : ℤ) → departs_by s o t ≡ true → Past s o (s.row.band.from ≤ℤ t)
-departs_is s o t e = grind (arith, ints, Decides-ltb)
+is_within : (s : Stop) (o : ℕ) (first last : ℤ) → DepartsWithin s o first last → departs_within s o first last ≡ true
+is_within s o first last d =
+    let e = d.source in
+    let b = d.begins in
+    let f = d.ends in
+    grind (arith, ints, Decides-ltb)
 
-is_departed : (s : Stop) (o : ℕ) (t : ℤ) → Past s o (s.row.band.from ≤ℤ t) → departs_by s o t ≡ true
-is_departed s o t (inl l) = grind (arith, ints, Decides-ltb)
-is_departed s o t (inr (e, l)) = grind (arith, ints, Decides-ltb)
+is_departed : (s : Stop) (o : ℕ) (t : ℤ) → (s.row.source.0 ≡ o) → (s.row.band.from ≤ℤ t) → departs_by s o t ≡ true
+is_departed s o t e l = grind (arith, ints, Decides-ltb)
 
-left_is : (s : Stop) (o : ℕ) (t : ℤ) → has_left s o t ≡ true → Past s o (s.reach <ℤ t)
-left_is s o t e = grind (arith, ints, Decides-ltb)
+departs_late : (s : Stop) (o : ℕ) (t : ℤ) → departs_by s o t ≡ false → (o < s.row.source.0) ⊎ ((s.row.source.0 ≡ o) × (t <ℤ s.row.band.from))
+departs_late s o t e = grind (arith, ints, Decides-ltb)
 
-is_left : (s : Stop) (o : ℕ) (t : ℤ) → Past s o (s.reach <ℤ t) → has_left s o t ≡ true
-is_left s o t (inl l) = grind (arith, ints, Decides-ltb)
-is_left s o t (inr (e, l)) = grind (arith, ints, Decides-ltb)
+short_is : (reach : Reach) (o : ℕ) (t : ℤ) → is_short_of reach o t ≡ true → (reach.source.0 < o) ⊎ ((reach.source.0 ≡ o) × (reach.to <ℤ t))
+short_is reach o t e = grind (arith, ints, Decides-ltb)
 
-module _ (stops : List Stop) (table : IsTimetable stops) (o : ℕ) (from to : ℤ) where
-  pub count_partitioned : IsPartitionedBy (λ (s : Stop). departs_by s o to) stops
-  count_partitioned i j d le lt e = elim (eqb_tells i j) [
-    | inl s ↦ subst (λ (v : ℕ). departs_by (get_or stops v d) o to ≡ true) (sym s.1) e
-    | inr n ↦ is_departed (get_or stops i d) o to (go (get_or stops i d) (get_or stops j d) (ordered_by_place StopUpTo stops table.order i j d (let ne = n.1 in omega arith) lt) (departs_is (get_or stops j d) o to e))
-  ]
-    where
-      go : (s t : Stop) → StopUpTo s t → Past t o (t.row.band.from ≤ℤ to) → Past s o (s.row.band.from ≤ℤ to)
-      go s t (inl l) (inl m) = inl (omega arith)
-      go s t (inl l) (inr (f, m)) = inl (omega arith)
-      go s t (inr (e, a, b)) (inl m) = inl (omega arith)
-      go s t (inr (e, a, b)) (inr (f, m)) = inr (e ∙ f, omega (arith, ints))
+-- one stop
+pub found_one : (stop : Stop) (o : ℕ) (first last : ℤ) → departs_within stop o first last ≡ true → (old next : List Stop) → next ≡ old ++ stop ∷ []
+    → (s : Stop) → Among next s ↔ (Among old s ⊎ ((stop ≡ s) × DepartsWithin s o first last))
+found_one stop o first last e old next is s = (
+  λ a. ⊎_elim
+      (λ b. inl b)
+      (λ b. ⊎_elim (λ (g : stop ≡ s). inr (g, subst (λ (v : Stop). DepartsWithin v o first last) g (within_is stop o first last e))) (λ j. absurd j) b)
+      (among_append old (stop ∷ []) s (subst (λ (v : List Stop). Among v s) is a)),
+  λ h. subst (λ (v : List Stop). Among v s) (sym is) (⊎_elim (λ a. append_first old (stop ∷ []) s a) (λ a. append_second old (stop ∷ []) s (inl a.0)) h),
+)
 
-  module _ (n : ℕ) (bound : n ≤ length stops) (point : IsPartitionPoint (λ (s : Stop). departs_by s o to ≡ true) (λ (s : Stop). departs_by s o to ≡ false) stops n) where
-    begun_order : Ordered StopUpTo (take n stops)
-    begun_order = ordered_first StopUpTo (take n stops) (drop n stops) (subst (λ (v : List Stop). Ordered StopUpTo v) (sym (take-append-drop n stops)) table.order)
+pub found_none : (stop : Stop) (o : ℕ) (first last : ℤ) → departs_within stop o first last ≡ false → (old : List Stop)
+    → (s : Stop) → Among old s ↔ (Among old s ⊎ ((stop ≡ s) × DepartsWithin s o first last))
+found_none stop o first last e old s = (
+  λ a. inl a,
+  λ h. ⊎_elim (λ a. a) (λ a. absurd (true≢false (sym (is_within stop o first last (subst (λ (v : Stop). DepartsWithin v o first last) (sym a.0) a.1)) ∙ e))) h,
+)
 
-    pub left_partitioned : IsPartitionedBy (λ (s : Stop). has_left s o from) (take n stops)
-    left_partitioned i j d le lt e = elim (eqb_tells i j) [
-      | inl s ↦ subst (λ (v : ℕ). has_left (get_or (take n stops) v d) o from ≡ true) (sym s.1) e
-      | inr m ↦ is_left (get_or (take n stops) i d) o from (go (get_or (take n stops) i d) (get_or (take n stops) j d) (ordered_by_place StopUpTo (take n stops) begun_order i j d (let ne = m.1 in omega arith) lt) (left_is (get_or (take n stops) j d) o from e))
-    ]
+-- no stops
+pub found_nowhere : (stops : List Stop) → length stops ≡ 0 → (o : ℕ) (first last : ℤ) (old : List Stop) → HasFound stops o first last old old
+found_nowhere [] e o first last old = λ s. (λ a. inl a, λ h. ⊎_elim (λ a. a) (λ a. absurd a.0) h)
+found_nowhere (x ∷ xs) e o first last old = absurd (omega arith)
+
+-- the middle stop, and the halves before and behind it
+module _ (stops before behind : List Stop) (middle : Stop) (is : stops ≡ before ++ middle ∷ behind) (order : Ordered StopUpTo stops) where
+  whole_order : Ordered StopUpTo (before ++ middle ∷ behind)
+  whole_order = subst (λ (v : List Stop). Ordered StopUpTo v) is order
+
+  pub before_order : Ordered StopUpTo before
+  before_order = ordered_first StopUpTo before (middle ∷ behind) whole_order
+
+  middle_order : Ordered StopUpTo (middle ∷ behind)
+  middle_order = ordered_second StopUpTo before (middle ∷ behind) whole_order
+
+  pub behind_order : Ordered StopUpTo behind
+  behind_order = middle_order.1
+
+  part : (s : Stop) → Among stops s → Among before s ⊎ ((middle ≡ s) ⊎ Among behind s)
+  part s a = among_append before (middle ∷ behind) s (subst (λ (v : List Stop). Among v s) is a)
+
+  of_before : (s : Stop) → Among before s → Among stops s
+  of_before s a = subst (λ (v : List Stop). Among v s) (sym is) (append_first before (middle ∷ behind) s a)
+
+  of_middle : (s : Stop) → (middle ≡ s) ⊎ Among behind s → Among stops s
+  of_middle s a = subst (λ (v : List Stop). Among v s) (sym is) (append_second before (middle ∷ behind) s a)
+
+  module _ (o : ℕ) (first last : ℤ) where
+    -- the middle stop doesn't depart by then, nor any behind it
+    pub found_before : departs_by middle o last ≡ false → (old next : List Stop) → HasFound before o first last old next → HasFound stops o first last old next
+    found_before late old next h = λ s. (
+      λ a. ⊎_elim (λ b. inl b) (λ b. inr (of_before s b.0, b.1)) ((h s).0 a),
+      λ k. (h s).1 (⊎_elim (λ a. inl a) (λ a. inr (⊎_elim (λ b. b) (λ b. absurd (later s b a.1)) (part s a.0), a.1)) k),
+    )
       where
-        go : (s t : Stop) → StopUpTo s t → Past t o (t.reach <ℤ from) → Past s o (s.reach <ℤ from)
-        go s t (inl l) (inl m) = inl (omega arith)
-        go s t (inl l) (inr (f, m)) = inl (omega arith)
-        go s t (inr (e, a, b)) (inl m) = inl (omega arith)
-        go s t (inr (e, a, b)) (inr (f, m)) = inr (e ∙ f, omega (arith, ints))
+        later : (s : Stop) → (middle ≡ s) ⊎ Among behind s → DepartsWithin s o first last → ⊥
+        later s (inl e) d = true≢false (sym (is_departed s o last d.source d.begins) ∙ subst (λ (v : Stop). departs_by v o last ≡ false) e late)
+        later s (inr a) d =
+            let f = d.source in
+            let b = d.begins in
+            ⊎_elim
+            (λ (l : o < middle.row.source.0). ⊎_elim (λ m. omega arith) (λ m. let g = m.0 in omega arith) (middle_order.0 s a))
+            (λ (l : (middle.row.source.0 ≡ o) × (last <ℤ middle.row.band.from)).
+            let k = l.1 in
+            let g = l.0 in
+            ⊎_elim (λ m. omega arith) (λ m. let n = m.1 in omega (arith, ints)) (middle_order.0 s a))
+            (departs_late middle o last late)
 
-    module _ (m : ℕ) (within : m ≤ length (take n stops)) (split : IsPartitionPoint (λ (s : Stop). has_left s o from ≡ true) (λ (s : Stop). has_left s o from ≡ false) (take n stops) m) where
-      rest_is : take (length (take n stops) - m) (drop m (take n stops)) ≡ drop m (take n stops)
-      rest_is = take_all (length (take n stops) - m) (drop m (take n stops)) (omega (arith, length-drop m (take n stops)))
+    pub found_each : (old next more all : List Stop) → HasFound before o first last old next
+        → ((s : Stop) → Among more s ↔ (Among next s ⊎ ((middle ≡ s) × DepartsWithin s o first last)))
+        → HasFound behind o first last more all → HasFound stops o first last old all
+    found_each old next more all h one k = λ s. (
+      λ a. ⊎_elim
+          (λ b. ⊎_elim
+          (λ c. ⊎_elim (λ d. inl d) (λ d. inr (of_before s d.0, d.1)) ((h s).0 c))
+          (λ c. inr (of_middle s (inl c.0), c.1))
+          ((one s).0 b))
+          (λ b. inr (of_middle s (inr b.0), b.1))
+          ((k s).0 a),
+      λ m. (k s).1 (⊎_elim
+          (λ a. inl ((one s).1 (inl ((h s).1 (inl a)))))
+          (λ a. ⊎_elim
+          (λ b. inl ((one s).1 (inl ((h s).1 (inr (b, a.1))))))
+          (λ b. ⊎_elim (λ c. inl ((one s).1 (inr (c, a.1)))) (λ c. inr (c, a.1)) b)
+          (part s a.0))
+          m),
+    )
 
-      in_rest : (s : Stop) → Among (take (length (take n stops) - m) (drop m (take n stops))) s → Among (drop m (take n stops)) s
-      in_rest s a = subst (λ (v : List Stop). Among v s) rest_is a
+  module _ (half : length before ≡ length stops / 2) (reach : (depth : ℕ) → AreReached depth stops) where
+    pub before_reach : (depth : ℕ) → AreReached depth before
+    before_reach depth = (reach (suc depth) before behind middle is half).1
 
-      pub found_there : (s : Stop) → Among (take (length (take n stops) - m) (drop m (take n stops))) s → Among stops s
-      found_there s a = front_among stops n s (rest_among (take n stops) m s (in_rest s a))
+    pub behind_reach : (depth : ℕ) → AreReached depth behind
+    behind_reach depth = (reach (suc depth) before behind middle is half).2
 
-      pub found_object : (s : Stop) → Among (take (length (take n stops) - m) (drop m (take n stops))) s → s.row.source.0 ≡ o
-      found_object s a =
-          let begun = departs_is s o to (among_before (λ (t : Stop). departs_by t o to ≡ true) stops n bound point.0 s (rest_among (take n stops) m s (in_rest s a))) in
-          let stays = among_behind (λ (t : Stop). has_left t o from ≡ false) (take n stops) m within split.1 s (in_rest s a) in
-          ⊎_elim (λ l. absurd (true≢false (sym (is_left s o from (inl l)) ∙ stays))) (λ k. k.0) begun
+    -- none of the stops reaches so far
+    pub found_short : (o : ℕ) (first last : ℤ) → is_short_of middle.reach o first ≡ true → (old : List Stop) → HasFound stops o first last old old
+    found_short o first last short old = λ s. (λ a. inl a, λ h. ⊎_elim (λ a. a) (λ a. absurd (none s a.0 a.1)) h)
+      where
+        none : (s : Stop) → Among stops s → DepartsWithin s o first last → ⊥
+        none s a d =
+            let e = d.source in
+            let f = d.ends in
+            ⊎_elim
+            (λ l. ⊎_elim (λ m. omega arith) (λ m. omega arith) (short_is middle.reach o first short))
+            (λ l. let g = l.0 in let k = l.1 in ⊎_elim (λ m. omega arith) (λ m. let n = m.1 in omega (arith, ints)) (short_is middle.reach o first short))
+            ((reach 1 before behind middle is half).0 s a)
 
-      pub found_all : (s : Stop) → Among stops s → s.row.source.0 ≡ o → s.row.band.from ≤ℤ to → from ≤ℤ s.row.band.to → Among (take (length (take n stops) - m) (drop m (take n stops))) s
-      found_all s a e begins ends =
-          let reach = table.reach s a in
-          subst (λ (v : List Stop). Among v s) (sym rest_is) (⊎_elim
-          (λ t. ⊎_elim
-          (λ b. absurd (⊎_elim (λ l. omega arith) (λ k. let l = k.1 in omega (arith, ints)) (left_is s o from (among_before (λ (u : Stop). has_left u o from ≡ true) (take n stops) m within split.0 s b))))
-          (λ b. b)
-          (among_either (take n stops) m s t))
-          (λ d. absurd (true≢false (sym (is_departed s o to (inr (e, begins))) ∙ among_behind (λ (u : Stop). departs_by u o to ≡ false) stops n bound point.1 s d)))
-          (among_either stops n s a))
+-- the same list, by another name
+pub found_as : (stops found those : List Stop) (o : ℕ) (first last : ℤ) → those ≡ found
+    → ((s : Stop) → Among found s ↔ (Among stops s × DepartsWithin s o first last)) → (s : Stop) → Among those s ↔ (Among stops s × DepartsWithin s o first last)
+found_as stops found those o first last e = subst (λ (v : List Stop). (s : Stop) → Among v s ↔ (Among stops s × DepartsWithin s o first last)) (sym e)

@@ -1,5 +1,5 @@
 -- Ways that begin with a row, and those that begin with one of some rows.
-use Rattle.std.proofs.Common.{◌≡◌, ◌↔◌, ◌⊎◌, inl, inr, ⊎_elim, ℕ, ◌+◌, ◌<◌, ◌≤◌, ℤ, ◌≤ℤ◌, List, [], ◌∷◌, ◌++◌, length, slice_index_or, take, Option, Some, None, refl, sym, ◌∙◌, subst, arith}
+use Rattle.std.proofs.Common.{◌≡◌, ◌↔◌, ◌⊎◌, inl, inr, ⊎_elim, ℕ, ◌+◌, ◌<◌, ◌≤◌, ℤ, List, [], ◌∷◌, ◌++◌, length, slice_index_or, take, Option, Some, None, refl, sym, ◌∙◌, subst, arith}
 use Rattle.std.proofs.lemmas.Int.{ints}
 use Rattle.std.proofs.lemmas.List.{take_more, take_all}
 use Rattle.itpg_base.specs.declared.object_number.ObjNo.{ObjNo}
@@ -14,6 +14,7 @@ use Rattle.relation_rows.specs.declared.rows.Row.{Row}
 use Rattle.relation_rows.specs.declared.timetable.Stop.{Stop}
 use Rattle.relation_rows.specs.Rows.{InRow, RowsHold}
 use Rattle.relation_rows.specs.Relations.{Item, ItemsHold}
+use Rattle.relation_rows.specs.Timetables.{DepartsWithin}
 use Rattle.relation_rows.specs.Ways.{ItemThere, GoesOn, AllGoOn}
 use Rattle.relation_rows.proofs.Pushing.{items_more, rows_more}
 
@@ -82,15 +83,14 @@ module _ (row : Row) (zone : Bounds) (is : (t u : ℤ) → Meets zone t u ↔ In
 
   -- the stops found are all by which the row goes on
   module _ (stops found : List Stop) (first last : ℤ) (span : AreArrivals zone first last)
-      (there : (s : Stop) → Among found s → Among stops s)
-      (all : (s : Stop) → Among stops s → s.row.source.0 ≡ row.target.0 → s.row.band.from ≤ℤ last → first ≤ℤ s.row.band.to → Among found s) where
+      (are : (s : Stop) → Among found s ↔ (Among stops s × DepartsWithin s row.target.0 first last)) where
     pub all_ways : (items now : List Item) (k : ℕ) → length found ≤ k → ((x y : Point) → ItemsHold now x y ↔ (ItemsHold items x y ⊎ GoesOn row (take k found) x y))
         → (x y : Point) → ItemsHold now x y ↔ (ItemsHold items x y ⊎ GoesOn row stops x y)
     all_ways items now k le old x y =
         let e = take_all k found le in (
           λ h. ⊎_elim
               (λ a. inl a)
-              (λ (b : GoesOn row (take k found) x y). let g = b.2 in inr (b.0, b.1, (g.0, there g.0 (subst (λ (v : List Stop). Among v g.0) e g.1), g.2)))
+              (λ (b : GoesOn row (take k found) x y). let g = b.2 in inr (b.0, b.1, (g.0, ((are g.0).0 (subst (λ (v : List Stop). Among v g.0) e g.1)).0, g.2)))
               ((old x y).0 h),
           λ h. ⊎_elim
               (λ a. (old x y).1 (inl a))
@@ -104,7 +104,7 @@ module _ (row : Row) (zone : Bounds) (is : (t u : ℤ) → Meets zone t u ↔ In
               let high = span.greatest x.moment (b.0).moment arrives in
               let begins = q.from in
               let ends = q.to in
-              (old x y).1 (inr (b.0, b.1, (g.0, subst (λ (v : List Stop). Among v g.0) (sym e) (all g.0 g.1 (j.source ∙ sym i.target) (omega (arith, ints)) (omega (arith, ints))), g.2))))
+              (old x y).1 (inr (b.0, b.1, (g.0, subst (λ (v : List Stop). Among v g.0) (sym e) ((are g.0).1 (g.1, record { source = j.source ∙ sym i.target; begins = omega (arith, ints); ends = omega (arith, ints) })), g.2))))
               h,
         )
 

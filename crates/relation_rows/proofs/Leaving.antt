@@ -1,5 +1,5 @@
 -- Zones, rows and items without the pairs of others.
-use Rattle.std.proofs.Common.{◌≡◌, ◌↔◌, ◌⊎◌, inl, inr, ⊎_elim, ℕ, ◌+◌, ◌<◌, ◌≤◌, ℤ, ◌≤ℤ◌, List, [], ◌∷◌, ◌++◌, length, slice_index_or, take, Option, Some, None, refl, sym, ◌∙◌, ap, subst, arith}
+use Rattle.std.proofs.Common.{◌≡◌, ◌↔◌, ◌⊎◌, inl, inr, ⊎_elim, ℕ, ◌+◌, ◌<◌, ◌≤◌, ℤ, List, [], ◌∷◌, ◌++◌, length, slice_index_or, take, Option, Some, None, refl, sym, ◌∙◌, ap, subst, arith}
 use Rattle.std.proofs.lemmas.Int.{ints}
 use Rattle.std.proofs.lemmas.List.{take_more, take_all}
 use Rattle.itpg_base.specs.Points.{Point}
@@ -13,6 +13,7 @@ use Rattle.relation_rows.specs.declared.rows.Row.{Row}
 use Rattle.relation_rows.specs.declared.timetable.Stop.{Stop}
 use Rattle.relation_rows.specs.Rows.{HasKey}
 use Rattle.relation_rows.specs.Relations.{Item, ItemsHold}
+use Rattle.relation_rows.specs.Timetables.{DepartsWithin}
 use Rattle.relation_rows.specs.Rest.{SomeStopHas, IsLeft, AnyIsLeft}
 use Rattle.relation_rows.proofs.Pushing.{items_more}
 
@@ -186,13 +187,12 @@ none_left items rows stops x y = (λ h. inl h, λ h. ⊎_elim (λ a. a) (λ a. a
     none (z ∷ zs) r a = a
 
 pub row_left : (old : List Item) (rows : List Row) (stops : List Stop) (k : ℕ) (d : Row) → k < length rows
-    → (cuts : List Stop) → ((s : Stop) → Among cuts s → Among stops s)
-    → ((s : Stop) → Among stops s → s.row.source.0 ≡ (slice_index_or rows k d).source.0 → s.row.band.from ≤ℤ (slice_index_or rows k d).band.to → (slice_index_or rows k d).band.from ≤ℤ s.row.band.to → Among cuts s)
+    → (cuts : List Stop) → ((s : Stop) → Among cuts s ↔ (Among stops s × DepartsWithin s (slice_index_or rows k d).source.0 (slice_index_or rows k d).band.from (slice_index_or rows k d).band.to))
     → ((r : Row) (s : Stop) → Among rows r → Among stops s → s.row.source.0 ≡ r.source.0)
     → (zones pushed : List Bounds) → AreLeft (slice_index_or rows k d) cuts zones → pushed ≡ zones
     → (now next : List Item) → ItemsPushed (slice_index_or rows k d) now pushed next
     → LeftPushed old (take k rows) stops now → LeftPushed old (take (k + 1) rows) stops next
-row_left old rows stops k d lt cuts there all same zones pushed left is now next items so x y =
+row_left old rows stops k d lt cuts are same zones pushed left is now next items so x y =
     let row : Row = slice_index_or rows k d in
     let e = take_more rows k d lt in (
       λ h. ⊎_elim
@@ -220,13 +220,13 @@ row_left old rows stops k d lt cuts there all same zones pushed left is now next
         let b = i.to in
         let from = j.from in
         let to = j.to in
-        (s.0, all s.0 s.1 (same (slice_index_or rows k d) s.0 (among_at rows k d lt) s.1) (omega (arith, ints)) (omega (arith, ints)), s.2)
+        (s.0, (are s.0).1 (s.1, record { source = same (slice_index_or rows k d) s.0 (among_at rows k d lt) s.1; begins = omega (arith, ints); ends = omega (arith, ints) }), s.2)
 
     own : IsLeft (slice_index_or rows k d) stops x y → HasKey (slice_index_or rows k d) x.object y.object × SomeMeets pushed x.moment y.moment
     own h =
         let i = h.0 in (
           (i.source, i.target),
-          subst (λ (v : List Bounds). SomeMeets v x.moment y.moment) (sym is) ((left x.moment y.moment).1 (i.pair, λ s. h.1 (s.0, there s.0 s.1, s.2))),
+          subst (λ (v : List Bounds). SomeMeets v x.moment y.moment) (sym is) ((left x.moment y.moment).1 (i.pair, λ s. h.1 (s.0, ((are s.0).0 s.1).0, s.2))),
         )
 
 pub all_pushed : (old : List Item) (rows : List Row) (stops : List Stop) (k : ℕ) (now : List Item) → length rows ≤ k → LeftPushed old (take k rows) stops now → LeftPushed old rows stops now
@@ -234,6 +234,6 @@ all_pushed old rows stops k now le = subst (λ (v : List Row). LeftPushed old v 
 
 -- what is found in a span is found in one with the same ends
 pub found_between : (stops cuts : List Stop) (o : ℕ) (from to first last : ℤ) → first ≡ from → last ≡ to
-    → ((s : Stop) → Among stops s → s.row.source.0 ≡ o → s.row.band.from ≤ℤ last → first ≤ℤ s.row.band.to → Among cuts s)
-    → (s : Stop) → Among stops s → s.row.source.0 ≡ o → s.row.band.from ≤ℤ to → from ≤ℤ s.row.band.to → Among cuts s
-found_between stops cuts o from to first last e f all s a same begins ends = all s a same (omega (arith, ints)) (omega (arith, ints))
+    → ((s : Stop) → Among cuts s ↔ (Among stops s × DepartsWithin s o first last)) → (s : Stop) → Among cuts s ↔ (Among stops s × DepartsWithin s o from to)
+found_between stops cuts o from to first last e f are s =
+    subst (λ (v : ℤ). Among cuts s ↔ (Among stops s × DepartsWithin s o from v)) f (subst (λ (v : ℤ). Among cuts s ↔ (Among stops s × DepartsWithin s o v last)) e (are s))

@@ -14,6 +14,7 @@ pub mod Uniting
 pub mod Sources
 pub mod Departing
 pub mod Stops
+pub mod Reaching
 pub mod Going
 pub mod Composing
 pub mod Coalescing

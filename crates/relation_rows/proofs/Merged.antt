@@ -1,11 +1,9 @@
 -- A union, one source and target after the other.
-use Rattle.std.proofs.Common.{◌≡◌, ◌↔◌, ◌⊎◌, inl, inr, ⊎_elim, ℕ, zero, suc, ◌+◌, ◌-◌, ◌<◌, ◌≤◌, ℤ, List, [], ◌∷◌, ◌++◌, length, map, get_or, take, drop, Option, Some, None, refl, sym, ◌∙◌, ap, subst, arith, Bool, true, false, true≢false, eqb}
+use Rattle.std.proofs.Common.{◌≡◌, ◌↔◌, ◌⊎◌, inl, inr, ⊎_elim, ℕ, zero, suc, ◌+◌, ◌-◌, ◌<◌, ◌≤◌, ℤ, List, [], ◌∷◌, ◌++◌, length, map, get_or, take, drop, Some, None, refl, sym, ◌∙◌, ap, subst, arith, Bool, true, false, true≢false}
 use Rattle.std.specs.Prelude.{slice_get}
 use Rattle.std.specs.List.Sorted.{IsPartitionedBy, IsPartitionPoint}
-use Rattle.std.proofs.lemmas.List.{take_all, take-append-drop, length-drop, length-take}
-use Rattle.itpg_base.specs.Points.{Point, Relation}
-use Rattle.zone_core.specs.declared.Bounds.{Bounds}
-use Rattle.zone_core.specs.Zone.{Meets}
+use Rattle.std.proofs.lemmas.List.{take_all, take-append-drop, length-drop}
+use Rattle.itpg_base.specs.Points.{Point}
 use Rattle.band_normal.specs.declared.band.Band.{Band}
 use Rattle.band_normal.specs.Lists.{Among, Ordered}
 use Rattle.band_normal.specs.Bands.{InBand, IsWellFormed}
@@ -14,8 +12,8 @@ use Rattle.band_normal.specs.Zones.{SomeMeets}
 use Rattle.band_normal.proofs.Lists.{among_at, among_append, ordered_first}
 use Rattle.band_normal.proofs.Sorting.{normal_like}
 use Rattle.relation_rows.specs.declared.rows.Row.{Row}
-use Rattle.relation_rows.specs.Rows.{between, HasKey, InRow, RowsHold, RowBefore, KeyBefore, NormalRows, IsWide, IsRelation, rows_at}
-use Rattle.relation_rows.specs.Relations.{Item, InItem, ItemsHold, EitherHolds}
+use Rattle.relation_rows.specs.Rows.{between, HasKey, RowsHold, RowBefore, KeyBefore, NormalRows, IsWide, IsRelation, rows_at}
+use Rattle.relation_rows.specs.Relations.{Item, ItemsHold, EitherHolds}
 use Rattle.relation_rows.specs.Searching.{has_key, comes_before}
 use Rattle.relation_rows.specs.Uniting.{KeyUpTo, IsNext, SomeHasBand, EitherHas, IsPart, HasPushed}
 use Rattle.relation_rows.proofs.Listed.{Listed, normal_of, with_key, wide_early, key_apart, keys_apart, key_either, at_among}

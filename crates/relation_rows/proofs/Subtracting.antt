@@ -1,5 +1,5 @@
 -- A difference, one source and target after the other.
-use Rattle.std.proofs.Common.{◌≡◌, ◌↔◌, ◌⊎◌, inl, inr, ⊎_elim, ℕ, ◌-◌, ◌<◌, ◌≤◌, ◌≤ℤ◌, List, [], ◌∷◌, length, map, get_or, take, drop, Some, None, refl, sym, ◌∙◌, ap, subst, arith, Bool, true, false, true≢false}
+use Rattle.std.proofs.Common.{◌≡◌, ◌↔◌, ◌⊎◌, inl, inr, ⊎_elim, ℕ, ◌-◌, ◌<◌, ◌≤◌, List, [], ◌∷◌, length, map, get_or, take, drop, Some, None, refl, sym, ◌∙◌, ap, subst, arith, Bool, true, false, true≢false}
 use Rattle.std.specs.Prelude.{slice_get}
 use Rattle.std.specs.List.Sorted.{IsPartitionedBy, IsPartitionPoint}
 use Rattle.std.proofs.lemmas.Int.{ints}
@@ -15,7 +15,7 @@ use Rattle.relation_rows.specs.declared.timetable.Stop.{Stop}
 use Rattle.relation_rows.specs.Rows.{HasKey, RowsHold, RowBefore}
 use Rattle.relation_rows.specs.Relations.{Item, ItemsHold, OnlyFirstHolds}
 use Rattle.relation_rows.specs.Searching.{has_key, comes_before}
-use Rattle.relation_rows.specs.Timetables.{DepartsUpTo, StopUpTo, IsTimetable}
+use Rattle.relation_rows.specs.Timetables.{AreReached, DepartsUpTo, StopUpTo, IsTimetable}
 use Rattle.relation_rows.specs.Rest.{SomeStopHas, AnyIsLeft}
 use Rattle.relation_rows.proofs.Listed.{key_apart, keys_apart}
 use Rattle.relation_rows.proofs.Keys.{key_is, is_key, key_partitioned, comes_is}
@@ -101,7 +101,7 @@ module _ (o p : ℕ) (second keyed : List Row) (are : (r : Row) → Among keyed 
   pub stop_keyed : (s : Stop) → Among stops s → Among second s.row × HasKey s.row o p
   stop_keyed s a = (are s.row).0 (subst (λ (v : List Row). Among v s.row) made (row_among stops s a))
 
-  pub table_keyed : Ordered StopUpTo stops → ((s : Stop) → Among stops s → s.row.band.to ≤ℤ s.reach) → ((r : Row) → Among second r → IsWellFormed r.band) → IsTimetable stops
+  pub table_keyed : Ordered StopUpTo stops → ((depth : ℕ) → AreReached depth stops) → ((r : Row) → Among second r → IsWellFormed r.band) → IsTimetable stops
   table_keyed order reach formed = record { order = order; reach = reach; formed = λ s a. formed s.row (stop_keyed s a).0 }
 
   -- a pair of the source and target that no stop has isn't in the second rows

@@ -1,11 +1,9 @@
 -- Objects at moments have at most one list of one-time rows, and where they are decided and finitely many one.
-use Rattle.std.proofs.Common.{◌≡◌, ◌↔◌, ◌⊎◌, inl, inr, ⊎_elim, ℕ, zero, suc, ◌+◌, ◌<◌, ◌≤◌, ℤ, pos, ◌+ℤ◌, ◌-ℤ◌, ◌≤ℤ◌, ◌<ℤ◌, Bool, List, [], ◌∷◌, ◌++◌, refl, sym, ◌∙◌, ap, subst, arith}
+use Rattle.std.proofs.Common.{◌≡◌, ◌⊎◌, inl, inr, ⊎_elim, ℕ, zero, suc, ◌<◌, ℤ, pos, ◌+ℤ◌, ◌-ℤ◌, ◌≤ℤ◌, ◌<ℤ◌, Bool, List, [], ◌∷◌, ◌++◌, refl, sym, ◌∙◌, ap, subst, arith}
 use Rattle.std.proofs.lemmas.Int.{ints, by_lt_z}
 use Rattle.std.proofs.lemmas.Bool.Decides.{eqb_tells}
 use Rattle.std.specs.Prelude.{IsTrue}
-use Rattle.itpg_base.specs.declared.object_number.ObjNo.{ObjNo}
-use Rattle.itpg_base.specs.Decided.{Decided}
-use Rattle.itpg_base.specs.Spans.{Span, Within, Covers, IsSpan, IsCoalesced, StartsApart}
+use Rattle.itpg_base.specs.Spans.{Span, Within, Covers, IsSpan, IsCoalesced}
 use Rattle.itpg_base.proofs.Searches.{is_true}
 use Rattle.interval_set.specs.Runs.{AreRuns}
 use Rattle.interval_set.proofs.Coalesced.{covered_late}
@@ -14,7 +12,7 @@ use Rattle.zone_core.specs.Zone.{Between}
 use Rattle.band_normal.specs.Lists.{Among, Ordered}
 use Rattle.band_normal.proofs.Lists.{among_append, append_first, append_second, append_ordered, ordered_either, ordered_unique}
 use Rattle.relation_rows.specs.declared.times.OneRow.{OneRow}
-use Rattle.relation_rows.specs.Times.{InTime, TimesHold, TimeBefore, AreTimes}
+use Rattle.relation_rows.specs.Times.{TimesHold, TimeBefore, AreTimes}
 
 -- by object and first moment, which is an order of whatever rows
 abbrev Starts : OneRow → OneRow → Type 0

@@ -92,8 +92,8 @@ fn push_left(items: &mut Vec<Item>, rows: &[Row], stops: &[Stop]) -> Result<(), 
 {
     let alloc = *items.allocator();
     for row in rows {
-        let cuts = departing(stops, row.source, departures_of(&row.band));
-        let zones = left_of(alloc, row, cuts)?;
+        let cuts = departing(alloc, stops, row.source, departures_of(&row.band))?;
+        let zones = left_of(alloc, row, &cuts)?;
         push_items(items, row, &zones)?;
     }
     Ok(())

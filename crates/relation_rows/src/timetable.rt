@@ -1,42 +1,75 @@
 //! The rows of a relation by their source and first departure, to find those that depart in a span.
 
-ghost use Rattle.std.specs.Prelude.{◌≡◌, ◌↔◌, ℤ, ◌≤ℤ◌, map, IfOk, IfSome, IsTrue};
+ghost use Rattle.std.specs.Prelude.{◌≡◌, ◌⊎◌, ◌↔◌, ℕ, map, IfOk, OnOk};
 ghost use Rattle.itpg_base.specs.Points.{Point};
 ghost use Rattle.band_normal.specs.Lists.{Among, Ordered};
 ghost use Rattle.band_normal.specs.Bands.{IsWellFormed};
 ghost use Rattle.relation_rows.specs.declared.rows.Row.{Row as PlainRow};
 ghost use Rattle.relation_rows.specs.declared.timetable.Stop.{Stop as PlainStop};
 ghost use Rattle.relation_rows.specs.Rows.{RowsHold};
-ghost use Rattle.relation_rows.specs.Timetables.{DepartsUpTo, StopUpTo, StopsHold, IsTimetable, departs_by, has_left};
+ghost use Rattle.relation_rows.specs.Timetables.{DepartsUpTo, StopUpTo, StopsHold, IsTimetable, Reaches, AreReached, HasStops, HasFound, DepartsWithin, departs_within, departs_by, is_short_of};
 
 use crate::rows::Row;
 use itpg_base::ObjNo;
 use std::alloc::{AllocError, Global};
 
-/// A row, and the last departure of all rows of its source up to it.
+/// The last source of some rows, and the last departure from it.
+#[derive(Clone, Copy)]
+pub(crate) struct Reach {
+    pub(crate) source: ObjNo,
+    pub(crate) to: i64,
+}
+
+/// A row of a timetable. The one in the middle tells how far all of them reach, and so it is in each half.
 #[derive(Clone, Copy)]
 pub(crate) struct Stop {
     pub(crate) row: Row,
-    pub(crate) reach: i64,
+    pub(crate) reach: Reach,
 }
 
-// The stop of a row that comes after the last one.
-fn stop_after(last: Option<&Stop>, row: &Row) -> Stop
-    ensures row { result.row ≡ row.now }
-    ensures own { row.now.band.to ≤ℤ result.reach }
-    ensures after { IfSome last.entry (λ s. s.now.row.source.0 ≡ row.now.source.0 → s.now.reach ≤ℤ result.reach) }
+// How far the row reaches, or the others where that is farther.
+fn farther(reach: Reach, row: &Row) -> Reach
+    ensures row { Reaches result row.now }
+    ensures others { (r : PlainRow) → Reaches reach r → Reaches result r }
 {
-    let mut stop = Stop {
-        row: *row,
-        reach: row.band.to,
-    };
-    if let Some(last) = last
-        && last.row.source.0 == row.source.0
-        && stop.reach < last.reach
-    {
-        stop.reach = last.reach;
+    if reach.source.0 < row.source.0 || reach.source.0 == row.source.0 && reach.to < row.band.to {
+        return Reach {
+            source: row.source,
+            to: row.band.to,
+        };
     }
-    stop
+    reach
+}
+
+// How far the rows reach, if not as far as one of them, then farther.
+fn reach_of(rows: &[Row], one: &Row) -> Reach
+    ensures { (r : PlainRow) → Among rows.now r → Reaches result r }
+{
+    let mut reach = Reach {
+        source: one.source,
+        to: one.band.to,
+    };
+    for row in rows {
+        reach = farther(reach, row);
+    }
+    reach
+}
+
+// Adds the stops of the rows.
+fn push_stops(stops: &mut Vec<Stop>, rows: &[Row]) -> Result<(), AllocError>
+    ensures { OnOk result (HasStops rows.now stops.old.items stops.new.items) }
+{
+    let (before, rest) = rows.split_at(rows.len() / 2);
+    let Some((row, behind)) = rest.split_first() else {
+        return Ok(());
+    };
+    push_stops(stops, before)?;
+    stops.push(Stop {
+        row: *row,
+        reach: reach_of(rows, row),
+    })?;
+    push_stops(stops, behind)?;
+    Ok(())
 }
 
 /// The stops of rows that stand by source and first departure.
@@ -44,13 +77,10 @@ pub(crate) fn stops_of(alloc: Global, rows: &[Row]) -> Result<Vec<Stop>, AllocEr
     requires { Ordered DepartsUpTo rows.now }
     ensures rows { IfOk result (λ stops. map (λ (s : PlainStop). s.row) stops.items ≡ rows.now) }
     ensures order { IfOk result (λ stops. Ordered StopUpTo stops.items) }
-    ensures reach { IfOk result (λ stops. (s : PlainStop) → Among stops.items s → s.row.band.to ≤ℤ s.reach) }
+    ensures reach { IfOk result (λ stops. (depth : ℕ) → AreReached depth stops.items) }
 {
     let mut stops = Vec::new(alloc);
-    for row in rows {
-        let stop = stop_after(stops.last(), row);
-        stops.push(stop)?;
-    }
+    push_stops(&mut stops, rows)?;
     Ok(stops)
 }
 
@@ -66,27 +96,79 @@ pub(crate) fn timetable(alloc: Global, rows: &[Row]) -> Result<Vec<Stop>, AllocE
     Ok(stops)
 }
 
+// Whether the stop is of the object and departs in the span, both ends included.
+fn departs_in(stop: &Stop, object: ObjNo, span: (i64, i64)) -> bool
+    ensures { result ≡ departs_within stop.now object.0 span.0 span.1 }
+{
+    stop.row.source.0 == object.0 && stop.row.band.from <= span.1 && span.0 <= stop.row.band.to
+}
+
 fn is_departed_by(stop: &Stop, object: ObjNo, span: (i64, i64)) -> bool
     ensures { result ≡ departs_by stop.now object.0 span.1 }
 {
     stop.row.source.0 < object.0 || stop.row.source.0 == object.0 && stop.row.band.from <= span.1
 }
 
-fn is_left_before(stop: &Stop, object: ObjNo, span: (i64, i64)) -> bool
-    ensures { result ≡ has_left stop.now object.0 span.0 }
+fn is_short(reach: &Reach, object: ObjNo, span: (i64, i64)) -> bool
+    ensures { result ≡ is_short_of reach.now object.0 span.0 }
 {
-    stop.row.source.0 < object.0 || stop.row.source.0 == object.0 && stop.reach < span.0
+    reach.source.0 < object.0 || reach.source.0 == object.0 && reach.to < span.0
 }
 
-/// The stops of the object, among them all that have a departure in the span.
-pub(crate) fn departing(stops: &[Stop], object: ObjNo, span: (i64, i64)) -> &[Stop]
-    requires { IsTimetable stops.now }
-    ensures there { (s : PlainStop) → Among result.now s → Among stops.now s }
-    ensures object { (s : PlainStop) → Among result.now s → s.row.source.0 ≡ object.0 }
-    ensures all { (s : PlainStop) → Among stops.now s → s.row.source.0 ≡ object.0 → s.row.band.from ≤ℤ span.1 → span.0 ≤ℤ s.row.band.to → Among result.now s }
+// Adds the stop where it is of the object and departs in the span.
+fn push_found(
+    found: &mut Vec<Stop>,
+    stop: &Stop,
+    object: ObjNo,
+    span: (i64, i64),
+) -> Result<(), AllocError>
+    ensures { OnOk result ((s : PlainStop) → Among found.new.items s ↔ (Among found.old.items s ⊎ ((stop.now ≡ s) × DepartsWithin s object.0 span.0 span.1))) }
 {
-    let count = stops.partition_point(|stop| is_departed_by(stop, object, span));
-    let begun = &stops[..count];
-    let left = begun.partition_point(|stop| is_left_before(stop, object, span));
-    &begun[left..]
+    if !departs_in(stop, object, span) {
+        return Ok(());
+    }
+    found.push(*stop)?;
+    Ok(())
+}
+
+// Adds the stops of the object that depart in the span.
+fn push_departing(
+    found: &mut Vec<Stop>,
+    stops: &[Stop],
+    object: ObjNo,
+    span: (i64, i64),
+) -> Result<(), AllocError>
+    requires order { Ordered StopUpTo stops.now }
+    requires reach { (depth : ℕ) → AreReached depth stops.now }
+    ensures { OnOk result (HasFound stops.now object.0 span.0 span.1 found.old.items found.new.items) }
+{
+    let (before, rest) = stops.split_at(stops.len() / 2);
+    let Some((stop, behind)) = rest.split_first() else {
+        return Ok(());
+    };
+    if is_short(&stop.reach, object, span) {
+        return Ok(());
+    }
+    push_departing(found, before, object, span)?;
+    if !is_departed_by(stop, object, span) {
+        return Ok(());
+    }
+    push_found(found, stop, object, span)?;
+    push_departing(found, behind, object, span)?;
+    Ok(())
+}
+
+/// The stops of the object that have a departure in the span, both ends included.
+pub(crate) fn departing(
+    alloc: Global,
+    stops: &[Stop],
+    object: ObjNo,
+    span: (i64, i64),
+) -> Result<Vec<Stop>, AllocError>
+    requires { IsTimetable stops.now }
+    ensures { IfOk result (λ found. (s : PlainStop) → Among found.items s ↔ (Among stops.now s × DepartsWithin s object.0 span.0 span.1)) }
+{
+    let mut found = Vec::new(alloc);
+    push_departing(&mut found, stops, object, span)?;
+    Ok(found)
 }

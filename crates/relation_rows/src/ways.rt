@@ -44,7 +44,8 @@ fn push_ways(items: &mut Vec<Item>, row: &Row, stops: &[Stop]) -> Result<(), All
     ensures { OnOk result ((x : Point) → (y : Point) → ItemsHold items.new.items x y ↔ (ItemsHold items.old.items x y ⊎ GoesOn row.now stops.now x y)) }
 {
     let zone = zone_of(&row.band);
-    for stop in departing(stops, row.target, arrivals(&zone)) {
+    let found = departing(*items.allocator(), stops, row.target, arrivals(&zone))?;
+    for stop in &found {
         let way = compose(&zone, &zone_of(&stop.row.band));
         push_there(items, row.source, stop.row.target, way)?;
     }

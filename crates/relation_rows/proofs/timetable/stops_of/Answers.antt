@@ -1,16 +1,13 @@
-use Rattle.std.proofs.Common.{List, length, slice_get, ◌-◌, ◌∙◌, ap, sym, subst}
+use Rattle.std.proofs.Common.{◌≡◌, List, ◌++◌, ◌∙◌, ap, sym, subst}
+use Rattle.band_normal.specs.Lists.{Ordered}
+use Rattle.relation_rows.specs.declared.rows.Row.{Row}
 use Rattle.relation_rows.specs.declared.timetable.Stop.{Stop}
-use Rattle.relation_rows.proofs.Stops.{StopsSoFar, no_stops, push_stop, all_rows}
+use Rattle.relation_rows.specs.Timetables.{DepartsUpTo, StopUpTo}
+use Rattle.relation_rows.proofs.Stops.{stops_ordered}
 use Rattle.relation_rows.proofs.timetable.stops_of.Goals as goal
 
-pub loop-row-init : goal.loop-row-init
-loop-row-init c = subst (λ (v : List Stop). StopsSoFar c.args.rows.now 0 v) (sym c.new-stops.ensures.items) (no_stops c.args.rows.now)
-
-pub loop-row-preserved : goal.loop-row-preserved
-loop-row-preserved c =
-    let pushed = c.in_ok-push.ensures.items in
-    push_stop c.args.rows.now c.requires c.loop-row.row-index _ c.loop-row-test.true c.loop-row.stops.items c.loop-row.invariant c.last.result (c.last.ensures.value ∙ ap (λ (v : List Stop). slice_get v (length v - 1)) c.deref.ensures.value)
-    c.stop_after-stop.result c.stop_after-stop.ensures.row c.stop_after-stop.ensures.own c.stop_after-stop.ensures.after _ pushed
-
-pub returns-clause-rows : goal.returns-clause-rows
-returns-clause-rows c = all_rows c.args.rows.now c.loop-row.row-index c.loop-row.stops.items c.loop-row-test.false c.loop-row.invariant
+pub returns-clause-order : goal.returns-clause-order
+returns-clause-order c =
+    let has = c.in_ok-push_stops.ensures in
+    let all : c.push_stops.new.stops.items ≡ has.0 = has.1 ∙ ap (λ (v : List Stop). v ++ has.0) c.new-stops.ensures.items in
+    subst (λ (v : List Stop). Ordered StopUpTo v) (sym all) (stops_ordered has.0 (subst (λ (v : List Row). Ordered DepartsUpTo v) (sym has.2) c.requires))

@@ -1,4 +1,4 @@
-use Rattle.std.proofs.Common.{◌↔◌, List, subst, map}
+use Rattle.std.proofs.Common.{List, subst, map}
 use Rattle.band_normal.specs.Normal.{Normal}
 use Rattle.band_normal.specs.Zones.{SomeMeets}
 use Rattle.relation_rows.specs.Relations.{Item}

@@ -1,7 +1,6 @@
-use Rattle.std.proofs.Common.{◌≡◌, ◌++◌, ◌∙◌, List, ap, subst, arith, rules, length}
+use Rattle.std.proofs.Common.{◌≡◌, ◌++◌, ◌∙◌, List, ap, arith, length}
 use Rattle.std.proofs.lemmas.Bool.Decides.{Decides-eqb}
 use Rattle.band_normal.specs.declared.band.Band.{Band}
-use Rattle.relation_rows.specs.declared.rows.Row.{Row}
 use Rattle.relation_rows.specs.Rows.{rows_at}
 use Rattle.relation_rows.proofs.Merged.{pushed_here, pushed_there}
 use Rattle.relation_rows.proofs.unite.push_both.Goals as goal

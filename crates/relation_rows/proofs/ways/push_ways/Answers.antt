@@ -1,16 +1,21 @@
+use Rattle.relation_rows.proofs.Departing.{found_as}
 use Rattle.relation_rows.proofs.Going.{stop_more, all_ways, stop_formed, stop_source}
 use Rattle.relation_rows.proofs.ways.push_ways.Goals as goal
 
 pub zone_of-requires : goal.zone_of-requires
-zone_of-requires c = stop_formed c.args.stops.now c.departing-stop-items.result.now c.loop-stop.stop-index _ c.loop-stop-test.true c.departing-stop-items.ensures.there (c.requires.stops).formed
+zone_of-requires c =
+    let are = found_as c.args.stops.now c.in_ok-found.found.items c.deref-stop-items.result.now c.args.row.now.target.0 c.arrivals.result.0 c.arrivals.result.1 c.deref-stop-items.ensures.value c.in_ok-found.ensures in
+    stop_formed c.args.stops.now c.deref-stop-items.result.now c.loop-stop.stop-index _ c.loop-stop-test.true (λ s a. ((are s).0 a).0) (c.requires.stops).formed
 
 pub loop-stop-preserved : goal.loop-stop-preserved
 loop-stop-preserved c =
-    stop_more c.args.row.now c.zone_of-zone.result c.zone_of-zone.ensures _ _ _ c.departing-stop-items.result.now c.loop-stop.stop-index _ c.loop-stop-test.true
-    c.zone_of.result c.zone_of.ensures (stop_source c.departing-stop-items.result.now _ c.loop-stop.stop-index _ c.loop-stop-test.true c.departing-stop-items.ensures.object)
+    let are = found_as c.args.stops.now c.in_ok-found.found.items c.deref-stop-items.result.now c.args.row.now.target.0 c.arrivals.result.0 c.arrivals.result.1 c.deref-stop-items.ensures.value c.in_ok-found.ensures in
+    stop_more c.args.row.now c.zone_of-zone.result c.zone_of-zone.ensures _ _ _ c.deref-stop-items.result.now c.loop-stop.stop-index _ c.loop-stop-test.true
+    c.zone_of.result c.zone_of.ensures (stop_source c.deref-stop-items.result.now _ c.loop-stop.stop-index _ c.loop-stop-test.true (λ s a. (((are s).0 a).1).source))
     c.compose-way.result c.compose-way.ensures c.in_ok-push_there.ensures c.loop-stop.invariant
 
 pub returns : goal.returns
 returns c =
-    all_ways c.args.row.now c.zone_of-zone.result c.zone_of-zone.ensures c.args.stops.now c.departing-stop-items.result.now c.arrivals.result.0 c.arrivals.result.1 c.arrivals.ensures
-    c.departing-stop-items.ensures.there c.departing-stop-items.ensures.all _ _ c.loop-stop.stop-index c.loop-stop-test.false c.loop-stop.invariant
+    let are = found_as c.args.stops.now c.in_ok-found.found.items c.deref-stop-items.result.now c.args.row.now.target.0 c.arrivals.result.0 c.arrivals.result.1 c.deref-stop-items.ensures.value c.in_ok-found.ensures in
+    all_ways c.args.row.now c.zone_of-zone.result c.zone_of-zone.ensures c.args.stops.now c.deref-stop-items.result.now c.arrivals.result.0 c.arrivals.result.1 c.arrivals.ensures
+    are _ _ c.loop-stop.stop-index c.loop-stop-test.false c.loop-stop.invariant

@@ -1,0 +1,8 @@
+use Rattle.std.proofs.Common.{take}
+use Rattle.band_normal.specs.Lists.{Among}
+use Rattle.relation_rows.specs.declared.rows.Row.{Row}
+use Rattle.relation_rows.specs.Timetables.{Reaches}
+use Rattle.relation_rows.proofs.timetable.reach_of.Given as goal
+
+abbrev pub invariant-loop-row : goal.invariant-loop-row
+invariant-loop-row l = (r : Row) → Among (take l.row-index l.rows) r → Reaches l.reach r
