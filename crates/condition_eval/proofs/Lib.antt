@@ -1,0 +1,7 @@
+pub mod Marked
+pub mod Points
+pub mod Turning
+pub mod Itself
+pub mod Starting
+pub mod Meanings
+pub mod Finding

@@ -1,0 +1,125 @@
+-- The moments at which a relation starts at an object.
+use Rattle.std.proofs.Common.{◌≡◌, ◌↔◌, ◌⊎◌, inl, inr, ⊎_elim, ℕ, ◌+◌, ◌-◌, ◌<◌, ◌≤◌, ℤ, List, [], ◌∷◌, length, get_or, slice_index_or, take, drop, refl, sym, ◌∙◌, subst, arith, Bool, true, false, true≢false}
+use Rattle.std.specs.Prelude.{◌==◌, nat_lt}
+use Rattle.std.specs.List.Sorted.{IsPartitionedBy, IsPartitionPoint}
+use Rattle.std.proofs.lemmas.Bool.Decides.{eqb_tells, Decides-ltb}
+use Rattle.std.proofs.lemmas.List.{take_all, length-drop}
+use Rattle.itpg_base.specs.declared.object_number.ObjNo.{ObjNo}
+use Rattle.itpg_base.specs.Spans.{Span, Within, Covers}
+use Rattle.itpg_base.specs.Graphs.{Graph, Stands}
+use Rattle.interval_set.specs.Runs.{AreRuns}
+use Rattle.interval_set.proofs.Unique.{runs_alike}
+use Rattle.band_normal.specs.Lists.{Among, Ordered}
+use Rattle.band_normal.proofs.Lists.{among_at, ordered_by_place}
+use Rattle.relation_rows.specs.declared.rows.Row.{Row}
+use Rattle.relation_rows.specs.declared.times.OneRow.{OneRow}
+use Rattle.relation_rows.specs.Times.{TimeBefore, TimesHold, AreTimes, Departs}
+use Rattle.relation_rows.proofs.Partitions.{among_before, among_behind, among_either, front_among, rest_among, rest_ordered, among_more, more_among}
+use Rattle.condition_eval.specs.Tested.{StartsAt, HasHorizon}
+use Rattle.condition_eval.proofs.Marked.{point}
+use Rattle.condition_eval.proofs.Points.{in_horizon}
+
+abbrev pub comes_before : ℕ → OneRow → Bool
+comes_before o r = nat_lt r.object.0 o
+
+abbrev pub is_of : ℕ → OneRow → Bool
+is_of o r = r.object.0 == o
+
+before_is : (o : ℕ) (r : OneRow) → comes_before o r ≡ true → r.object.0 < o
+before_is o r e = grind (arith, Decides-ltb)
+
+is_before : (o : ℕ) (r : OneRow) → r.object.0 < o → comes_before o r ≡ true
+is_before o r l = grind (arith, Decides-ltb)
+
+of_is : (o : ℕ) (r : OneRow) → is_of o r ≡ true → r.object.0 ≡ o
+of_is o r e = ⊎_elim (λ k. k.1) (λ k. absurd (true≢false (sym e ∙ k.0))) (eqb_tells r.object.0 o)
+
+is_of_it : (o : ℕ) (r : OneRow) → r.object.0 ≡ o → is_of o r ≡ true
+is_of_it o r e = ⊎_elim (λ k. k.0) (λ k. absurd (k.1 e)) (eqb_tells r.object.0 o)
+
+up : (r s : OneRow) → TimeBefore r s → r.object.0 ≤ s.object.0
+up r s (inl l) = omega arith
+up r s (inr b) = let e = b.0 in omega arith
+
+module _ (rows : List OneRow) (o : ℕ) (order : Ordered TimeBefore rows) where
+  pub before_partitioned : IsPartitionedBy (comes_before o) rows
+  before_partitioned i j d le lt e = elim (eqb_tells i j) [
+    | inl s ↦ subst (λ (v : ℕ). comes_before o (get_or rows v d) ≡ true) (sym s.1) e
+    | inr n ↦ (
+        let b = before_is o (get_or rows j d) e in
+        let u = up (get_or rows i d) (get_or rows j d) (ordered_by_place TimeBefore rows order i j d (let ne = n.1 in omega arith) lt) in
+        is_before o (get_or rows i d) (omega arith)
+        )
+  ]
+
+  module _ (n : ℕ) (bound : n ≤ length rows) (point : IsPartitionPoint (λ (r : OneRow). comes_before o r ≡ true) (λ (r : OneRow). comes_before o r ≡ false) rows n)
+      (from : List OneRow) (is : from ≡ take (length rows - n) (drop n rows)) where
+    from_is : from ≡ drop n rows
+    from_is = is ∙ take_all (length rows - n) (drop n rows) (omega (arith, length-drop n rows))
+
+    late : (r : OneRow) → Among from r → o ≤ r.object.0
+    late r a =
+        let f = among_behind (λ (s : OneRow). comes_before o s ≡ false) rows n bound point.1 r (subst (λ (v : List OneRow). Among v r) from_is a) in
+        grind (arith, Decides-ltb)
+
+    order_from : Ordered TimeBefore from
+    order_from = subst (λ (v : List OneRow). Ordered TimeBefore v) (sym from_is) (rest_ordered TimeBefore rows n order)
+
+    pub of_partitioned : IsPartitionedBy (is_of o) from
+    of_partitioned i j d le lt e = elim (eqb_tells i j) [
+      | inl s ↦ subst (λ (v : ℕ). is_of o (get_or from v d) ≡ true) (sym s.1) e
+      | inr m ↦ (
+          let here = of_is o (get_or from j d) e in
+          let u = up (get_or from i d) (get_or from j d) (ordered_by_place TimeBefore from order_from i j d (let ne = m.1 in omega arith) lt) in
+          let l = late (get_or from i d) (among_at from i d (omega arith)) in
+          is_of_it o (get_or from i d) (omega arith)
+          )
+    ]
+
+    pub object_rows : (m : ℕ) → m ≤ length from → IsPartitionPoint (λ (r : OneRow). is_of o r ≡ true) (λ (r : OneRow). is_of o r ≡ false) from m → (r : OneRow) → Among (take m from) r ↔ (Among rows r × (r.object.0 ≡ o))
+    object_rows m within split r = (
+      λ a. (rest_among rows n r (subst (λ (v : List OneRow). Among v r) from_is (front_among from m r a)), of_is o r (among_before (λ (s : OneRow). is_of o s ≡ true) from m within split.0 r a)),
+      λ h. ⊎_elim
+          (λ t. absurd (let b = before_is o r (among_before (λ (s : OneRow). comes_before o s ≡ true) rows n bound point.0 r t) in let e = h.1 in omega arith))
+          (λ d. ⊎_elim (λ f. f) (λ l. absurd (true≢false (sym (is_of_it o r h.1) ∙ among_behind (λ (s : OneRow). is_of o s ≡ false) from m within split.1 r l)))
+          (among_either from m r (subst (λ (v : List OneRow). Among v r) (sym from_is) d)))
+          (among_either rows n r h.0),
+    )
+
+-- some row of the list has the moment
+abbrev pub SomeHas : List OneRow → ℤ → Type 0
+SomeHas rows t = (r : OneRow) × Among rows r × Within t r.span
+
+pub none_joined : (rows : List OneRow) (moments : List Span) → moments ≡ [] → AreRuns (SomeHas (take 0 rows)) moments
+none_joined rows moments e = subst (λ (v : List Span). AreRuns (SomeHas (take 0 rows)) v) (sym e) (record { whole = λ t h. none rows h.0 h.1; only = λ t h. absurd h; coalesced = tt })
+  where
+    none : (xs : List OneRow) (r : OneRow) → Among (take 0 xs) r → ⊥
+    none [] r a = a
+    none (x ∷ xs) r a = a
+
+pub one_joined : (rows : List OneRow) (i : ℕ) (r : OneRow) → i < length rows → r ≡ slice_index_or rows i r → (old new : List Span) → AreRuns (λ t. Covers old t ⊎ Within t r.span) new → AreRuns (SomeHas (take i rows)) old
+    → AreRuns (SomeHas (take (i + 1) rows)) new
+one_joined rows i r lt read old new runs so =
+    runs_alike (λ t. Covers old t ⊎ Within t r.span) (SomeHas (take (i + 1) rows)) new
+    (λ t h. ⊎_elim (λ c. let k = so.only t c in (k.0, more_among rows i r k.0 lt read (inl k.1), k.2)) (λ w. (r, more_among rows i r r lt read (inr refl), w)) h)
+    (λ t h. ⊎_elim (λ a. inl (so.whole t (h.0, a, h.2))) (λ (e : r ≡ h.0). inr (subst (λ (v : OneRow). Within t v.span) (sym e) h.2)) (among_more rows i r h.0 lt read h.1))
+    runs
+
+-- all rows of the object are read
+pub all_joined : (rows items : List OneRow) (o : ObjNo) → ((r : OneRow) → Among items r ↔ (Among rows r × (r.object.0 ≡ o.0))) → (i : ℕ) → length items ≤ i → (moments : List Span) → AreRuns (SomeHas (take i items)) moments
+    → AreRuns (λ t. TimesHold rows o.0 t) moments
+all_joined rows items o are i le moments so =
+    let e = take_all i items le in
+    runs_alike (SomeHas (take i items)) (λ t. TimesHold rows o.0 t) moments
+    (λ t h. let k = (are h.0).0 (subst (λ (v : List OneRow). Among v h.0) e h.1) in (h.0, k.0, record { object = k.1; moment = h.2 }))
+    (λ t h. let i = h.2 in (h.0, subst (λ (v : List OneRow). Among v h.0) (sym e) ((are h.0).1 (h.1, i.object)), i.moment))
+    so
+
+-- the moments of the horizon at which a pair departs from an object that stands
+pub starts_runs : (g : Graph) (horizon : Span) → HasHorizon g horizon → (rows : List Row) (times : List OneRow) → AreTimes (Departs rows) times → (o : ObjNo) → Stands g o.0 → (inside at moments : List Span)
+    → AreRuns (λ t. Within t horizon) inside → AreRuns (λ t. TimesHold times o.0 t) at → AreRuns (λ t. Covers at t × Covers inside t) moments → AreRuns (λ t. StartsAt rows g (point o t)) moments
+starts_runs g horizon begun rows times are o stands inside at moments all here runs =
+    runs_alike (λ t. Covers at t × Covers inside t) (λ t. StartsAt rows g (point o t)) moments
+    (λ t h. (record { stands = stands; within = (in_horizon g horizon begun t).0 (all.only t h.1) }, are.only o.0 t (here.only t h.0)))
+    (λ t h. (here.whole t (are.whole o.0 t h.1), all.whole t ((in_horizon g horizon begun t).1 (let p = h.0 in p.within))))
+    runs

@@ -1,0 +1,5 @@
+pub mod Marking
+pub mod Tested
+pub mod Combined
+pub mod Within
+pub mod Parts

@@ -1,0 +1,25 @@
+//! Tests over points: where a test holds, as marks on objects over the whole horizon.
+//!
+//! Stands on `itpg_graph`, whose readers it asks, on `interval_set`, by whose operations every set of moments is worked out,
+//! and on `relation_rows`; what a test means is `Sat` of `path_ast`. It promises that each call marks exactly the points of
+//! its objects at which its test holds, whether the objects exist there or not.
+#![tactic(auto)]
+
+mod laws;
+mod leaves;
+mod marks;
+mod moments;
+mod objects;
+mod starts;
+mod staying;
+#[cfg(test)]
+mod tests;
+
+pub use laws::{
+    law_of_conditions, law_of_connectives, law_of_negation, law_of_tests_as_paths,
+    law_of_unique_marks,
+};
+pub use leaves::{before, by_kind, by_label, by_value, exists};
+pub use marks::Marks;
+pub use objects::objects_within;
+pub use starts::starts_of;
