@@ -1,7 +1,8 @@
--- The numbers of a line that has no fault are moments.
-use Rattle.std.proofs.Common.{◌≡◌, inl, inr, ℕ, List, [], ◌∷◌, Bool, true, false, Option, Some, None, Result, Ok, Err, refl, sym, subst}
+-- The numbers of a line that has no fault are moments, and its labels a set.
+use Rattle.std.proofs.Common.{arith, ◌≡◌, inl, inr, ℕ, List, [], ◌∷◌, Bool, true, false, Option, Some, None, Result, Ok, Err, refl, sym, subst}
 use Rattle.std.specs.Prelude.{IfOk, slice_get}
 use Rattle.std.specs.Option.{option_and_then, option_map_or}
+use Rattle.itpg_base.specs.Words.{IsLabels}
 use Rattle.itpg_base.specs.Spans.{IsMoment}
 use Rattle.itpg_base.specs.declared.text_code.TextCode.{TextCode}
 use Rattle.script_lex.specs.Lexemes.{Lexeme, AWord, ANumber, AQuote}
@@ -14,7 +15,7 @@ use Rattle.edit_reader.specs.Commands.{command_at}
 use Rattle.edit_reader.specs.Forms.{form, form_of, before_query, parts_of, lexemes, bytes_behind}
 use Rattle.edit_reader.specs.Faults.{HasFarNumber}
 use Rattle.edit_reader.specs.Lines.{ReadsAs, TakenAs}
-use Rattle.edit_reader.specs.Moments.{AsksOfMoments}
+use Rattle.edit_reader.specs.Moments.{AsksOfMoments, AsksForLabels}
 use Rattle.edit_reader.specs.Steps.{is_near}
 use Rattle.edit_reader.proofs.PartFaults.{near_moment, far_moment}
 
@@ -68,3 +69,41 @@ taken_moments line reading taken = by_reading taken.1
 pub told_moments : (line : List ℕ) (answer : Result Line TextCode) → TakenAs line (told answer) → IfOk answer (λ asked. AsksOfMoments (reading_of asked))
 told_moments line (Ok asked) taken = taken_moments line (reading_of asked) taken
 told_moments line (Err code) taken = tt
+
+same_labels : {a b : Reading} → Some a ≡ Some b → AsksForLabels a → AsksForLabels b
+same_labels {a = a} {b = b} e labels = let same : a ≡ b = cc in subst AsksForLabels same labels
+
+one_label : (label : List ℕ) → IsLabels (label ∷ [])
+one_label label = record { some = omega arith; few = omega arith; rising = (tt, tt) }
+
+form_labels : (text : ℕ → List ℕ) (command : Command) (parts : List Lexeme) (reading : Reading) → form text command parts ≡ Some reading → AsksForLabels reading
+form_labels text Command.Graph (AWord name ∷ ANumber a ∷ ANumber b ∷ []) reading e = same_labels e tt
+form_labels text Command.Node (AWord id ∷ AWord label ∷ []) reading e = same_labels e (one_label label)
+form_labels text Command.Edge (AWord id ∷ AWord label ∷ AWord source ∷ AWord target ∷ []) reading e = same_labels e (one_label label)
+form_labels text Command.Live (AWord id ∷ ANumber a ∷ ANumber b ∷ []) reading e = same_labels e tt
+form_labels text Command.Gone (AWord id ∷ ANumber a ∷ ANumber b ∷ []) reading e = same_labels e tt
+form_labels text Command.Set (AWord id ∷ AWord prop ∷ AQuote value ∷ ANumber a ∷ ANumber b ∷ []) reading e = same_labels e tt
+form_labels text Command.Unset (AWord id ∷ AWord prop ∷ ANumber a ∷ ANumber b ∷ []) reading e = same_labels e tt
+form_labels text Command.Drop (AWord id ∷ []) reading e = same_labels e tt
+form_labels text Command.Ask parts reading e = same_labels e tt
+form_labels text Command.Watch (AWord name ∷ rest) reading e = same_labels e tt
+form_labels text Command.Show (AWord name ∷ []) reading e = same_labels e tt
+form_labels text Command.Unwatch (AWord name ∷ []) reading e = same_labels e tt
+form_labels text Command.Tick [] reading e = same_labels e tt
+form_labels text _ _ reading e = absurd (let never : ⊥ = cc in never)
+
+tokens_labels : (line : List ℕ) (tokens : List Placed) (reading : Reading) → form_of line tokens ≡ Some reading → AsksForLabels reading
+tokens_labels line [] reading e = absurd (let never : ⊥ = cc in never)
+tokens_labels line (t ∷ ts) reading e = by_command (command_at t.what) e
+  where
+    by_command : (o : Option Command) → option_and_then (λ command. form (λ n. bytes_behind line (slice_get (t ∷ ts) n)) command (lexemes ts)) o ≡ Some reading → AsksForLabels reading
+    by_command (Some command) is = form_labels (λ n. bytes_behind line (slice_get (t ∷ ts) n)) command (lexemes ts) reading is
+    by_command None is = absurd (let never : ⊥ = cc in never)
+
+-- the labels of an object that a line declares are a set
+pub taken_labels : (line : List ℕ) (reading : Reading) → TakenAs line (Ok reading) → AsksForLabels reading
+taken_labels line reading taken = by_reading taken.1
+  where
+    by_reading : ReadsAs line reading → AsksForLabels reading
+    by_reading (inl silent) = subst AsksForLabels (sym silent.1) tt
+    by_reading (inr (loud, (tokens, (end, (are, is))))) = tokens_labels line tokens reading is

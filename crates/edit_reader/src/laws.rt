@@ -3,7 +3,7 @@ ghost use Rattle.std.specs.Prelude.{◌≡◌, ◌≤◌, ◌↔◌, ℕ, List, 
 ghost use Rattle.itpg_base.specs.declared.text_code.TextCode.{TextCode};
 ghost use Rattle.edit_reader.specs.Readings.{Reading};
 ghost use Rattle.edit_reader.specs.Lines.{LineOf};
-ghost use Rattle.edit_reader.specs.Moments.{AsksOfMoments};
+ghost use Rattle.edit_reader.specs.Moments.{AsksOfMoments, AsksForLabels};
 
 /// Each line is exactly one thing: it asks for something, or has a first fault.
 pub fn law_of_lines()
@@ -14,6 +14,11 @@ pub fn law_of_lines()
 /// Where a line asks for a change, each of its numbers is a moment.
 pub fn law_of_moments()
     ensures { (line : List ℕ) (reading : Reading) → LineOf line (Ok reading) → AsksOfMoments reading }
+{}
+
+/// Where a line declares an object, its labels are a set of labels.
+pub fn law_of_labels()
+    ensures { (line : List ℕ) (reading : Reading) → LineOf line (Ok reading) → AsksForLabels reading }
 {}
 
 /// A line is what its first 65,538 bytes are, or any longer front: of a longer line no more need be kept.

@@ -1,0 +1,9 @@
+pub mod Saying
+pub mod Shown
+pub mod RowTexts
+pub mod OneTimeRows
+pub mod Patterns
+pub mod Taken
+pub mod Asking
+pub mod Decided
+pub mod OneTurn

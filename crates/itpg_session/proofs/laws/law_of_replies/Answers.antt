@@ -1,0 +1,54 @@
+use Rattle.itpg_graph.proofs.Goodness.{good_none}
+use Rattle.itpg_session.proofs.OneTurn.{one_reply, some_reply, good_reply}
+use Rattle.itpg_session.proofs.laws.law_of_replies.Goals as goal
+
+pub returns-clause-one : goal.returns-clause-one
+returns-clause-one c = one_reply (record {
+  some_line = c.law_of_lines.ensures.some;
+  one_line = c.law_of_lines.ensures.one;
+  moments = c.law_of_moments.ensures;
+  labels = c.law_of_labels.ensures;
+  rules = c.law_of_rules.ensures.some;
+  good_next = c.law_of_next.ensures.good;
+  one_next = c.law_of_next.ensures.one;
+  some_next = c.law_of_next.ensures.some;
+  one_query = c.law_of_queries.ensures.one;
+  one_fault = c.law_of_queries.ensures.first;
+  apart = c.law_of_queries.ensures.apart;
+  some_query = c.law_of_queries.ensures.some;
+})
+
+pub returns-clause-some : goal.returns-clause-some
+returns-clause-some c = some_reply (record {
+  some_line = c.law_of_lines.ensures.some;
+  one_line = c.law_of_lines.ensures.one;
+  moments = c.law_of_moments.ensures;
+  labels = c.law_of_labels.ensures;
+  rules = c.law_of_rules.ensures.some;
+  good_next = c.law_of_next.ensures.good;
+  one_next = c.law_of_next.ensures.one;
+  some_next = c.law_of_next.ensures.some;
+  one_query = c.law_of_queries.ensures.one;
+  one_fault = c.law_of_queries.ensures.first;
+  apart = c.law_of_queries.ensures.apart;
+  some_query = c.law_of_queries.ensures.some;
+})
+
+pub returns-clause-good : goal.returns-clause-good
+returns-clause-good c = good_reply (record {
+  some_line = c.law_of_lines.ensures.some;
+  one_line = c.law_of_lines.ensures.one;
+  moments = c.law_of_moments.ensures;
+  labels = c.law_of_labels.ensures;
+  rules = c.law_of_rules.ensures.some;
+  good_next = c.law_of_next.ensures.good;
+  one_next = c.law_of_next.ensures.one;
+  some_next = c.law_of_next.ensures.some;
+  one_query = c.law_of_queries.ensures.one;
+  one_fault = c.law_of_queries.ensures.first;
+  apart = c.law_of_queries.ensures.apart;
+  some_query = c.law_of_queries.ensures.some;
+})
+
+pub returns-clause-opening : goal.returns-clause-opening
+returns-clause-opening c = good_none
