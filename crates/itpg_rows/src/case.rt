@@ -1,30 +1,37 @@
 // One script with what it must write.
-use anyhow::{Context, Result};
-use itpg_base::{MemSink, MemSource};
-use itpg_run::serve;
+use crate::runs::{sink_for, step_lines};
+use anyhow::{Context, Result, bail};
+use itpg_base::{Limits, MemSource};
+use itpg_run::{Status, serve};
 use std::alloc::{AllocError, Global};
 use std::{fmt, fs, io};
-
-// How many bytes more than it must a script may write before the sink is full.
-const SPARE_ROOM: usize = 65_536;
 
 // How many bytes the source gives at a call.
 const CHUNK: usize = 65_536;
 
-/// A script, the words of its run, and the bytes and the status that it must end with.
+/// A script, how it is run, and the bytes and the status that it must end with.
 #[derive(Drop)]
 pub struct Case {
-    words: Vec<String>,
+    way: Way,
     script: Vec<u8>,
     output: Vec<u8>,
-    status: u8,
+    status: u32,
+}
+
+/// How a script is run.
+#[derive(Drop)]
+enum Way {
+    /// Through `serve`, with these words of a command line.
+    Served(Vec<String>),
+    /// Line by line through a session with this limit of rows.
+    Stepped(Limits),
 }
 
 /// How a run differed from what it must be.
 #[derive(Drop)]
 pub enum Difference {
     /// The statuses: as it must be, and as it was.
-    Status(u8, u8),
+    Status(u32, u32),
     /// The number of the first line of output that differs, from 1.
     Line(usize),
 }
@@ -44,32 +51,43 @@ impl Case {
         let script = fs::read(rt, &format!(in rt.alloc(); "{folder}/{name}.itpg")?)?;
         let output = fs::read(rt, &format!(in rt.alloc(); "{folder}/{name}.out")?)?;
         let words = read_words(rt, &format!(in rt.alloc(); "{folder}/{name}.words")?)?;
-        let status = read_status(rt, &format!(in rt.alloc(); "{folder}/{name}.status")?)?;
+        let limits = read_limits(rt, &format!(in rt.alloc(); "{folder}/{name}.limit")?)?;
+        let status = read_number(rt, &format!(in rt.alloc(); "{folder}/{name}.status")?)?;
         Ok(Case {
-            words,
+            way: way_of(words, limits),
             script,
             output,
-            status,
+            status: status.unwrap_or(0),
         })
     }
 
     /// Runs the script, and says how the run differed from what it must be, if it did.
     pub fn difference(&self, alloc: Global) -> Result<Option<Difference>, AllocError> {
-        let room = self.output.len().saturating_add(SPARE_ROOM);
-        let mut source = MemSource::new(self.script.clone()?, CHUNK, Vec::new(alloc));
-        let mut sink = MemSink::new(Vec::new(alloc), 0, vec![in alloc; 0; room]?);
-        let status = serve(alloc, &self.words, &mut source, &mut sink).code();
-        if sink.held() != self.output.as_slice() {
-            return Ok(Some(Difference::Line(differing_line(sink.held(), &self.output))));
-        }
-        if status != self.status {
-            return Ok(Some(Difference::Status(self.status, status)));
-        }
-        Ok(None)
+        let mut sink = sink_for(alloc, self.output.len())?;
+        let status = match &self.way {
+            Way::Served(words) => {
+                let mut source = MemSource::new(self.script.clone()?, CHUNK, Vec::new(alloc));
+                serve(alloc, words, &mut source, &mut sink)
+            }
+            Way::Stepped(limits) => step_lines(alloc, *limits, &self.script, &mut sink),
+        };
+        Ok(compare(sink.held(), status, &self.output, self.status))
     }
 }
 
-/// The number, from 1, of the first line at which two texts differ.
+/// How an output and a status differ from what they must be, if they do.
+pub fn compare(held: &[u8], status: Status, output: &[u8], wanted: u32) -> Option<Difference> {
+    let got = u32::from(status.code());
+    if held != output {
+        Some(Difference::Line(differing_line(held, output)))
+    } else if got != wanted {
+        Some(Difference::Status(wanted, got))
+    } else {
+        None
+    }
+}
+
+// The number, from 1, of the first line at which two texts differ.
 fn differing_line(xs: &[u8], ys: &[u8]) -> usize {
     let mut line = 1usize;
     for (x, y) in xs.iter().zip(ys.iter()) {
@@ -83,7 +101,14 @@ fn differing_line(xs: &[u8], ys: &[u8]) -> usize {
     line
 }
 
-/// The words of the file, one a line; none where there is no such file.
+fn way_of(words: Vec<String>, limits: Option<Limits>) -> Way {
+    match limits {
+        Some(limits) => Way::Stepped(limits),
+        None => Way::Served(words),
+    }
+}
+
+// The words of the file, one a line; none where there is no such file.
 fn read_words(rt: &HostRuntime, path: &str) -> Result<Vec<String>> {
     let mut words = Vec::new(rt.alloc());
     if let Some(text) = read_optional(rt, path)? {
@@ -94,19 +119,33 @@ fn read_words(rt: &HostRuntime, path: &str) -> Result<Vec<String>> {
     Ok(words)
 }
 
-/// The status that the file names; 0 where there is no such file.
-fn read_status(rt: &HostRuntime, path: &str) -> Result<u8> {
-    match read_optional(rt, path)? {
-        Some(text) => text
-            .as_str()
-            .trim()
-            .parse::<u8>()
-            .context(format_args!("reading {path}")),
-        None => Ok(0),
+// The limit of rows that the file names, if there is such a file.
+fn read_limits(rt: &HostRuntime, path: &str) -> Result<Option<Limits>> {
+    match read_number(rt, path)? {
+        None => Ok(None),
+        Some(rows) => match Limits::new(rows) {
+            Some(limits) => Ok(Some(limits)),
+            None => bail!("{path}: {rows} is no limit of rows"),
+        },
     }
 }
 
-/// The text of a file that may be missing.
+// The number that the file has, if there is such a file.
+fn read_number(rt: &HostRuntime, path: &str) -> Result<Option<u32>> {
+    match read_optional(rt, path)? {
+        Some(text) => {
+            let number = text
+                .as_str()
+                .trim()
+                .parse::<u32>()
+                .context(format_args!("reading {path}"))?;
+            Ok(Some(number))
+        }
+        None => Ok(None),
+    }
+}
+
+// The text of a file that may be missing.
 fn read_optional(rt: &HostRuntime, path: &str) -> Result<Option<String>> {
     match fs::read_to_string(rt, path) {
         Ok(text) => Ok(Some(text)),

@@ -1,11 +1,14 @@
-//! Runs the scripts of a folder through `serve` and prints each one whose output or status differs.
+//! Runs scripts and prints each one whose output or status differs from what it must be.
 //!
-//! `NAME.itpg` is a script and `NAME.out` the bytes that it must write. `NAME.words` has the words of the command line, one
-//! a line, and `NAME.status` the status as a number; where they are missing, there are no words and the status is 0. The
-//! folder is the first word of this program, or else the one that it is run in.
+//! `NAME.itpg` is a script and `NAME.out` the bytes that it must write; `NAME.status` is the status as a number, 0 where it is
+//! missing. It goes through `serve` with the words of `NAME.words`, one a line; where there is a `NAME.limit`, it goes line by
+//! line through a session with this limit of rows. The folder is the first word of this program, or else the one that it is
+//! run in. Two scripts of comments, as long as a script may be and longer, are made here.
 #![tactic(auto)]
 
 mod case;
+mod longest;
+mod runs;
 
 use anyhow::Result;
 use case::Case;
@@ -22,7 +25,14 @@ fn main(rt: HostRuntime) -> Result<()> {
             differing = differing.saturating_add(1);
         }
     }
-    let count = names.len();
+    for comments in &longest::SCRIPTS {
+        if let Some(difference) = comments.difference(rt.alloc())? {
+            let count = comments.count;
+            println!(rt; "{count} long comments: {difference}")?;
+            differing = differing.saturating_add(1);
+        }
+    }
+    let count = names.len().saturating_add(longest::SCRIPTS.len());
     println!(rt; "{count} scripts, {differing} differ")?;
     Ok(())
 }

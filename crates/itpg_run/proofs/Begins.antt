@@ -2,12 +2,13 @@
 use Rattle.std.proofs.Common.{◌≡◌, ℕ, Bool, Some, None, List, [], ◌++◌, IfSome, take, drop, refl, ap, ◌∙◌, sym, subst, append_assoc, append-nil, take-append-drop, false, true}
 use Rattle.std.specs.declared.option.Option.{Option}
 use Rattle.itpg_base.specs.Outside.{AppendsSome}
-use Rattle.itpg_run.specs.Machine.{Turn, opening}
+use Rattle.itpg_session.specs.Machine.{Turn, opening}
 use Rattle.itpg_run.specs.Lines.{lines, whole}
 use Rattle.itpg_run.specs.Out.{Runs, IsOut}
 use Rattle.itpg_run.specs.Served.{longest, Served, WritesAs, WritesWithin, WritesOut, BeginsEach, IsIdle}
 use Rattle.itpg_run.specs.declared.Status.{Status}
 use Rattle.itpg_run.specs.declared.Status.TheVariants.{Done, DoneRefused, Usage, ReadFault, WriteFault, Memory, TooLong}
+use Rattle.itpg_run.proofs.MachineLaws.{Laws}
 use Rattle.itpg_run.proofs.Running.{runs-part, one_run}
 use Rattle.itpg_run.proofs.Output.{lines_front}
 
@@ -15,10 +16,10 @@ some_longer : (held now : Option (List ℕ)) (xs ys zs : List ℕ) → AppendsSo
 some_longer held now xs ys zs a e = record { taken = a.taken; rest = a.rest ++ ys; split = sym (append_assoc a.taken a.rest ys) ∙ ap (λ t. t ++ ys) a.split ∙ e; appends = a.appends }
 
 -- by uniqueness: whatever the output is, a front part of it was written
-within_each : (limit : ℕ) (held now : Option (List ℕ)) (all : List ℕ) → WritesWithin limit held now all → (t : Turn) → IsOut limit all t → AppendsSome held now t.text
-within_each limit held now all w t out =
+within_each : Laws → (limit : ℕ) (held now : Option (List ℕ)) (all : List ℕ) → WritesWithin limit held now all → (t : Turn) → IsOut limit all t → AppendsSome held now t.text
+within_each laws limit held now all w t out =
     let p = runs-part limit opening 1 w.front w.rest t (subst (λ ls. Runs limit opening 1 ls t) (sym w.split) out) in
-    let same : w.turn ≡ p.front = one_run limit opening 1 w.front w.turn p.front w.runs p.runs in
+    let same : w.turn ≡ p.front = one_run laws limit opening 1 w.front w.turn p.front laws.opening w.runs p.runs in
     some_longer held now w.turn.text p.rest.text t.text w.some (ap (λ u. u.text ++ p.rest.text) same ∙ sym (ap (λ u. u.text) p.is))
 
 all_within : (limit : ℕ) (held now : Option (List ℕ)) (bytes : List ℕ) (failing : Bool) → WritesAs limit held now bytes failing → WritesWithin limit held now bytes
@@ -43,9 +44,9 @@ served_within limit Memory (Some all) (Some left) held now s =
 served_within limit TooLong (Some all) (Some left) held now s =
     whole_within limit held now (take longest s.bytes) (drop longest s.bytes ++ left) all (sym (append_assoc (take longest s.bytes) (drop longest s.bytes) left) ∙ ap (λ t. t ++ left) (take-append-drop longest s.bytes) ∙ sym s.taken) s.writes.1
 
-pub served_each : (limit : ℕ) (status : Status) (before left held now : Option (List ℕ)) → Served status limit before left held now → BeginsEach limit before held now
-served_each limit status None left held now s = tt
-served_each limit status (Some x) left held now s = within_each limit held now x (served_within limit status (Some x) left held now s)
+pub served_each : Laws → (limit : ℕ) (status : Status) (before left held now : Option (List ℕ)) → Served status limit before left held now → BeginsEach limit before held now
+served_each laws limit status None left held now s = tt
+served_each laws limit status (Some x) left held now s = within_each laws limit held now x (served_within limit status (Some x) left held now s)
 
 -- where nothing was written too
 pub idle_each : (limit : ℕ) (before left held now : Option (List ℕ)) → IsIdle before left held now → BeginsEach limit before held now

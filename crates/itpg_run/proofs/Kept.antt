@@ -1,29 +1,54 @@
--- The first 142 bytes of a line tell what it says.
-use Rattle.std.proofs.Common.{◌≡◌, ℕ, ◌<◌, ◌≤◌, inl, inr, List, [], ◌∷◌, ◌++◌, ◌∙◌, length, length-append, take, arith, ap, refl, true, false}
-use Rattle.std.specs.Prelude.{nat_eq, nat_lt}
-use Rattle.std.proofs.lemmas.Bool.{cases_lt}
-use Rattle.std.proofs.lemmas.List.{length-take-le, take_all}
-use Rattle.std.proofs.Math.Seq.{take-append_seam}
-use Rattle.std.proofs.lemmas.Grind.{common_steps}
-use Rattle.itpg_run.specs.PlainLines.{line_of}
-use Rattle.itpg_run.specs.declared.line.Line.TheVariants.{Other}
+-- What is kept of a line that comes in pieces.
+use Rattle.std.proofs.Common.{◌≡◌, ℕ, zero, suc, ◌+◌, ◌-◌, ◌<◌, ◌≤◌, min, List, [], ◌∷◌, ◌++◌, ◌∙◌, length, take, arith, ap, sym, subst, refl}
+use Rattle.std.proofs.lemmas.List.{take_min}
+use Rattle.std.proofs.Math.Seq.{take-append-add}
+use Rattle.std.specs.declared.option.Option.{Option}
+use Rattle.itpg_session.specs.Machine.{Standing, Turn, Replies}
+use Rattle.itpg_session.specs.MachineLaws.{FrontReplies}
+use Rattle.itpg_session.specs.Steps.{Stepped, StepsWithin}
+use Rattle.itpg_session.specs.declared.session.Seen.{Seen}
+use Rattle.itpg_run.specs.Lines.{kept}
+use Rattle.itpg_run.specs.Stands.{RepliesTo, AnswersWithin}
+use Rattle.itpg_run.specs.declared.reader.Reader.{Reader}
 
-long_line : (line : List ℕ) → 141 < length line → line_of line ≡ Other
-unfolding line_of
-long_line line h =
-    let some : nat_eq (length line) 0 ≡ false = grind (arith, common_steps) in
-    let long : nat_lt 141 (length line) ≡ true = grind (arith, common_steps) in
-    rw (some, long) refl
+pub take_past : (xs ys : List ℕ) (n : ℕ) → length xs ≤ n → take n (xs ++ ys) ≡ xs ++ take (n - length xs) ys
+take_past xs ys n h =
+    let e : n ≡ length xs + (n - length xs) = omega arith in
+    ap (λ k. take k (xs ++ ys)) e ∙ take-append-add xs ys (n - length xs)
 
-pub line_kept : (line : List ℕ) → line_of (take 142 line) ≡ line_of line
-line_kept line = elim (cases_lt 141 (length line)) [
-  | inl h ↦ let e = length-take-le 142 line h in rw (long_line (take 142 line) (omega arith), long_line line h) refl
-  | inr h ↦ ap line_of (take_all 142 line (omega arith))
-]
+pub take_take : (n : ℕ) (xs ys : List ℕ) → take n (take n xs ++ ys) ≡ take n (xs ++ ys)
+take_take zero xs ys = refl
+take_take (suc n) [] ys = refl
+take_take (suc n) (x ∷ xs) ys = ap (λ t. x ∷ t) (take_take n xs ys)
 
--- a byte behind a line that is kept
-pub keeps_short : (xs : List ℕ) (b : ℕ) → length xs < 142 → take 142 (xs ++ b ∷ []) ≡ xs ++ b ∷ []
-keeps_short xs b h = take_all 142 (xs ++ b ∷ []) (omega (arith, length-append xs (b ∷ [])))
+pub take_none : (n : ℕ) (xs : List ℕ) → 0 < n → take n xs ≡ [] → xs ≡ []
+take_none n [] h e = refl
+take_none zero (x ∷ xs) h e = absurd (omega arith)
+take_none (suc n) (x ∷ xs) h e = cc
 
-pub keeps_full : (xs : List ℕ) (b : ℕ) → 142 ≤ length xs → length xs ≤ 142 → take 142 (xs ++ b ∷ []) ≡ xs
-keeps_full xs b h k = let e : 142 ≡ length xs = omega arith in ap (λ n. take n (xs ++ b ∷ [])) e ∙ take-append_seam xs (b ∷ [])
+pub take_nothing : (n : ℕ) → take {A = ℕ} n [] ≡ []
+take_nothing zero = refl
+take_nothing (suc n) = refl
+
+pub kept_is : kept ≡ 65538
+unfolding kept
+kept_is = refl
+
+keeps_front : (m : ℕ) (xs ys : List ℕ) (n : ℕ) → length xs ≤ m → n ≡ min (m - length xs) (length ys) → xs ++ take n ys ≡ take m (xs ++ ys)
+keeps_front m xs ys n h e = ap (λ t. xs ++ t) (ap (λ k. take k ys) e ∙ take_min (m - length xs) ys) ∙ sym (take_past xs ys m h)
+
+-- a piece behind what was kept
+pub keeps : (xs ys : List ℕ) (n : ℕ) → length xs ≤ 65538 → n ≡ min (65538 - length xs) (length ys) → xs ++ take n ys ≡ take kept (xs ++ ys)
+keeps xs ys n h e = subst (λ m. xs ++ take n ys ≡ take m (xs ++ ys)) (sym kept_is) (keeps_front 65538 xs ys n h e)
+
+-- a turn of what is kept is one of each line with this front
+replies_to : FrontReplies → (r : Reader) (front : List ℕ) → front ≡ r.line.items → (turn : Turn) → Replies r.session.limit r.session.machine r.number front turn → RepliesTo r turn
+replies_to fronts r front is turn a = λ line e.
+    (fronts r.session.limit r.session.machine r.number line kept turn (omega (arith, kept_is))).0 (subst (λ f. Replies r.session.limit r.session.machine r.number f turn) (is ∙ e) a)
+
+pub stepped_to : FrontReplies → (r : Reader) (front : List ℕ) → front ≡ r.line.items → (held now : Option (List ℕ)) (new : Standing) (seen : Seen)
+    → Stepped (λ turn. Replies r.session.limit r.session.machine r.number front turn) held now r.session new seen → Stepped (RepliesTo r) held now r.session new seen
+stepped_to fronts r front is held now new seen s = record { turn = s.turn; replies = replies_to fronts r front is s.turn s.replies; written = s.written; next = s.next; sees = s.sees }
+
+pub within_to : FrontReplies → (r : Reader) (front : List ℕ) → front ≡ r.line.items → (held now : Option (List ℕ)) → StepsWithin (λ turn. Replies r.session.limit r.session.machine r.number front turn) held now → AnswersWithin held now r
+within_to fronts r front is held now s = record { turn = s.turn; replies = replies_to fronts r front is s.turn s.replies; some = s.some }

@@ -1,12 +1,13 @@
 -- Each list of bytes is whole lines and a rest.
 use Rattle.std.proofs.Common.{◌≡◌, ℕ, List, [], ◌∷◌, ◌++◌, Bool, true, false, nat_eq, refl, ap, ◌∙◌, sym, subst, append_assoc}
 use Rattle.std.proofs.lemmas.Bool.{eqb-true}
-use Rattle.itpg_run.specs.Machine.{opening}
+use Rattle.itpg_session.specs.Machine.{opening}
 use Rattle.itpg_run.specs.Lines.{lines, whole}
 use Rattle.itpg_run.specs.Out.{Runs}
 use Rattle.itpg_run.specs.Split.{NoEnd, NoEnds, joined}
 use Rattle.itpg_run.specs.OutputLaws.{OneOutput, SomeOutput, OutputGrows, OutputBegins}
 use Rattle.itpg_run.proofs.Split.{lines-joined}
+use Rattle.itpg_run.proofs.MachineLaws.{Laws}
 use Rattle.itpg_run.proofs.Running.{runs-part, one_run, some_run}
 use Rattle.itpg_run.proofs.Stands.{lines_joined, whole_joined}
 
@@ -35,11 +36,11 @@ parts (b ∷ bytes) = by_test (nat_eq b 10) refl (parts bytes)
     by_test true e p = ending b bytes e p
     by_test false e p = before b bytes e p
 
-pub one_output : OneOutput
-one_output limit bytes x y r s = one_run limit opening 1 (lines bytes) x y r s
+pub one_output : Laws → OneOutput
+one_output laws limit bytes x y r s = one_run laws limit opening 1 (lines bytes) x y laws.opening r s
 
-pub some_output : SomeOutput
-some_output limit bytes = some_run limit opening 1 (lines bytes)
+pub some_output : Laws → SomeOutput
+some_output laws limit bytes = some_run laws limit opening 1 (lines bytes) laws.opening
 
 -- the lines of the whole lines of a front part begin the lines of all
 pub lines_front : (front rest : List ℕ) → (more : List (List ℕ)) × (lines (whole front) ++ more ≡ lines (front ++ rest))
@@ -56,8 +57,8 @@ output_begins limit front rest y s =
     let p = runs-part limit opening 1 (lines (whole front)) l.0 y (subst (λ ls. Runs limit opening 1 ls y) (sym l.1) s) in
     (p.front, p.runs, (p.rest.text, sym (ap (λ u. u.text) p.is)))
 
-pub output_grows : OutputGrows
-output_grows limit front rest x y r s =
+pub output_grows : Laws → OutputGrows
+output_grows laws limit front rest x y r s =
     let b = output_begins limit front rest y s in
-    let same : x ≡ b.0 = one_output limit (whole front) x b.0 r b.1 in
+    let same : x ≡ b.0 = one_output laws limit (whole front) x b.0 r b.1 in
     (b.2.0, ap (λ u. u.text ++ b.2.0) same ∙ b.2.1)

@@ -1,12 +1,11 @@
 -- What reads and chunks do to a run.
 use Rattle.std.proofs.Common.{◌≡◌, ℕ, ◌+◌, ◌-◌, ◌≤◌, ◌<◌, Some, None, List, [], ◌++◌, IfSome, length, take, refl, ap, ◌∙◌, sym, subst, append_assoc, append-nil, length-append, arith, false}
-use Rattle.std.proofs.Math.Seq.{take-append-add}
 use Rattle.std.specs.declared.option.Option.{Option}
 use Rattle.std.specs.Io.KnownBytes.{Consumes, Keeps, IsAtEnd}
 use Rattle.std.proofs.KnownBytes.{Consumes-trans, Consumes-kept, Appends-nil}
-use Rattle.itpg_run.specs.Lines.{whole}
+use Rattle.itpg_run.specs.Lines.{kept, whole}
 use Rattle.itpg_run.specs.Out.{none, Runs}
-use Rattle.itpg_run.specs.Machine.{opening}
+use Rattle.itpg_session.specs.Machine.{opening}
 use Rattle.itpg_run.specs.Served.{longest, Served, WritesWithin, WritesOut, EndsWell}
 use Rattle.itpg_run.specs.Stands.{Stands, Feeds, Stops, Ends}
 use Rattle.itpg_run.specs.Pumped.{Pumped, Pumping, status_of}
@@ -15,6 +14,7 @@ use Rattle.itpg_run.specs.declared.reader.Stop.{Stop}
 use Rattle.itpg_run.specs.declared.reader.Stop.TheVariants as stop
 use Rattle.itpg_run.specs.declared.Status.{Status}
 use Rattle.itpg_run.specs.declared.Status.TheVariants.{Done, DoneRefused, Usage, ReadFault, WriteFault, Memory, TooLong}
+use Rattle.itpg_run.proofs.Kept.{take_past, take_nothing}
 use Rattle.itpg_run.proofs.Stands.{stands_out_whole}
 
 pub pumped : (limit : ℕ) (before mid left start now : Option (List ℕ)) (r : Reader) (count : ℕ) → Pumping limit before mid start now r count → count ≤ longest → Consumes mid left [] → IsAtEnd left → Pumped limit before left start now r
@@ -46,11 +46,6 @@ within_all : (limit : ℕ) (before left start now : Option (List ℕ)) (bytes : 
 within_all limit None left start now bytes c f = tt
 within_all limit (Some x) None start now bytes c f = absurd c
 within_all limit (Some x) (Some y) start now bytes c f = subst (λ t. WritesWithin limit start now t) (sym c) (f y)
-
-take_past : (xs ys : List ℕ) (n : ℕ) → length xs ≤ n → take n (xs ++ ys) ≡ xs ++ take (n - length xs) ys
-take_past xs ys n h =
-    let e : n ≡ length xs + (n - length xs) = omega arith in
-    ap (λ k. take k (xs ++ ys)) e ∙ take-append-add xs ys (n - length xs)
 
 pub stopped : (limit : ℕ) (stop : Stop) (before mid left start held now : Option (List ℕ)) (r : Reader) (count : ℕ) (more : List ℕ) → Pumping limit before mid start held r count → count ≤ longest → Consumes mid left more → Stops stop held now r more (longest - count) → Served (status_of stop) limit before left start now
 stopped limit stop.Memory before mid left start held now r count more p fits consumes stops = record {
@@ -102,7 +97,7 @@ begins limit held r session number line failing = record {
   runs = refl;
   session = session;
   number = number;
-  line = line;
+  line = line ∙ sym (take_nothing kept);
   failing = failing;
   written = Appends-nil held;
 }

@@ -1,8 +1,8 @@
 -- The machine over more lines.
 use Rattle.std.proofs.Common.{◌≡◌, ℕ, ◌+◌, List, [], ◌∷◌, ◌++◌, Bool, true, false, ◌||◌, length, refl, ap, ◌∙◌, sym, subst, append_assoc, append-nil, arith}
-use Rattle.itpg_run.specs.Machine.{Machine, Turn, Replies}
-use Rattle.itpg_run.specs.PlainLines.{line_of}
-use Rattle.itpg_run.proofs.OneTurn.{one_answer, some_answer}
+use Rattle.itpg_session.specs.Machine.{Machine, Turn, Replies}
+use Rattle.itpg_base.specs.Graphs.{Good}
+use Rattle.itpg_run.proofs.MachineLaws.{Laws}
 use Rattle.itpg_run.specs.Out.{none, both, Runs}
 
 or_assoc : (a b c : Bool) → (a || (b || c)) ≡ ((a || b) || c)
@@ -63,20 +63,21 @@ runs-part limit m number (x ∷ xs) ys t r =
       is = r.is ∙ ap (both r.first) p.is ∙ both_assoc r.first p.front p.rest;
     }
 
--- at most one run
-pub one_run : (limit : ℕ) (m : Machine) (number : ℕ) (xs : List (List ℕ)) (t u : Turn) → Runs limit m number xs t → Runs limit m number xs u → t ≡ u
+-- on a good graph there is at most one run
+pub one_run : Laws → (limit : ℕ) (m : Machine) (number : ℕ) (xs : List (List ℕ)) (t u : Turn) → Good m.graph → Runs limit m number xs t → Runs limit m number xs u → t ≡ u
 unfolding Runs
-one_run limit m number [] t u r s = r ∙ sym s
-one_run limit m number (x ∷ xs) t u r s =
-    let first : r.first ≡ s.first = one_answer limit m number (line_of x) r.first s.first r.begins s.begins in
-    let rest : r.rest ≡ s.rest = one_run limit s.first.next (number + 1) xs r.rest s.rest (subst (λ w. Runs limit w.next (number + 1) xs r.rest) first r.goes_on) s.goes_on in
+one_run laws limit m number [] t u good r s = r ∙ sym s
+one_run laws limit m number (x ∷ xs) t u good r s =
+    let first : r.first ≡ s.first = laws.one limit m number x r.first s.first good r.begins s.begins in
+    let rest : r.rest ≡ s.rest =
+    one_run laws limit s.first.next (number + 1) xs r.rest s.rest (laws.good limit m number x s.first good s.begins) (subst (λ w. Runs limit w.next (number + 1) xs r.rest) first r.goes_on) s.goes_on in
     r.is ∙ ap (λ w. both w r.rest) first ∙ ap (both s.first) rest ∙ sym s.is
 
 -- and there is one
-pub some_run : (limit : ℕ) (m : Machine) (number : ℕ) (xs : List (List ℕ)) → (t : Turn) × Runs limit m number xs t
+pub some_run : Laws → (limit : ℕ) (m : Machine) (number : ℕ) (xs : List (List ℕ)) → Good m.graph → (t : Turn) × Runs limit m number xs t
 unfolding Runs
-some_run limit m number [] = (none m, refl)
-some_run limit m number (x ∷ xs) =
-    let first = some_answer limit m number (line_of x) in
-    let rest = some_run limit first.0.next (number + 1) xs in
+some_run laws limit m number [] good = (none m, refl)
+some_run laws limit m number (x ∷ xs) good =
+    let first = laws.some limit m number x good in
+    let rest = some_run laws limit first.0.next (number + 1) xs (laws.good limit m number x first.0 good first.1) in
     (both first.0 rest.0, record { first = first.0; rest = rest.0; begins = first.1; goes_on = rest.1; is = refl })

@@ -1,11 +1,15 @@
 -- Bytes as whole lines and a rest.
-use Rattle.std.proofs.Common.{◌≡◌, ℕ, List, [], ◌∷◌, ◌++◌, false, nat_eq, refl, ap, ◌∙◌, sym, append_assoc, ◌+◌, ◌<◌, length, take, drop, get_or, add-one, drop-cons, take-append-drop}
+use Rattle.std.proofs.Common.{◌≡◌, ℕ, List, [], ◌∷◌, ◌++◌, false, nat_eq, refl, true, zero, suc, ap, ◌∙◌, sym, append_assoc, ◌+◌, ◌<◌, ◌≤◌, length, take, drop, get_or, slice_index, Some, None, ◌≢◌, Bool, subst, add-one, drop-cons, take-append-drop, arith}
+use Rattle.std.specs.declared.option.Option.{Option}
+use Rattle.std.proofs.lemmas.Bool.{eqb-true}
+use Rattle.std.proofs.lemmas.List.{take_all}
+use Rattle.memchr.specs.Find.{NoneBefore, Passes, IsFirstByte, is_byte}
 use Rattle.itpg_run.specs.Split.{NoEnd, NoEnds, joined, last_line}
 use Rattle.itpg_run.specs.Lines.{lines, whole, before_lines, before_some}
 
-pub NoEnd-push : (l : List ℕ) (b : ℕ) → NoEnd l → nat_eq b 10 ≡ false → NoEnd (l ++ b ∷ [])
-NoEnd-push [] b h e = (e, tt)
-NoEnd-push (x ∷ xs) b h e = (h.0, NoEnd-push xs b h.1 e)
+pub NoEnd-append : (xs ys : List ℕ) → NoEnd xs → NoEnd ys → NoEnd (xs ++ ys)
+NoEnd-append [] ys h e = e
+NoEnd-append (x ∷ xs) ys h e = (h.0, NoEnd-append xs ys h.1 e)
 
 pub NoEnds-push : (ls : List (List ℕ)) (l : List ℕ) → NoEnds ls → NoEnd l → NoEnds (ls ++ l ∷ [])
 NoEnds-push [] l h e = (e, tt)
@@ -45,14 +49,26 @@ pub whole-joined : (ls : List (List ℕ)) (bs : List ℕ) → NoEnds ls → whol
 whole-joined [] bs hs = refl
 whole-joined (l ∷ ls) bs hs = ap whole (append_assoc l (10 ∷ joined ls) bs) ∙ whole-line l (joined ls ++ bs) hs.0 ∙ ap (λ t. l ++ (10 ∷ t)) (whole-joined ls bs hs.1) ∙ sym (append_assoc l (10 ∷ joined ls) (whole bs))
 
--- a list in three parts: the front, the element there, and the rest
-chunk_is : (xs : List ℕ) (i : ℕ) → i < length xs → take i xs ++ (get_or xs i 0 ∷ drop (i + 1) xs) ≡ xs
-chunk_is xs i h = rw (add-one, ← drop-cons xs i 0 h) (take-append-drop i xs)
+is_false : (b : Bool) → ¬ (b ≡ true) → b ≡ false
+is_false true h = absurd (h refl)
+is_false false h = refl
 
-pub chunk_split : (bytes xs : List ℕ) (i : ℕ) → i < length xs → ((bytes ++ take i xs) ++ (get_or xs i 0 ∷ [])) ++ drop (i + 1) xs ≡ bytes ++ xs
-chunk_split bytes xs i h =
-    append_assoc (bytes ++ take i xs) (get_or xs i 0 ∷ []) (drop (i + 1) xs) ∙ append_assoc bytes (take i xs) (get_or xs i 0 ∷ drop (i + 1) xs) ∙ ap (λ t. bytes ++ t) (chunk_is xs i h)
+no_end_before : (k : ℕ) (xs : List ℕ) → k ≤ length xs → ((j : ℕ) → j < k → nat_eq (slice_index xs j) 10 ≡ false) → NoEnd (take k xs)
+no_end_before zero xs h before = tt
+no_end_before (suc k) [] h before = tt
+no_end_before (suc k) (x ∷ xs) h before = (before 0 (omega arith), no_end_before k xs (omega arith) (λ j lt. before (suc j) (omega arith)))
 
-pub chunk_split_more : (bytes xs rest : List ℕ) (i : ℕ) → i < length xs → (bytes ++ take i xs) ++ (get_or xs i 0 ∷ (drop (i + 1) xs ++ rest)) ≡ bytes ++ (xs ++ rest)
-chunk_split_more bytes xs rest i h =
-    append_assoc bytes (take i xs) (get_or xs i 0 ∷ (drop (i + 1) xs ++ rest)) ∙ ap (λ t. bytes ++ t) (sym (append_assoc (take i xs) (get_or xs i 0 ∷ drop (i + 1) xs) rest) ∙ ap (λ t. t ++ rest) (chunk_is xs i h))
+-- a list in three parts: what comes before a line end, the line end, and the rest
+at_end : (xs : List ℕ) (k : ℕ) → k < length xs → nat_eq (slice_index xs k) 10 ≡ true → (take k xs ++ (10 ∷ [])) ++ drop (k + 1) xs ≡ xs
+at_end xs k h e =
+    let is : get_or xs k 0 ≡ 10 = eqb-true _ 10 e in
+    append_assoc (take k xs) (10 ∷ []) (drop (k + 1) xs) ∙ ap (λ b. take k xs ++ (b ∷ drop (k + 1) xs)) (sym is) ∙ (rw (add-one, ← drop-cons xs k 0 h) (take-append-drop k xs))
+
+-- before the first line end there is none, and behind it is the rest
+pub first_end : (xs : List ℕ) (k : ℕ) → NoneBefore (Passes (is_byte 10) xs) 0 (length xs) k × Passes (is_byte 10) xs k → NoEnd (take k xs) × ((take k xs ++ (10 ∷ [])) ++ drop (k + 1) xs ≡ xs)
+first_end xs k h = (no_end_before k xs (let high = h.0.high in omega arith) (λ j lt. is_false _ (h.0.before j (omega arith) lt)), at_end xs k h.0.high h.1)
+
+-- where no line end is found, there is none
+pub no_end : (xs : List ℕ) (found : Option ℕ) → IsFirstByte (is_byte 10) xs found → ((k : ℕ) → found ≢ Some k) → NoEnd xs
+no_end xs None h none = subst NoEnd (take_all (length xs) xs (omega arith)) (no_end_before (length xs) xs (omega arith) (λ j lt. is_false _ (h j (omega arith) lt)))
+no_end xs (Some k) h none = absurd (none k refl)

@@ -1,18 +1,17 @@
 -- What a byte and a line do to where a reader stands.
-use Rattle.std.proofs.Common.{◌≡◌, ℕ, ◌+◌, Some, None, zero, suc, List, [], ◌∷◌, ◌++◌, ◌≢◌, false, ◌||◌, length, take, nat_eq, refl, ap, ◌∙◌, sym, subst, append_assoc, append-nil, length-append, arith}
+use Rattle.std.proofs.Common.{◌≡◌, ℕ, ◌+◌, Some, None, List, [], ◌∷◌, ◌++◌, ◌≢◌, ◌||◌, length, take, refl, ap, ◌∙◌, sym, subst, append_assoc, append-nil, length-append, arith}
 use Rattle.std.specs.declared.option.Option.{Option}
 use Rattle.std.specs.Io.KnownBytes.{Appends, Keeps}
 use Rattle.std.proofs.KnownBytes.{Appends-trans}
-use Rattle.itpg_run.specs.Machine.{Turn, opening, Answers, Replies}
-use Rattle.itpg_run.specs.PlainLines.{line_of}
-use Rattle.itpg_run.proofs.Kept.{line_kept}
-use Rattle.itpg_run.specs.Lines.{lines, whole}
+use Rattle.itpg_session.specs.Machine.{Turn, opening, Replies}
+use Rattle.itpg_run.specs.Lines.{kept, lines, whole}
 use Rattle.itpg_run.specs.Out.{both, Runs}
 use Rattle.itpg_run.specs.Split.{NoEnd, NoEnds, joined, last_line}
 use Rattle.itpg_run.specs.Served.{WritesLines, WritesOut, WritesAs, WritesWithin}
-use Rattle.itpg_run.specs.Stands.{AnswersWithin, Stands, EndsLine}
+use Rattle.itpg_run.specs.Stands.{RepliesTo, AnswersWithin, Stands, EndsLine}
 use Rattle.itpg_run.specs.declared.reader.Reader.{Reader}
-use Rattle.itpg_run.proofs.Split.{NoEnd-push, NoEnds-push, joined-push, lines-joined, lines-line, lines-rest, whole-joined, whole-rest}
+use Rattle.itpg_run.proofs.Split.{NoEnd-append, NoEnds-push, joined-push, lines-joined, lines-line, lines-rest, whole-joined, whole-rest}
+use Rattle.itpg_run.proofs.Kept.{take_take, take_none, take_nothing, kept_is}
 use Rattle.itpg_run.proofs.Running.{runs-push}
 
 -- known bytes that were kept, and then grow
@@ -22,41 +21,32 @@ Appends-kept (Some x) None c bs p q = absurd p
 Appends-kept (Some x) (Some y) None bs p q = absurd q
 Appends-kept (Some x) (Some y) (Some z) bs p q = q ∙ p
 
-take_take : (n : ℕ) (xs ys : List ℕ) → take n (take n xs ++ ys) ≡ take n (xs ++ ys)
-take_take zero xs ys = refl
-take_take (suc n) [] ys = refl
-take_take (suc n) (x ∷ xs) ys = ap (λ t. x ∷ t) (take_take n xs ys)
-
--- a byte that doesn't end the line
-pub stands_byte : (limit : ℕ) (start now : Option (List ℕ)) (old new : Reader) (bytes : List ℕ) (b : ℕ)
-    → Stands limit start now old bytes → nat_eq b 10 ≡ false
-    → new.session ≡ old.session → new.number ≡ old.number → new.failing ≡ old.failing → new.line.items ≡ take 142 (old.line.items ++ b ∷ [])
-    → Stands limit start now new (bytes ++ b ∷ [])
-stands_byte limit start now old new bytes b s e session number failing line = record {
+-- a piece in which no line ends
+pub stands_piece : (limit : ℕ) (start now : Option (List ℕ)) (old new : Reader) (bytes piece : List ℕ)
+    → Stands limit start now old bytes → NoEnd piece
+    → new.session ≡ old.session → new.number ≡ old.number → new.failing ≡ old.failing → new.line.items ≡ take kept (old.line.items ++ piece)
+    → Stands limit start now new (bytes ++ piece)
+stands_piece limit start now old new bytes piece s e session number failing line = record {
   lines = s.lines;
-  rest = s.rest ++ b ∷ [];
-  split = sym (append_assoc (joined s.lines) s.rest (b ∷ [])) ∙ ap (λ t. t ++ b ∷ []) s.split;
+  rest = s.rest ++ piece;
+  split = sym (append_assoc (joined s.lines) s.rest piece) ∙ ap (λ t. t ++ piece) s.split;
   ended = s.ended;
-  open_end = NoEnd-push s.rest b s.open_end e;
+  open_end = NoEnd-append s.rest piece s.open_end e;
   turn = s.turn;
   runs = s.runs;
   session = session ∙ s.session;
   number = number ∙ s.number;
-  line = line ∙ ap (λ t. take 142 (t ++ b ∷ [])) s.line ∙ take_take 142 s.rest (b ∷ []);
+  line = line ∙ ap (λ t. take kept (t ++ piece)) s.line ∙ take_take kept s.rest piece;
   failing = failing ∙ s.failing;
   written = s.written;
 }
 
 -- what the session answers is what the machine answers to the whole line
-replies_rest : (limit : ℕ) (start now : Option (List ℕ)) (r : Reader) (bytes : List ℕ) → (s : Stands limit start now r bytes) → (t : Turn)
-    → Replies r.session.limit r.session.machine r.number r.line.items t → Replies limit s.turn.next (1 + length s.lines) s.rest t
+replies_rest : (limit : ℕ) (start now : Option (List ℕ)) (r : Reader) (bytes : List ℕ) → (s : Stands limit start now r bytes) → (t : Turn) → RepliesTo r t → Replies limit s.turn.next (1 + length s.lines) s.rest t
 replies_rest limit start now r bytes s t a =
-    subst (λ k. Answers limit s.turn.next (1 + length s.lines) k t) (ap line_of s.line ∙ line_kept s.rest)
-    (subst (λ n. Replies limit s.turn.next n r.line.items t) s.number
-    (subst (λ m. Replies m.limit m.machine r.number r.line.items t) s.session a))
+    subst (λ n. Replies limit s.turn.next n s.rest t) s.number (subst (λ m. Replies m.limit m.machine r.number s.rest t) s.session (a s.rest s.line))
 
-runs_rest : (limit : ℕ) (start now : Option (List ℕ)) (r : Reader) (bytes : List ℕ) → (s : Stands limit start now r bytes) → (t : Turn)
-    → Replies r.session.limit r.session.machine r.number r.line.items t → Runs limit opening 1 (s.lines ++ s.rest ∷ []) (both s.turn t)
+runs_rest : (limit : ℕ) (start now : Option (List ℕ)) (r : Reader) (bytes : List ℕ) → (s : Stands limit start now r bytes) → (t : Turn) → RepliesTo r t → Runs limit opening 1 (s.lines ++ s.rest ∷ []) (both s.turn t)
 runs_rest limit start now r bytes s t a = runs-push limit opening 1 s.lines s.rest s.turn t s.runs (replies_rest limit start now r bytes s t a)
 
 -- the end of a line
@@ -72,7 +62,7 @@ stands_line limit start before now old new bytes s e = record {
   runs = runs_rest limit start before old bytes s e.turn e.replies;
   session = e.session ∙ ap (λ m. record { machine = e.turn.next; limit = m.limit }) s.session;
   number = omega (arith, s.number, e.number, length-append s.lines (s.rest ∷ []));
-  line = e.line;
+  line = e.line ∙ sym (take_nothing kept);
   failing = e.failing ∙ ap (λ t. t || e.turn.failing) s.failing;
   written = Appends-trans start before now _ _ s.written e.written;
 }
@@ -133,10 +123,6 @@ writes_longer limit start now xs more ys w e = record {
   writes = w.writes;
 }
 
-take_none : (xs : List ℕ) → take 142 xs ≡ [] → xs ≡ []
-take_none [] e = refl
-take_none (x ∷ xs) e = cc
-
 lines_of : (limit : ℕ) (start now : Option (List ℕ)) (r : Reader) (bytes : List ℕ) → (s : Stands limit start now r bytes) → lines bytes ≡ s.lines ++ last_line s.rest
 lines_of limit start now r bytes s = sym (ap lines s.split) ∙ lines-joined s.lines s.rest s.ended ∙ ap (λ t. s.lines ++ t) (lines-rest s.rest s.open_end)
 
@@ -145,12 +131,12 @@ last_some [] some = absurd (some refl)
 last_some (x ∷ xs) some = refl
 
 lines_with_last : (limit : ℕ) (start now : Option (List ℕ)) (r : Reader) (bytes : List ℕ) → (s : Stands limit start now r bytes) → r.line.items ≢ [] → lines bytes ≡ s.lines ++ s.rest ∷ []
-lines_with_last limit start now r bytes s some = lines_of limit start now r bytes s ∙ ap (λ t. s.lines ++ t) (last_some s.rest (λ h. some (s.line ∙ ap (take 142) h)))
+lines_with_last limit start now r bytes s some = lines_of limit start now r bytes s ∙ ap (λ t. s.lines ++ t) (last_some s.rest (λ h. some (s.line ∙ ap (take kept) h ∙ take_nothing kept)))
 
 -- with no byte behind the last line end, all is answered
 pub ends_whole : (limit : ℕ) (start now : Option (List ℕ)) (r : Reader) (bytes : List ℕ) → Stands limit start now r bytes → r.line.items ≡ [] → WritesAs limit start now bytes r.failing
 ends_whole limit start now r bytes s e =
-    let are : lines bytes ≡ s.lines = lines_of limit start now r bytes s ∙ ap (λ t. s.lines ++ last_line t) (take_none s.rest (sym s.line ∙ e)) ∙ append-nil s.lines in
+    let are : lines bytes ≡ s.lines = lines_of limit start now r bytes s ∙ ap (λ t. s.lines ++ last_line t) (take_none kept s.rest (omega (arith, kept_is)) (sym s.line ∙ e)) ∙ append-nil s.lines in
     record { turn = s.turn; out = subst (λ ls. Runs limit opening 1 ls s.turn) (sym are) s.runs; written = s.written; fails = sym s.failing }
 
 -- a last line without an end

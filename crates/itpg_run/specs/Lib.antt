@@ -1,14 +1,4 @@
 pub mod Lines
-pub mod PlainLines
-pub mod Reading
-pub mod Refusals
-pub mod OneTime
-pub mod Texts
-pub mod Machine
-pub mod Listed
-pub mod Said
-pub mod Steps
-pub mod MachineLaws
 pub mod Out
 pub mod Split
 pub mod Served

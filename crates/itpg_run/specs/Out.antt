@@ -1,6 +1,6 @@
 -- What the plain machine may write over a script.
 use Rattle.std.specs.Prelude.{◌≡◌, ℕ, ◌+◌, List, [], ◌∷◌, ◌++◌, false, ◌||◌}
-use Rattle.itpg_run.specs.Machine.{Machine, Turn, opening, Replies}
+use Rattle.itpg_session.specs.Machine.{Machine, Turn, opening, Replies}
 use Rattle.itpg_run.specs.Lines.{lines}
 
 -- nothing is written

@@ -1,6 +1,6 @@
 -- Laws of the output.
 use Rattle.std.specs.Prelude.{◌≡◌, ℕ, List, ◌++◌}
-use Rattle.itpg_run.specs.Machine.{Turn}
+use Rattle.itpg_session.specs.Machine.{Turn}
 use Rattle.itpg_run.specs.Lines.{whole}
 use Rattle.itpg_run.specs.Out.{IsOut}
 

@@ -3,7 +3,7 @@ use Rattle.std.specs.Prelude.{◌≡◌, ℕ, ◌≤◌, ◌<◌, List, [], ◌+
 use Rattle.std.specs.declared.option.Option.{Option}
 use Rattle.std.specs.Io.KnownBytes.{Appends, Consumes, IsAtEnd}
 use Rattle.itpg_base.specs.Outside.{AppendsSome}
-use Rattle.itpg_run.specs.Machine.{Turn, opening}
+use Rattle.itpg_session.specs.Machine.{Turn, opening}
 use Rattle.itpg_run.specs.Lines.{lines, whole}
 use Rattle.itpg_run.specs.Out.{Runs, IsOut}
 use Rattle.itpg_run.specs.declared.Status.{Status}

@@ -2,22 +2,26 @@
 use Rattle.std.specs.Prelude.{◌≡◌, ℕ, ◌+◌, List, [], ◌++◌, length, take, ◌<◌, ◌||◌, true, false}
 use Rattle.std.specs.declared.option.Option.{Option}
 use Rattle.std.specs.Io.KnownBytes.{Appends}
-use Rattle.itpg_run.specs.Machine.{Turn, Replies, opening}
-use Rattle.itpg_run.specs.Steps.{StepsWithin}
+use Rattle.itpg_session.specs.Machine.{Turn, Replies, opening}
+use Rattle.itpg_session.specs.Steps.{StepsWithin}
 use Rattle.itpg_run.specs.Out.{Runs}
 use Rattle.itpg_run.specs.Split.{NoEnd, NoEnds, joined}
 use Rattle.itpg_run.specs.Served.{WritesLines, WritesOut, WritesAs, WritesWithin}
-use Rattle.itpg_run.specs.Lines.{whole}
+use Rattle.itpg_run.specs.Lines.{kept, whole}
 use Rattle.itpg_run.specs.declared.reader.Reader.{Reader}
 use Rattle.itpg_run.specs.declared.reader.Stop.{Stop}
 use Rattle.itpg_run.specs.declared.reader.Stop.TheVariants as stop
 use Rattle.itpg_run.specs.declared.Status.{Status}
 use Rattle.itpg_run.specs.declared.Status.TheVariants.{Done, DoneRefused, Usage, ReadFault, WriteFault, Memory, TooLong}
 
+-- a turn that each line may have of which the reader has the front that is kept
+abbrev pub RepliesTo : Reader → Turn → Type 0
+RepliesTo r turn = (line : List ℕ) → r.line.items ≡ take kept line → Replies r.session.limit r.session.machine r.number line turn
+
 -- the line that was read was answered
 pub record EndsLine (held now : Option (List ℕ)) (old new : Reader) : Type 0 where
   pub turn : Turn
-  pub replies : Replies old.session.limit old.session.machine old.number old.line.items turn
+  pub replies : RepliesTo old turn
   pub written : Appends held now turn.text
   pub session : new.session ≡ record { machine = turn.next; limit = old.session.limit }
   pub number : new.number ≡ old.number + 1
@@ -26,7 +30,7 @@ pub record EndsLine (held now : Option (List ℕ)) (old new : Reader) : Type 0 w
 
 -- a front part of the reply to the line that was read was written
 abbrev pub AnswersWithin : Option (List ℕ) → Option (List ℕ) → Reader → Type 0
-AnswersWithin before now r = StepsWithin (λ turn. Replies r.session.limit r.session.machine r.number r.line.items turn) before now
+AnswersWithin before now r = StepsWithin (RepliesTo r) before now
 
 -- the reader was given these bytes, and the replies to the whole lines in them were written
 pub record Stands (limit : ℕ) (start now : Option (List ℕ)) (r : Reader) (bytes : List ℕ) : Type 0 where
@@ -39,7 +43,7 @@ pub record Stands (limit : ℕ) (start now : Option (List ℕ)) (r : Reader) (by
   pub runs : Runs limit opening 1 lines turn
   pub session : r.session ≡ record { machine = turn.next; limit = limit }
   pub number : r.number ≡ 1 + length lines
-  pub line : r.line.items ≡ take 142 rest
+  pub line : r.line.items ≡ take kept rest
   pub failing : r.failing ≡ turn.failing
   pub written : Appends start now turn.text
 

@@ -1,31 +1,28 @@
-// Laws of the machine and of its output.
-ghost use Rattle.itpg_run.specs.MachineLaws.{OneReply, SomeReply};
+// Laws of the output.
 ghost use Rattle.itpg_run.specs.OutputLaws.{OneOutput, SomeOutput, OutputGrows, OutputBegins};
 
-/// A line has at most one turn.
-pub fn one_reply()
-    ensures { OneReply }
-{}
-
-/// Each line has a turn.
-pub fn some_reply()
-    ensures { SomeReply }
-{}
+use itpg_session::law_of_replies;
 
 /// A script has at most one output.
 pub fn one_output()
     ensures { OneOutput }
-{}
+{
+    law_of_replies();
+}
 
 /// Each script has an output.
 pub fn some_output()
     ensures { SomeOutput }
-{}
+{
+    law_of_replies();
+}
 
 /// The output over the whole lines of some first bytes begins the output over all.
 pub fn output_grows()
     ensures { OutputGrows }
-{}
+{
+    law_of_replies();
+}
 
 /// An output over all bytes has in it one over the whole lines of the first of them.
 pub fn output_begins()

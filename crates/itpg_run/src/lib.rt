@@ -1,37 +1,29 @@
 //! The top call: reads a script, answers its lines, and says how it ended.
 //!
-//! It stands on the graph store, and holds the plain machine and its output as definitions (`specs/`): what a line says,
-//! which rule it breaks first, which turn it may have, and what the turns of a script write. It promises that `serve`
-//! writes the bytes of that machine, whatever script is read (`serve`'s clauses), and that there is exactly one output for
-//! each script (`one_output`, `some_output`).
+//! It stands on the session, which takes one line at a time, and holds the output over a script as a definition (`specs/`):
+//! the turns of the plain machine to its lines, one behind the other. It promises that `serve` writes the bytes of that
+//! output, whatever script is read (`serve`'s clauses), and that there is exactly one for each script (`one_output`,
+//! `some_output`). Nothing here speaks of graphs.
 #![tactic(auto)]
 
 ghost use Rattle.itpg_run.specs.Codes.{code_of};
 ghost use Rattle.std.specs.Prelude.{◌≡◌};
 
-mod answer;
-mod edits;
 mod law;
-mod line;
-mod page;
 mod reader;
-mod reading;
-mod replies;
-mod rules;
 mod run;
-mod session;
 #[cfg(test)]
 mod tests;
 
-pub use law::{one_output, one_reply, output_begins, output_grows, some_output, some_reply};
+pub use law::{one_output, output_begins, output_grows, some_output};
 pub use run::serve;
 
 /// How a run ended.
 #[derive(Clone, Copy, Debug, PartialEq, Eq)]
 pub enum Status {
-    /// The input was read to its end, and no reply was refused or wide.
+    /// The input was read to its end, and no reply was bad, refused or wide.
     Done,
-    /// The input was read to its end, and some reply was refused or wide.
+    /// The input was read to its end, and some reply was bad, refused or wide.
     DoneRefused,
     /// The words are no sentence of the command. Nothing was read or written.
     Usage,

@@ -1,17 +1,18 @@
 // Lines out of bytes.
-ghost use Rattle.std.specs.Prelude.{◌≡◌, ◌+◌, ◌-◌, ◌^◌, ◌≤◌, ◌<◌, [], ◌∷◌, ◌++◌, ◌||◌, take, length, false, true, OnOk, OnErr, IfErr, IsErrOf, ℕ, List};
+ghost use Rattle.std.specs.Prelude.{◌≡◌, ◌+◌, ◌-◌, ◌^◌, ◌≤◌, ◌<◌, [], ◌∷◌, ◌++◌, ◌||◌, take, length, false, true, IfOk, OnOk, OnErr, IfErr, IsErrOf, ℕ, List};
 ghost use Rattle.std.specs.Io.KnownBytes.{Appends, Keeps};
 ghost use Rattle.std.specs.declared.option.Option.{Option};
 ghost use Rattle.itpg_base.specs.Outside.{Rose, AppendsSome};
-ghost use Rattle.itpg_run.specs.Machine.{opening};
+ghost use Rattle.itpg_session.specs.Machine.{opening};
 
 use crate::Status;
-use crate::session::{Seen, Session, StepFault};
-use itpg_base::Sink;
-use std::alloc::Global;
+use itpg_base::{Limits, Sink};
+use itpg_session::{Seen, Session, StepFault, law_of_fronts};
+use memchr::memchr;
+use std::alloc::{AllocError, Global};
 
-/// How many bytes of a line are kept: one more than a plain line has at most, which is enough to tell what it says.
-pub(crate) const KEPT: usize = 142;
+/// How many first bytes of a line are kept. They have the same reply as the whole line.
+pub(crate) const KEPT: usize = 65_538;
 
 const LINE_END: u8 = b'\n';
 
@@ -22,42 +23,46 @@ pub(crate) struct Reader {
     pub(crate) line: Vec<u8>,
     pub(crate) number: u64,
     pub(crate) failing: bool,
-    ghost short: { length line.items ≤ 142 },
+    ghost short: { length line.items ≤ 65538 },
 }
 
 impl Reader {
-    pub(crate) fn new(alloc: Global, limit: usize) -> Self
-        ensures session { result.session ≡ record { machine = opening; limit = limit } }
+    pub(crate) fn new(alloc: Global, limits: Limits) -> Self
+        ensures session { result.session ≡ record { machine = opening; limit = limits } }
         ensures line { result.line.items ≡ [] }
         ensures number { result.number ≡ 1 }
         ensures failing { result.failing ≡ false }
     {
         Reader {
-            session: Session::new(alloc, limit),
+            session: Session::new(alloc, limits),
             line: Vec::new(alloc),
             number: 1,
             failing: false,
         }
     }
-
-    /// Keeps a byte of the line.
-    pub(crate) fn keep(&mut self, byte: u8) -> Result<(), StepFault>
-        ensures line { OnOk result (self.new.line.items ≡ take KEPT (self.old.line.items ++ byte ∷ [])) }
-        ensures session { self.new.session ≡ self.old.session }
-        ensures number { self.new.number ≡ self.old.number }
-        ensures failing { self.new.failing ≡ self.old.failing }
-        ensures memory { IsErrOf result StepFault.Write → ⊥ }
-    {
-        if self.line.len() < KEPT {
-            self.line.push(byte)?;
-        }
-        Ok(())
-    }
 }
 
 impl Reader {
-    ghost use Rattle.itpg_run.specs.Stands.{AnswersWithin, EndsLine, Stands, Feeds, StopsWhole, StopsWithin, Stops, Ends};
+    ghost use Rattle.itpg_run.specs.Stands.{RepliesTo, AnswersWithin, EndsLine, Stands, Feeds, StopsWhole, StopsWithin, Stops, Ends};
     ghost use Rattle.itpg_run.specs.Served.{WritesAs, WritesWithin};
+    ghost use Rattle.itpg_run.specs.Split.{NoEnd};
+    ghost use Rattle.itpg_session.specs.Steps.{Stepped};
+
+    // Answers the line of which the front is kept.
+    fn answer<K: Sink>(&mut self, out: &mut K) -> Result<Seen, StepFault>
+        ensures stepped { IfOk result (λ seen. Stepped (RepliesTo self.old) (K.held out.old) (K.held out.new) self.old.session self.new.session seen) }
+        ensures line { self.new.line.items ≡ self.old.line.items }
+        ensures number { self.new.number ≡ self.old.number }
+        ensures failing { self.new.failing ≡ self.old.failing }
+        ensures memory { IsErrOf result StepFault.Memory → Keeps (K.held out.old) (K.held out.new) }
+        ensures write { IsErrOf result StepFault.Write → Rose (K.faults out.old) (K.faults out.new) }
+        ensures some { IsErrOf result StepFault.Write → AnswersWithin (K.held out.old) (K.held out.new) self.old }
+        ensures later { K.faults out.old ≤ K.faults out.new }
+    {
+        law_of_fronts();
+        let seen = self.session.step(self.number, &self.line, out)?;
+        Ok(seen)
+    }
 
     /// Answers the line that was read.
     pub(crate) fn end_line<K: Sink>(&mut self, out: &mut K) -> Result<(), StepFault>
@@ -68,7 +73,7 @@ impl Reader {
         ensures some { IsErrOf result StepFault.Write → AnswersWithin (K.held out.old) (K.held out.new) self.old }
         ensures later { K.faults out.old ≤ K.faults out.new }
     {
-        let seen = self.session.step(self.number, &self.line, out)?;
+        let seen = self.answer(out)?;
         self.line.clear();
         self.number += 1;
         if seen == Seen::Refused {
@@ -77,26 +82,38 @@ impl Reader {
         Ok(())
     }
 
-    /// Takes a byte, and answers the line that it ends.
-    pub(crate) fn take_byte<K: Sink>(&mut self, byte: u8, out: &mut K) -> Result<(), StepFault>
-        requires { self.old.number < 2 ^ 64 - 1 }
-        ensures fed { OnOk result (Feeds (K.held out.old) (K.held out.new) self.old self.new (byte ∷ [])) }
-        ensures number { OnOk result (self.new.number ≤ self.old.number + 1) }
-        ensures memory { IsErrOf result StepFault.Memory → StopsWhole (K.held out.old) (K.held out.new) self.old (byte ∷ []) }
-        ensures write { IsErrOf result StepFault.Write → StopsWithin (K.held out.old) (K.held out.new) self.old (byte ∷ []) }
-        ensures rose { IsErrOf result StepFault.Write → Rose (K.faults out.old) (K.faults out.new) }
-        ensures later { K.faults out.old ≤ K.faults out.new }
+    /// Takes a piece of a line, and keeps what is to be kept of it.
+    pub(crate) fn take_piece(&mut self, piece: &[u8]) -> Result<(), StepFault>
+        requires { NoEnd piece.now }
+        ensures fed { OnOk result ((held : Option (List ℕ)) → Feeds held held self.old self.new piece.now) }
+        ensures number { self.new.number ≡ self.old.number }
+        ensures memory { IsErrOf result StepFault.Write → ⊥ }
     {
-        if byte == LINE_END {
-            self.end_line(out)?;
-            Ok(())
-        } else {
-            self.keep(byte)?;
-            Ok(())
+        let room = KEPT - self.line.len();
+        let front = &piece[..piece.len().min(room)];
+        match self.line.extend_from_slice(front) {
+            Ok(()) => Ok(()),
+            Err(AllocError) => Err(StepFault::Memory),
         }
     }
 
-    /// Takes bytes one by one.
+    /// Takes the last piece of a line and its end, and answers the line.
+    pub(crate) fn take_line<K: Sink>(&mut self, piece: &[u8], out: &mut K) -> Result<(), StepFault>
+        requires piece { NoEnd piece.now }
+        requires number { self.old.number < 2 ^ 64 - 1 }
+        ensures fed { OnOk result (Feeds (K.held out.old) (K.held out.new) self.old self.new (piece.now ++ LINE_END ∷ [])) }
+        ensures number { OnOk result (self.new.number ≤ self.old.number + 1) }
+        ensures memory { IsErrOf result StepFault.Memory → StopsWhole (K.held out.old) (K.held out.new) self.old (piece.now ++ LINE_END ∷ []) }
+        ensures write { IsErrOf result StepFault.Write → StopsWithin (K.held out.old) (K.held out.new) self.old (piece.now ++ LINE_END ∷ []) }
+        ensures rose { IsErrOf result StepFault.Write → Rose (K.faults out.old) (K.faults out.new) }
+        ensures later { K.faults out.old ≤ K.faults out.new }
+    {
+        self.take_piece(piece)?;
+        self.end_line(out)?;
+        Ok(())
+    }
+
+    /// Takes bytes line by line.
     pub(crate) fn feed<K: Sink>(&mut self, bytes: &[u8], out: &mut K) -> Result<(), StepFault>
         requires { self.old.number + length bytes.now < 2 ^ 64 }
         ensures fed { OnOk result (Feeds (K.held out.old) (K.held out.new) self.old self.new bytes.now) }
@@ -106,9 +123,12 @@ impl Reader {
         ensures rose { IsErrOf result StepFault.Write → Rose (K.faults out.old) (K.faults out.new) }
         ensures later { K.faults out.old ≤ K.faults out.new }
     {
-        for byte in bytes {
-            self.take_byte(*byte, out)?;
+        let mut rest = bytes;
+        while let Some(end) = memchr(LINE_END, rest) {
+            self.take_line(&rest[..end], out)?;
+            rest = &rest[end + 1..];
         }
+        self.take_piece(rest)?;
         Ok(())
     }
 

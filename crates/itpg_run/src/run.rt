@@ -8,14 +8,15 @@ ghost use Rattle.itpg_run.specs.Pumped.{Pumped};
 
 use crate::Status;
 use crate::reader::{Reader, Stop};
-use itpg_base::{Failed, Sink, Source};
+use itpg_base::{Failed, Limits, Sink, Source};
+use itpg_session::law_of_replies;
 use std::alloc::Global;
 
 // How many bytes a script may have.
 const LONGEST: usize = 268_435_456;
 
 // How many rows an answer may have.
-const MAX_ROWS: usize = 100_000;
+const MAX_ROWS: u32 = 100_000;
 
 // How many bytes are read at a time, at most.
 const CHUNK: usize = 65_536;
@@ -68,11 +69,18 @@ fn run_script<S: Source, K: Sink>(alloc: Global, source: &mut S, sink: &mut K) -
     ensures complete { (all : List ℕ) → S.left source.old ≡ Some all → length all ≤ longest
         → ¬ Rose (S.faults source.old) (S.faults source.new) → ¬ Rose (K.faults sink.old) (K.faults sink.new) → EndsWell result }
 {
-    let mut reader = Reader::new(alloc, MAX_ROWS);
+    law_of_replies();
+    let mut reader = Reader::new(alloc, limits());
     match pump(&mut reader, source, sink) {
         Ok(()) => reader.finish(sink),
         Err(status) => status,
     }
+}
+
+fn limits() -> Limits
+    ensures { result ≡ max_rows }
+{
+    Limits::new(MAX_ROWS).unwrap()
 }
 
 // Reads to the end of the input.

@@ -1,4 +1,5 @@
-use Rattle.std.proofs.Common.{Err, ap, subst, arith}
+use Rattle.std.proofs.Common.{Err, ap, ◌∙◌, subst, arith}
+use Rattle.itpg_session.specs.Machine.{opening}
 use Rattle.itpg_run.specs.Served.{max_rows}
 use Rattle.itpg_run.specs.Stands.{Ends}
 use Rattle.itpg_run.proofs.Pumped.{begins, finished, ends_well, never_usage}
@@ -6,22 +7,22 @@ use Rattle.itpg_run.proofs.Begins.{served_each}
 use Rattle.itpg_run.proofs.run.run_script.Goals as goal
 
 pub returns-clause-served : goal.returns-clause-served
-returns-clause-served g c = c.in-Err.ensures.stopped max_rows _ (begins max_rows _ _ c.new-reader.ensures.session c.new-reader.ensures.number c.new-reader.ensures.line c.new-reader.ensures.failing)
+returns-clause-served g c = c.in-Err.ensures.stopped max_rows _ (begins max_rows _ _ (c.new-reader.ensures.session ∙ ap (λ limit. record { machine = opening; limit = limit }) c.limits.ensures) c.new-reader.ensures.number c.new-reader.ensures.line c.new-reader.ensures.failing)
 
 pub returns-in-Ok-clause-served : goal.returns-in-Ok-clause-served
 returns-in-Ok-clause-served g c =
-    let p = c.in-Ok.ensures.ended max_rows _ (begins max_rows (g.K.Sink.held c.args.sink.now) _ c.new-reader.ensures.session c.new-reader.ensures.number c.new-reader.ensures.line c.new-reader.ensures.failing) in
+    let p = c.in-Ok.ensures.ended max_rows _ (begins max_rows (g.K.Sink.held c.args.sink.now) _ (c.new-reader.ensures.session ∙ ap (λ limit. record { machine = opening; limit = limit }) c.limits.ensures) c.new-reader.ensures.number c.new-reader.ensures.line c.new-reader.ensures.failing) in
     finished max_rows c.finish.result _ _ _ (g.K.Sink.held c.pump.new.sink) _ c.pump.new.reader p (c.finish.ensures.ends max_rows _ p.bytes p.stands)
 
 pub returns-clause-each : goal.returns-clause-each
-returns-clause-each g c = served_each max_rows c.in-Err.status _ (g.S.Source.left c.pump.new.source) _ _ (returns-clause-served g c)
+returns-clause-each g c = served_each (record { one = c.law_of_replies.ensures.one; some = c.law_of_replies.ensures.some; good = c.law_of_replies.ensures.good; opening = c.law_of_replies.ensures.opening }) max_rows c.in-Err.status _ (g.S.Source.left c.pump.new.source) _ _ (returns-clause-served g c)
 
 pub returns-in-Ok-clause-each : goal.returns-in-Ok-clause-each
-returns-in-Ok-clause-each g c = served_each max_rows c.finish.result _ (g.S.Source.left c.pump.new.source) _ _ (returns-in-Ok-clause-served g c)
+returns-in-Ok-clause-each g c = served_each (record { one = c.law_of_replies.ensures.one; some = c.law_of_replies.ensures.some; good = c.law_of_replies.ensures.good; opening = c.law_of_replies.ensures.opening }) max_rows c.finish.result _ (g.S.Source.left c.pump.new.source) _ _ (returns-in-Ok-clause-served g c)
 
 pub returns-in-Ok-clause-read : goal.returns-in-Ok-clause-read
 returns-in-Ok-clause-read g c = λ is.
-    let p = c.in-Ok.ensures.ended max_rows _ (begins max_rows (g.K.Sink.held c.args.sink.now) _ c.new-reader.ensures.session c.new-reader.ensures.number c.new-reader.ensures.line c.new-reader.ensures.failing) in
+    let p = c.in-Ok.ensures.ended max_rows _ (begins max_rows (g.K.Sink.held c.args.sink.now) _ (c.new-reader.ensures.session ∙ ap (λ limit. record { machine = opening; limit = limit }) c.limits.ensures) c.new-reader.ensures.number c.new-reader.ensures.line c.new-reader.ensures.failing) in
     absurd (subst (λ t. Ends t max_rows (g.K.Sink.held c.args.sink.now) (g.K.Sink.held c.finish.new.out) p.bytes) is (c.finish.ensures.ends max_rows _ p.bytes p.stands))
 
 pub returns-clause-complete : goal.returns-clause-complete

@@ -1,10 +1,15 @@
-use Rattle.std.proofs.Common.{◌+◌, ◌≤◌, take}
+use Rattle.std.proofs.Common.{◌≡◌, ◌+◌, ◌≤◌, ℕ, List, ◌++◌, length}
 use Rattle.itpg_run.specs.Stands.{Feeds}
 use Rattle.itpg_run.proofs.reader.Reader.feed.Given as goal
 
-abbrev pub invariant-loop-byte : goal.invariant-loop-byte
-invariant-loop-byte g l = record {
-  number : l.self.number ≤ l.initial.self.number + l.byte-index;
-  fed : Feeds (g.K.Sink.held l.initial.out) (g.K.Sink.held l.out) l.initial.self l.self (take l.byte-index l.bytes);
+abbrev pub invariant-loop-end : goal.invariant-loop-end
+invariant-loop-end g l = record {
+  done : List ℕ;
+  split : done ++ l.rest ≡ l.bytes;
+  number : l.self.number ≤ l.initial.self.number + length done;
+  fed : Feeds (g.K.Sink.held l.initial.out) (g.K.Sink.held l.out) l.initial.self l.self done;
   later : g.K.Sink.faults l.initial.out ≤ g.K.Sink.faults l.out;
 }
+
+abbrev pub decreases-loop-end : goal.decreases-loop-end
+decreases-loop-end g l = length l.rest
