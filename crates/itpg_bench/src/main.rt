@@ -1,62 +1,66 @@
-//! Measures calls of the layers over made-up input.
+//! Measures calls of the layers, and of the whole, over made-up input.
 //!
-//! The words `union`, `chain`, `middle` and `lasting` measure calls of `relation_rows`, and the next word is how many rows
-//! there are, at most a million. Two numbers measure `normal`: how many zones there are, at most a million, and how many
-//! moments lie between one zone's first departure and the next's. Without words each is measured, at 1,000 rows or zones.
-//! The number of rows or bands goes to standard output, and the time to standard error.
+//! The words are the name of a workload and its size: how many nodes, zones or rows it has, at most a million. Without words
+//! each workload is run with the size 1,000. What was made, and how much came of it, goes to standard output, and the time
+//! of the call to standard error.
 #![tactic(auto)]
 
+mod ingest;
 mod relations;
 mod zones;
 
-use anyhow::{Result, ensure};
+use anyhow::{Result, bail, ensure};
 use relations::Workload;
 use std::env;
 
 const MOST: u32 = 1_000_000;
 
-const MOST_MOMENTS: u32 = 1_000;
-
 const FEW: u32 = 1_000;
+
+// All workloads.
+const NAMES: [&str; 7] = [
+    "ingest",
+    "zones",
+    "close_zones",
+    "union",
+    "chain",
+    "middle",
+    "lasting",
+];
 
 fn main(rt: HostRuntime) -> Result<()> {
     let mut words = env::args(&rt)?.skip(1);
-    let Some(first) = words.next() else {
-        return measure_each(&rt);
-    };
-    match workload(first.as_str()) {
-        Some(workload) => workload.measure(&rt, number(words.next(), FEW, MOST)?),
-        None => zones::measure(
-            &rt,
-            number(Some(first), FEW, MOST)?,
-            number(words.next(), 7, MOST_MOMENTS)?,
-        ),
+    match words.next() {
+        Some(name) => measure(&rt, name.as_str(), size(words.next())?),
+        None => measure_each(&rt),
     }
 }
 
 fn measure_each(rt: &HostRuntime) -> Result<()> {
-    zones::measure(rt, FEW, 7)?;
-    Workload::Union.measure(rt, FEW)?;
-    Workload::Chain.measure(rt, FEW)?;
-    Workload::Middle.measure(rt, FEW)?;
-    Workload::Lasting.measure(rt, FEW)
+    for name in &NAMES {
+        measure(rt, name, FEW)?;
+    }
+    Ok(())
 }
 
-fn workload(word: &str) -> Option<Workload> {
-    match word {
-        "union" => Some(Workload::Union),
-        "chain" => Some(Workload::Chain),
-        "middle" => Some(Workload::Middle),
-        "lasting" => Some(Workload::Lasting),
-        _ => None,
+fn measure(rt: &HostRuntime, name: &str, size: u32) -> Result<()> {
+    match name {
+        "ingest" => ingest::measure(rt, size),
+        "zones" => zones::measure(rt, size, 7),
+        "close_zones" => zones::measure(rt, size, 1),
+        "union" => Workload::Union.measure(rt, size),
+        "chain" => Workload::Chain.measure(rt, size),
+        "middle" => Workload::Middle.measure(rt, size),
+        "lasting" => Workload::Lasting.measure(rt, size),
+        _ => bail!("no workload has the name {name}"),
     }
 }
 
-fn number(word: Option<String>, otherwise: u32, most: u32) -> Result<u32> {
+fn size(word: Option<String>) -> Result<u32> {
     let n = match word {
         Some(word) => word.as_str().parse::<u32>()?,
-        None => otherwise,
+        None => FEW,
     };
-    ensure!(n <= most, "{n} is more than {most}");
+    ensure!(n <= MOST, "{n} is more than {MOST}");
     Ok(n)
 }
