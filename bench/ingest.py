@@ -6,7 +6,8 @@
 Runs the built program over scripts of the sizes 1, 2, 4 and 8. Size 1 has 12,500 nodes and as many edges, so size 8 has as
 many objects as a script may declare. Prints for each size the least seconds of all runs, the bytes a second, the growth
 against the size before, and the greatest memory that a run had. Ends with 1 where the last doubling took more than 2.3 times as
-long, or where a run wrote something else than it must.
+long, or where a run wrote something else than it must. The seconds are those that the processor worked for the run, so that
+they tell the same on a busy machine.
 """
 import argparse
 import os
@@ -14,12 +15,12 @@ import pathlib
 import subprocess
 import sys
 import tempfile
-import time
 
 sys.dont_write_bytecode = True
-from ingest_script import output, script  # noqa: E402
+from ingest_script import output  # noqa: E402
 
 TOP = pathlib.Path(__file__).resolve().parent.parent
+WRITER = TOP / "bench/ingest_script.py"
 SIZES = (1, 2, 4, 8)
 MOST_GROWTH = 2.3
 
@@ -27,25 +28,22 @@ MOST_GROWTH = 2.3
 def run(program, path, wanted):
     """Seconds and peak bytes of one run over the script in this file."""
     with open(path, "rb") as source, tempfile.TemporaryFile() as sink:
-        start = time.perf_counter()
         child = subprocess.Popen([program], stdin=source, stdout=sink)
         _, status, usage = os.wait4(child.pid, 0)
-        seconds = time.perf_counter() - start
         child.returncode = os.waitstatus_to_exitcode(status)
         sink.seek(0)
         if child.returncode != 0 or sink.read() != wanted:
             sys.exit(f"{path}: the run ended with {child.returncode}, or wrote something else than it must")
-    return seconds, usage.ru_maxrss * 1024
+    return usage.ru_utime + usage.ru_stime, usage.ru_maxrss * 1024
 
 
 def measure(program, nodes, runs):
     """Bytes, least seconds and greatest peak bytes over a script with so many nodes."""
-    text = script(nodes)
     with tempfile.NamedTemporaryFile(suffix=".itpg") as file:
-        file.write(text)
-        file.flush()
+        # In a process of its own: a child's greatest memory is never told as less than its parent's at the start.
+        subprocess.run([sys.executable, WRITER, str(nodes)], stdout=file, check=True)
         results = [run(program, file.name, output(nodes)) for _ in range(runs)]
-    return len(text), min(r[0] for r in results), max(r[1] for r in results)
+        return os.path.getsize(file.name), min(r[0] for r in results), max(r[1] for r in results)
 
 
 def main():
