@@ -1,7 +1,6 @@
 -- The machine over more lines.
 use Rattle.std.proofs.Common.{◌≡◌, ℕ, ◌+◌, List, [], ◌∷◌, ◌++◌, Bool, true, false, ◌||◌, length, refl, ap, ◌∙◌, sym, subst, append_assoc, append-nil, arith}
-use Rattle.itpg_session.specs.Machine.{Machine, Turn, Replies}
-use Rattle.itpg_base.specs.Graphs.{Good}
+use Rattle.itpg_session.specs.Machine.{Machine, IsGood, Turn, Replies}
 use Rattle.itpg_run.proofs.MachineLaws.{Laws}
 use Rattle.itpg_run.specs.Out.{none, both, Runs}
 
@@ -64,7 +63,7 @@ runs-part limit m number (x ∷ xs) ys t r =
     }
 
 -- on a good graph there is at most one run
-pub one_run : Laws → (limit : ℕ) (m : Machine) (number : ℕ) (xs : List (List ℕ)) (t u : Turn) → Good m.graph → Runs limit m number xs t → Runs limit m number xs u → t ≡ u
+pub one_run : Laws → (limit : ℕ) (m : Machine) (number : ℕ) (xs : List (List ℕ)) (t u : Turn) → IsGood m → Runs limit m number xs t → Runs limit m number xs u → t ≡ u
 unfolding Runs
 one_run laws limit m number [] t u good r s = r ∙ sym s
 one_run laws limit m number (x ∷ xs) t u good r s =
@@ -74,7 +73,7 @@ one_run laws limit m number (x ∷ xs) t u good r s =
     r.is ∙ ap (λ w. both w r.rest) first ∙ ap (both s.first) rest ∙ sym s.is
 
 -- and there is one
-pub some_run : Laws → (limit : ℕ) (m : Machine) (number : ℕ) (xs : List (List ℕ)) → Good m.graph → (t : Turn) × Runs limit m number xs t
+pub some_run : Laws → (limit : ℕ) (m : Machine) (number : ℕ) (xs : List (List ℕ)) → IsGood m → (t : Turn) × Runs limit m number xs t
 unfolding Runs
 some_run laws limit m number [] good = (none m, refl)
 some_run laws limit m number (x ∷ xs) good =

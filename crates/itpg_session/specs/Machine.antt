@@ -1,6 +1,6 @@
 -- The plain machine: what may answer each line, and what it leaves.
 use Rattle.std.specs.Prelude.{◌≡◌, ℕ, ◌<◌, List, [], length, Bool, true, false, None, ◌⊎◌, Result, Ok, Err}
-use Rattle.itpg_base.specs.Graphs.{Graph}
+use Rattle.itpg_base.specs.Graphs.{Graph, Good}
 use Rattle.itpg_base.specs.declared.rule_code.RuleCode.{RuleCode}
 use Rattle.itpg_base.specs.declared.text_code.TextCode.{TextCode}
 use Rattle.itpg_edit.specs.declared.edit.Edit.{Edit}
@@ -18,6 +18,10 @@ use Rattle.itpg_session.specs.Texts.{bad_text, refused_text, wide_text, answer_t
 -- a machine has a graph
 pub record Machine : Type 0 where
   pub graph : Graph
+
+-- what each machine keeps: its graph is good
+abbrev pub IsGood : Machine → Type 0
+IsGood m = Good m.graph
 
 -- at first no graph is begun
 abbrev pub opening : Machine

@@ -5,7 +5,8 @@ use edit_reader::{law_of_labels, law_of_lines, law_of_long_lines, law_of_moments
 use itpg_edit::{law_of_next, law_of_rules};
 use match_parser::law_of_queries;
 
-/// On a good graph a line has exactly one turn, which leaves a good graph; and the graph is good at first.
+/// From a good machine, one whose graph is good, a line has exactly one turn, which leaves a good machine; and the machine
+/// is good at first.
 pub fn law_of_replies()
     ensures one { OneReply }
     ensures some { SomeReply }
