@@ -1,5 +1,5 @@
 -- Walks and powers of a relation between points of a graph.
-use Rattle.std.proofs.Common.{◌≡◌, ℕ, zero, suc, ◌+◌, List, [], ◌∷◌, length, Option, refl, sym, ap, subst, arith}
+use Rattle.std.proofs.Common.{◌≡◌, ℕ, zero, suc, ◌+◌, List, [], ◌∷◌, length, Option, Some, refl, sym, ap, subst, arith}
 use Rattle.itpg_base.specs.Graphs.{Graph}
 use Rattle.itpg_base.specs.Points.{Point, Relation, IsAt}
 use Rattle.path_ast.specs.Walks.{IsWalk, IsFromTo, Repeated, Power}
@@ -53,6 +53,17 @@ module _ (g : Graph) (R : Relation) (starts : (x y : Point) → R x y → IsAt g
   power_repeated n m x y h =
       let w = power_walk h.0 x y h.2 in
       (power_starts h.0 x y h.2, (w.0, subst (λ (k : ℕ). IsFromTo n m k) (sym w.1) h.1, w.2))
+
+  -- and to repeat it so many times and no more is to take that power
+  pub alone_power : (n : ℕ) (x y : Point) → Repeated g R n (Some n) x y → Power g R n x y
+  alone_power n x y h =
+      let power = repeated_power n (Some n) x y h in
+      let least = power.1.0 in
+      let most = power.1.1 in
+      subst (λ (k : ℕ). Power g R k x y) (let same : power.0 ≡ n = omega (arith, least, most) in same) power.2
+
+  pub power_alone : (n : ℕ) (x y : Point) → Power g R n x y → Repeated g R n (Some n) x y
+  power_alone n x y h = power_repeated n (Some n) x y (n, (omega arith, omega arith), h)
 
   pub first_power : (x y : Point) → Power g R 1 x y → R x y
   unfolding Power

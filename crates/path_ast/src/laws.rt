@@ -1,10 +1,10 @@
 //! Laws of the meaning of paths and tests. Each is the contract of a function that does nothing.
 
-ghost use Rattle.std.specs.Prelude.{◌≡◌, ◌↔◌, ◌⊎◌, ◌+◌, ◌+ℤ◌, ℕ, ℤ, pos, Option, IsTrue};
+ghost use Rattle.std.specs.Prelude.{◌≡◌, ◌↔◌, ◌⊎◌, ◌+◌, ◌+ℤ◌, ℕ, ℤ, pos, Option, Some, None, IsTrue};
 ghost use Rattle.itpg_base.specs.Decided.{Decided};
 ghost use Rattle.itpg_base.specs.Graphs.{Graph, Good, Stands, InHorizon, IsPoint};
 ghost use Rattle.itpg_base.specs.Points.{Point, IsAt};
-ghost use Rattle.path_ast.specs.Terms.{PathTerm, TestTerm, Forward, Backward, Next, Previous, Sequence, Repetition};
+ghost use Rattle.path_ast.specs.Terms.{PathTerm, TestTerm, Forward, Backward, Next, Previous, Sequence, Repetition, Negation};
 ghost use Rattle.path_ast.specs.Walks.{IsFromTo, Power};
 ghost use Rattle.path_ast.specs.Meaning.{Rel, Sat, IsNodeOf, IsEdgeOf, HasSource, HasTarget, keeps_object};
 
@@ -44,13 +44,18 @@ pub fn law_of_kept_objects()
     ensures { (p : PathTerm) (g : Graph) (x y : Point) → IsTrue (keeps_object p) → Rel p g x y → x.object ≡ y.object }
 {}
 
-/// `path[n,m]` is the union of the path's powers from the n-th to the m-th, and `path[n,_]` of all from the n-th on.
+/// `path[n,m]` is the union of the path's powers from the n-th to the m-th, and `path[n,_]` of all from the n-th on. So
+/// `path[n,n]` is the n-th power alone, and `path[0,_]` the union of all.
 ///
 /// The zeroth power is the identity on all points, the first is the path itself, and each next one is a step and then
 /// the power before.
 pub fn law_of_powers()
     ensures union { (p : PathTerm) (n : ℕ) (m : Option ℕ) (g : Graph) (x y : Point) →
         Rel (Repetition p n m) g x y ↔ ((k : ℕ) × IsFromTo n m k × Power g (Rel p g) k x y) }
+    ensures alone { (p : PathTerm) (n : ℕ) (g : Graph) (x y : Point) →
+        Rel (Repetition p n (Some n)) g x y ↔ Power g (Rel p g) n x y }
+    ensures all { (p : PathTerm) (g : Graph) (x y : Point) →
+        Rel (Repetition p 0 None) g x y ↔ ((k : ℕ) × Power g (Rel p g) k x y) }
     ensures zeroth { (p : PathTerm) (g : Graph) (x y : Point) → Power g (Rel p g) 0 x y ↔ (IsAt g x × (x ≡ y)) }
     ensures first { (p : PathTerm) (g : Graph) (x y : Point) → Power g (Rel p g) 1 x y ↔ Rel p g x y }
     ensures next { (p : PathTerm) (k : ℕ) (g : Graph) (x y : Point) →
@@ -68,7 +73,10 @@ pub fn law_of_decided_paths()
     ensures { (p : PathTerm) (g : Graph) (x y : Point) → Decided (Rel p g x y) }
 {}
 
-/// On every graph it is decided, for each test, whether it holds at a point: either the test or its negation does.
+/// On every graph it is decided, for each test, whether it holds at a point: either the test or its negation does, whether
+/// the object exists there or not, and never both do.
 pub fn law_of_decided_tests()
-    ensures { (c : TestTerm) (g : Graph) (x : Point) → Decided (Sat c g x) }
+    ensures decided { (c : TestTerm) (g : Graph) (x : Point) → Decided (Sat c g x) }
+    ensures either { (c : TestTerm) (g : Graph) (x : Point) → Sat c g x ⊎ Sat (Negation c) g x }
+    ensures apart { (c : TestTerm) (g : Graph) (x : Point) → Sat c g x → Sat (Negation c) g x → ⊥ }
 {}
