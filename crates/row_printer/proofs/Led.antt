@@ -1,0 +1,50 @@
+-- The texts of rows, one behind the other.
+use Rattle.std.proofs.Common.{◌≡◌, ℕ, zero, suc, ◌+◌, ◌<◌, inl, inr, arith, Some, List, [], ◌∷◌, ◌++◌, length, take, drop, get_or, refl, sym, ap, ◌∙◌, append_assoc, append-nil, take-append-drop}
+use Rattle.std.proofs.lemmas.List.{take_more}
+use Rattle.std.specs.Prelude.{slice_get}
+use Rattle.band_normal.specs.Lists.{Among}
+use Rattle.row_printer.specs.Texts.{led}
+
+-- what stands at a place is in the list
+pub at_among : {X : Type 0} (xs : List X) (i : ℕ) (x : X) → i < length xs → get_or xs i x ≡ x → Among xs x
+at_among [] i x h e = absurd (omega arith)
+at_among (y ∷ ys) zero x h e = inl e
+at_among (y ∷ ys) (suc i) x h e = inr (at_among ys i x (omega arith) e)
+
+pub found_among : {X : Type 0} (xs : List X) (i : ℕ) (x : X) → slice_get xs i ≡ Some x → Among xs x
+found_among [] i x e = let no : ⊥ = cc in absurd no
+found_among (y ∷ ys) zero x e = inl (let same : y ≡ x = cc in same)
+found_among (y ∷ ys) (suc i) x e = inr (found_among ys i x e)
+
+-- and something stands at each place
+pub there : {X : Type 0} (xs : List X) (i : ℕ) → i < length xs → (x : X) × (slice_get xs i ≡ Some x) × (get_or xs i x ≡ x)
+there [] i h = absurd (omega arith)
+there (x ∷ xs) zero h = (x, refl, refl)
+there (x ∷ xs) (suc i) h = there xs i (omega arith)
+
+module _ {X : Type 0} (lead : List ℕ) (text : X → List ℕ) where
+  pub led_none : (xs : List X) → led lead text (take 0 xs) ≡ []
+  unfolding led
+  led_none xs = refl
+
+  pub led-append : (xs ys : List X) → led lead text (xs ++ ys) ≡ led lead text xs ++ led lead text ys
+  unfolding led
+  led-append [] ys = refl
+  led-append (x ∷ xs) ys = ap (λ t. (lead ++ text x) ++ t) (led-append xs ys) ∙ sym (append_assoc (lead ++ text x) (led lead text xs) (led lead text ys))
+
+  led_one : (x : X) → led lead text (x ∷ []) ≡ lead ++ text x
+  unfolding led
+  led_one x = append-nil (lead ++ text x)
+
+  -- the texts of the first rows, and of one more
+  pub led-more : (xs : List X) (i : ℕ) (x : X) → i < length xs → get_or xs i x ≡ x → led lead text (take i xs) ++ (lead ++ text x) ≡ led lead text (take (i + 1) xs)
+  led-more xs i x h e =
+      ap (λ t. led lead text (take i xs) ++ t) (sym (led_one x)) ∙ sym (led-append (take i xs) (x ∷ [])) ∙ ap (led lead text) (sym (take_more xs i x h ∙ ap (λ y. take i xs ++ y ∷ []) e))
+
+  -- the texts of the first rows, of one more, and of the rest
+  pub led_parts : (xs : List X) (i : ℕ) (x : X) → i < length xs → get_or xs i x ≡ x → (rest : List ℕ) × (led lead text (take i xs) ++ ((lead ++ text x) ++ rest) ≡ led lead text xs)
+  led_parts xs i x h e = (
+    led lead text (drop (i + 1) xs),
+    sym (append_assoc (led lead text (take i xs)) (lead ++ text x) (led lead text (drop (i + 1) xs))) ∙ ap (λ t. t ++ led lead text (drop (i + 1) xs)) (led-more xs i x h e) ∙ sym (led-append (take (i + 1) xs) (drop (i + 1) xs))
+        ∙ ap (led lead text) (take-append-drop (i + 1) xs),
+  )

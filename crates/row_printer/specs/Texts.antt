@@ -1,0 +1,58 @@
+-- The text of an answer: a line for each row.
+use Rattle.std.specs.Prelude.{ℕ, ◌<◌, ℤ, pos, List, [], ◌∷◌, ◌++◌, codes, if◌then◌else◌, int_lt}
+use Rattle.std.specs.Fmt.{signed_decimal}
+use Rattle.itpg_base.specs.Graphs.{Graph, name_at}
+use Rattle.band_normal.specs.declared.band.End.{End}
+use Rattle.band_normal.specs.declared.band.End.TheVariants.{Fixed, Moving}
+use Rattle.band_normal.specs.Lists.{Among}
+use Rattle.relation_rows.specs.declared.rows.Row.{Row}
+use Rattle.relation_rows.specs.declared.times.OneRow.{OneRow}
+use Rattle.relation_rows.specs.Answered.{Answered, pairs, times}
+
+-- `A..B`
+unfoldable pub span_text : ℤ → ℤ → List ℕ
+span_text from to = signed_decimal from ++ codes ".." ++ signed_decimal to
+
+-- `t`, `t+K` or `t-K`: so many moments after the departure, or before it
+unfoldable pub moving_text : ℤ → List ℕ
+moving_text k = codes "t" ++ (if int_lt (pos 0) k then codes "+" ++ signed_decimal k else if int_lt k (pos 0) then signed_decimal k else [])
+
+-- an end that stays is its moment
+unfoldable pub end_text : End → List ℕ
+end_text (Fixed n) = signed_decimal n
+end_text (Moving k) = moving_text k
+
+-- `LOW..HIGH`
+unfoldable pub ends_text : End → End → List ℕ
+ends_text low high = end_text low ++ codes ".." ++ end_text high
+
+-- `ID A..B`
+unfoldable pub departures_text : Graph → ℕ → ℤ → ℤ → List ℕ
+departures_text g o from to = name_at g o ++ codes " " ++ span_text from to
+
+-- `ID LOW..HIGH`
+unfoldable pub arrivals_text : Graph → ℕ → End → End → List ℕ
+arrivals_text g o low high = name_at g o ++ codes " " ++ ends_text low high
+
+-- `ID A..B`, and the line's end
+unfoldable pub time_text : Graph → OneRow → List ℕ
+time_text g r = departures_text g r.object.0 r.span.from r.span.to ++ codes "\n"
+
+-- `ID A..B ID LOW..HIGH`, and the line's end
+unfoldable pub pair_text : Graph → Row → List ℕ
+pair_text g r = departures_text g r.source.0 r.band.from r.band.to ++ codes " " ++ arrivals_text g r.target.0 r.band.low r.band.high ++ codes "\n"
+
+-- the texts of all, one behind the other, each after its lead
+unfoldable pub led : {X : Type 0} → List ℕ → (X → List ℕ) → List X → List ℕ
+led lead text [] = []
+led lead text (x ∷ xs) = (lead ++ text x) ++ led lead text xs
+
+-- a line for each row of the answer, each after its lead
+abbrev pub answer_text : Graph → List ℕ → Answered → List ℕ
+answer_text g lead (pairs rows) = led lead (pair_text g) rows
+answer_text g lead (times rows) = led lead (time_text g) rows
+
+-- each object of the answer was declared in the graph: it is one of the first so many numbers
+abbrev pub AreDeclared : ℕ → Answered → Type 0
+AreDeclared count (pairs rows) = (r : Row) → Among rows r → (r.source.0 < count) × (r.target.0 < count)
+AreDeclared count (times rows) = (r : OneRow) → Among rows r → r.object.0 < count

@@ -1,0 +1,13 @@
+//! The text of an answer: a line for each of its rows.
+//!
+//! Stands on `itpg_graph` for the names of objects, and on `relation_rows`, whose answers are printed. It promises that each
+//! row is written as `docs/REFERENCE.md` says, in order, each after the lead that is handed in, and that no memory is taken.
+#![tactic(auto)]
+
+mod laws;
+mod lines;
+mod page;
+mod printing;
+
+pub use laws::law_of_forms;
+pub use printing::print_rows;

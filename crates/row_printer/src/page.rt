@@ -1,0 +1,102 @@
+// Text on its way to a sink, gathered without memory.
+ghost use Rattle.std.specs.Prelude.{◌≡◌, ◌+◌, ◌≤◌, [], ◌++◌, length, take, OnOk, OnErr};
+ghost use Rattle.std.specs.Fmt.{decimal, signed_decimal};
+ghost use Rattle.std.specs.Io.KnownBytes.{Appends};
+ghost use Rattle.itpg_base.specs.Outside.{HasCause, AppendsSome};
+
+use itoa::Buffer;
+use itpg_base::{Failed, Sink};
+use std::marker::Model;
+
+/// How many bytes a page holds.
+pub(crate) const PAGE: usize = 4_096;
+
+// How many bytes a number is written with at most.
+const MAX_NUMBER: usize = 20;
+
+/// Up to `PAGE` bytes of text that are to be written in one piece. A contract sees it as these bytes.
+#[derive(Drop)]
+pub(crate) struct Page {
+    bytes: [u8; PAGE],
+    size: usize,
+}
+
+impl Model for Page {
+    ghost use Rattle.std.specs.Prelude.{◌≡◌, ◌≤◌, ℕ, List, length, take};
+
+    ghost Value = { List ℕ };
+
+    ghost view = { λ p. take p.size p.bytes };
+
+    ghost invariant = { λ p. (length p.bytes ≡ 4096) × (p.size ≤ 4096) };
+}
+
+impl Page {
+    /// A page without text.
+    pub(crate) fn new() -> Page
+        ensures { result ≡ [] }
+    {
+        Page {
+            bytes: [0; PAGE],
+            size: 0,
+        }
+    }
+
+    /// How many bytes it has.
+    pub(crate) fn len(&self) -> usize
+        ensures count { result ≡ length self.now }
+        ensures fits { result ≤ PAGE }
+    {
+        self.size
+    }
+
+    /// Puts text behind what the page has.
+    pub(crate) fn add(&mut self, text: &[u8])
+        requires { length self.old + length text.now ≤ PAGE }
+        ensures added { self.new ≡ self.old ++ text.now }
+        ensures size { length self.new ≡ length self.old + length text.now }
+    {
+        put_behind(&mut self.bytes, self.size, text);
+        self.size += text.len();
+    }
+
+    /// Puts an unsigned number behind what the page has.
+    pub(crate) fn add_number(&mut self, number: u64)
+        requires { length self.old + MAX_NUMBER ≤ PAGE }
+        ensures added { self.new ≡ self.old ++ decimal number }
+        ensures size { length self.new ≤ length self.old + MAX_NUMBER }
+    {
+        let mut digits = Buffer::new();
+        self.add(digits.format(number).as_bytes());
+    }
+
+    /// Puts a moment behind what the page has.
+    pub(crate) fn add_moment(&mut self, moment: i64)
+        requires { length self.old + MAX_NUMBER ≤ PAGE }
+        ensures added { self.new ≡ self.old ++ signed_decimal moment }
+        ensures size { length self.new ≤ length self.old + MAX_NUMBER }
+    {
+        let mut digits = Buffer::new();
+        self.add(digits.format(moment).as_bytes());
+    }
+
+    /// Writes the text of the page, which then has none.
+    pub(crate) fn write<K: Sink>(&mut self, out: &mut K) -> Result<(), Failed>
+        ensures written { OnOk result (Appends (K.held out.old) (K.held out.new) self.old) }
+        ensures none { OnOk result (self.new ≡ []) }
+        ensures some { OnErr result (AppendsSome (K.held out.old) (K.held out.new) self.old) }
+        ensures cause { HasCause (K.faults out.old) (K.faults out.new) result }
+    {
+        out.write(&self.bytes[..self.size])?;
+        self.size = 0;
+        Ok(())
+    }
+}
+
+// Writes text over the bytes from a place on.
+fn put_behind(bytes: &mut [u8], at: usize, text: &[u8])
+    requires { at + length text.now ≤ length bytes.old }
+    ensures { take (at + length text.now) bytes.new ≡ take at bytes.old ++ text.now }
+{
+    bytes[at..at + text.len()].copy_from_slice(text);
+}
