@@ -1,0 +1,107 @@
+-- A path joins finitely many points, and whether it does is decided.
+use Rattle.std.proofs.Common.{ℕ, ◌<◌, ℤ, pos, List, [], ◌∷◌, ◌⊎◌, inl, inr, length, Option, Some, None, refl, subst}
+use Rattle.std.specs.Prelude.{IsSomeAnd}
+use Rattle.std.proofs.lemmas.Option.{slice_get_within}
+use Rattle.itpg_base.specs.Decided.{Decided}
+use Rattle.itpg_base.specs.Spans.{Within}
+use Rattle.itpg_base.specs.Graphs.{Graph, Begun}
+use Rattle.itpg_base.specs.Points.{Point, IsAt}
+use Rattle.itpg_base.proofs.Objects.{there}
+use Rattle.itpg_base.proofs.Searches.{both, as_well}
+use Rattle.itpg_base.proofs.PointSearch.{some_point}
+use Rattle.zone_core.specs.Zone.{Between}
+use Rattle.interval_set.proofs.Exists.{runs_exist}
+use Rattle.band_normal.specs.Lists.{Among}
+use Rattle.relation_rows.specs.declared.rows.Row.{Row}
+use Rattle.relation_rows.specs.declared.times.OneRow.{OneRow}
+use Rattle.relation_rows.specs.Rows.{NormalRows, Fits, IsWide, IsFinite}
+use Rattle.relation_rows.specs.Times.{AreTimes}
+use Rattle.relation_rows.proofs.Alike.{wide_apart}
+use Rattle.relation_rows.proofs.Exists.{rows_exist, rows_either}
+use Rattle.relation_rows.proofs.TimeLaws.{times_exist}
+use Rattle.path_ast.specs.Terms.{PathTerm, Condition}
+use Rattle.path_ast.specs.Meaning.{Rel}
+use Rattle.path_ast.proofs.Pairs.{starts_at, ends_at}
+use Rattle.path_ast.proofs.Deciding.{decide_rel, decide_sat}
+use Rattle.label_scope.specs.declared.scope.Scope.{Scope}
+use Rattle.label_scope.specs.Narrowing.{Cut}
+use Rattle.label_scope.specs.Members.{Member}
+use Rattle.label_scope.proofs.Within.{decide_within_scope}
+use Rattle.path_eval.specs.Evaluated.{member_relation, AllFit, SomeIsWide, DepartsAt, ArrivesAt}
+
+-- the moments between which all points lie
+first_of : Option Begun → ℤ
+first_of None = pos 0
+first_of (Some b) = b.horizon.from
+
+last_of : Option Begun → ℤ
+last_of None = pos 0
+last_of (Some b) = b.horizon.to
+
+in_begun : (b : Option Begun) (t : ℤ) → IsSomeAnd b (λ b. Within t b.horizon) → Between (first_of b) (last_of b) t
+unfolding first_of last_of
+in_begun None t h = absurd h
+in_begun (Some b) t h = record { above = h.begun; below = h.going }
+
+module _ (g : Graph) where
+  few : (x : Point) → IsAt g x → x.object < length g.objects
+  few x at = let s = there g.objects x.object _ at.stands in slice_get_within g.objects x.object s.0 s.1
+
+  near : (x : Point) → IsAt g x → Between (first_of g.begun) (last_of g.begun) x.moment
+  near x at = in_begun g.begun x.moment at.within
+
+  module _ (p : PathTerm) (a b : Scope) where
+    cut_decided : (x y : Point) → Decided (Cut g p a b x y)
+    cut_decided x y =
+        as_well (λ h. record { leads = h.0; source = h.1.0; target = h.1.1 }) (λ c. (c.leads, (c.source, c.target)))
+        (both (decide_rel p g x y) (both (decide_within_scope a g x.object) (decide_within_scope b g y.object)))
+
+    cut_finite : IsFinite (length g.objects) (first_of g.begun) (last_of g.begun) (Cut g p a b)
+    cut_finite = record {
+      source = λ x y c. few x (starts_at p g x y c.leads);
+      target = λ x y c. few y (ends_at p g x y c.leads);
+      departs = λ x y c. near x (starts_at p g x y c.leads);
+      arrives = λ x y c. near y (ends_at p g x y c.leads);
+    }
+
+    pub cut_rows : (rows : List Row) × NormalRows (Cut g p a b) rows
+    cut_rows = rows_exist (length g.objects) (first_of g.begun) (last_of g.begun) (Cut g p a b) cut_decided cut_finite
+
+    pub cut_either : (limit : ℕ) → Fits (Cut g p a b) limit ⊎ IsWide (Cut g p a b) limit
+    cut_either limit = rows_either (length g.objects) (first_of g.begun) (last_of g.begun) (Cut g p a b) cut_decided cut_finite limit
+
+  pub fit_or_wide : (limit : ℕ) (members : List Member) → AllFit g limit members ⊎ SomeIsWide g limit members
+  fit_or_wide limit [] = inl (λ m among. absurd among)
+  fit_or_wide limit (m ∷ rest) = elim (cut_either m.path m.sources m.targets limit) [
+    | inl fits ↦ elim (fit_or_wide limit rest) [
+      | inl all ↦ inl (λ n among. first_or_rest fits all n among)
+      | inr w ↦ inr (record { member = w.member; among = inr w.among; wide = w.wide })
+    ]
+    | inr wide ↦ inr (record { member = m; among = inl refl; wide = wide })
+  ]
+    where
+      first_or_rest : Fits (member_relation g m) limit → AllFit g limit rest → (n : Member) → Among (m ∷ rest) n → Fits (member_relation g n) limit
+      first_or_rest fits all n (inl same) = subst (λ k. Fits (member_relation g k) limit) same fits
+      first_or_rest fits all n (inr among) = all n among
+
+  pub fit_apart : (limit : ℕ) (members : List Member) → AllFit g limit members → SomeIsWide g limit members → ⊥
+  fit_apart limit members all w = wide_apart (member_relation g w.member) limit (all w.member w.among) w.wide
+
+  module _ (p : PathTerm) where
+    departs_decided : (o : ℕ) (t : ℤ) → Decided (DepartsAt p g o t)
+    departs_decided o t = decide_sat (Condition p) g (record { object = o; moment = t })
+
+    arrives_decided : (o : ℕ) (t : ℤ) → Decided (ArrivesAt p g o t)
+    arrives_decided o t =
+        let y : Point = record { object = o; moment = t } in
+        some_point g (λ x. Rel p g x y) (λ x. decide_rel p g x y) (λ x h. starts_at p g x y h)
+
+    pub departures : (rows : List OneRow) × AreTimes (DepartsAt p g) rows
+    departures = times_exist (DepartsAt p g)
+        (λ o. runs_exist (DepartsAt p g o) (first_of g.begun) (last_of g.begun) (λ t h. (near _ (starts_at p g _ h.0 h.1)).above) (λ t h. (near _ (starts_at p g _ h.0 h.1)).below) (departs_decided o))
+        (length g.objects) (λ o t h. few _ (starts_at p g _ h.0 h.1))
+
+    pub arrivals : (rows : List OneRow) × AreTimes (ArrivesAt p g) rows
+    arrivals = times_exist (ArrivesAt p g)
+        (λ o. runs_exist (ArrivesAt p g o) (first_of g.begun) (last_of g.begun) (λ t h. (near _ (ends_at p g h.0 _ h.1)).above) (λ t h. (near _ (ends_at p g h.0 _ h.1)).below) (arrives_decided o))
+        (length g.objects) (λ o t h. few _ (ends_at p g h.0 _ h.1))

@@ -1,0 +1,16 @@
+use Rattle.relation_rows.proofs.TimeLaws.{times_unique}
+use Rattle.path_eval.specs.Evaluated.{DepartsAt, ArrivesAt}
+use Rattle.path_eval.proofs.Finite.{departures, arrivals}
+use Rattle.path_eval.proofs.laws.law_of_times.Goals as goal
+
+pub returns-clause-departures : goal.returns-clause-departures
+returns-clause-departures c = departures
+
+pub returns-clause-arrivals : goal.returns-clause-arrivals
+returns-clause-arrivals c = arrivals
+
+pub returns-clause-one_departing : goal.returns-clause-one_departing
+returns-clause-one_departing c = λ g p. times_unique (DepartsAt p g)
+
+pub returns-clause-one_arriving : goal.returns-clause-one_arriving
+returns-clause-one_arriving c = λ g p. times_unique (ArrivesAt p g)
