@@ -1,1 +1,5 @@
 pub mod Evaluated
+pub mod Repeats
+pub mod Answering
+pub mod Working
+pub mod Axes

@@ -1,10 +1,19 @@
-//! The relation of a path between two scopes, worked out on a graph.
+//! The relation of a path between two scopes, worked out on a graph, and the answer of a query.
 //!
-//! As yet it holds the definitions and their laws: on every graph the relation of each path between two scopes has exactly one
-//! normal list of rows, the path's departures and arrivals have one list of one-time rows each, and of worked members each
-//! has at most so many rows or some has more. It stands on `path_ast`, `label_scope` and `relation_rows`.
+//! Stands on `condition_eval`, by which tests are worked out, on `relation_rows`, by whose operations paths are, and on
+//! `label_scope`, whose scopes say between which objects. It promises that each path gives the normal rows of exactly what it
+//! means, and that a limit of rows refuses it exactly where some member that is worked out on the way has more. By its laws
+//! each question has one answer.
 #![tactic(auto)]
 
+mod answering;
+mod axes;
+mod evaluation;
 mod laws;
+mod middle;
+mod repeating;
 
+pub use answering::answer;
+pub use evaluation::{EvalFault, relation_of};
 pub use laws::{law_of_cuts, law_of_members, law_of_times};
+pub use repeating::repeats;

@@ -1,0 +1,155 @@
+-- What is worked out, from what its parts are.
+use Rattle.std.proofs.Common.{◌≡◌, ◌↔◌, ◌≤◌, ◌||◌, ℕ, Bool, true, false, List, [], ◌∷◌, ◌++◌, length, inl, inr, Result, Ok, Err, refl, sym, subst}
+use Rattle.std.specs.Prelude.{IsTrue}
+use Rattle.itpg_base.specs.declared.object_number.ObjNo.{ObjNo}
+use Rattle.itpg_base.specs.Spans.{Span}
+use Rattle.itpg_base.specs.Graphs.{Graph, Good}
+use Rattle.itpg_base.specs.Points.{Point, Relation}
+use Rattle.relation_rows.specs.declared.rows.Row.{Row}
+use Rattle.relation_rows.specs.declared.rows.RelFault.{RelFault}
+use Rattle.relation_rows.specs.declared.rows.RelFault.TheVariants as rel
+use Rattle.relation_rows.specs.Rows.{NormalRows, RowsHold, Fits}
+use Rattle.relation_rows.specs.Answers.{Gives}
+use Rattle.relation_rows.specs.Relations.{HasMiddlePoint, EitherHolds}
+use Rattle.path_ast.specs.Terms.{PathTerm, OfTest, Forward, Backward, Next, Previous, Sequence, Choice, Repetition, TestTerm, Condition, Conjunction, Disjunction, Negation}
+use Rattle.path_ast.specs.Meaning.{keeps_object}
+use Rattle.label_scope.specs.declared.scope.Scope.{Scope}
+use Rattle.label_scope.specs.declared.scope.Scope.TheVariants.{All}
+use Rattle.label_scope.specs.Scopes.{met, source_scope, target_scope}
+use Rattle.label_scope.specs.Narrowing.{Cut, both_where, narrowed}
+use Rattle.label_scope.specs.Members.{Member, worked, worked_conditions, middle}
+use Rattle.label_scope.proofs.Within.{narrowed_cut, widened_cut}
+use Rattle.condition_eval.specs.declared.marks.Marked.{Marked}
+use Rattle.condition_eval.specs.Combined.{BothMark, EitherMarks, IsUnmarked, MarkedToItself}
+use Rattle.condition_eval.specs.Marking.{AreMarks, objects_of}
+use Rattle.condition_eval.specs.Tested.{HoldsAt, StartsAt, Stand, HasHorizon}
+use Rattle.condition_eval.specs.Within.{AreWithin}
+use Rattle.condition_eval.proofs.Meanings.{negated, both_hold, either_holds, scoped_condition, scoped_test}
+use Rattle.path_eval.specs.declared.evaluation.EvalFault.{EvalFault}
+use Rattle.path_eval.specs.declared.evaluation.EvalFault.TheVariants.{Memory, Wide}
+use Rattle.path_eval.specs.Evaluated.{AllFit, SomeIsWide}
+use Rattle.path_eval.specs.Repeats.{path_repeats}
+use Rattle.path_eval.specs.Working.{evaluated_as, WorksOutAs, MarksOutAs, member, axis_members, test_members, sequence_members, choice_members, members_between}
+use Rattle.path_eval.proofs.Members.{none_fit, fit_both, wide_first, wide_second, wide_rest, works_out, works_out_as}
+use Rattle.path_eval.proofs.Joining.{sequence_from, from_sequence, choice_from, from_choice}
+
+-- the members of a path are those between its narrowed scopes
+members_are : (p : PathTerm) (a b : Scope) → path_repeats p ≡ false → members_between p (narrowed p a b).sources (narrowed p a b).targets ≡ worked p a b
+members_are (OfTest c) a b u = refl
+members_are Forward a b u = refl
+members_are Backward a b u = refl
+members_are Next a b u = refl
+members_are Previous a b u = refl
+members_are (Sequence p q) a b u = refl
+members_are (Choice p q) a b u = refl
+members_are (Repetition r n m) a b u = let none : ⊥ = cc in absurd none
+
+module _ (g : Graph) (limit : ℕ) (good : Good g) where
+  -- narrowing the scopes changes nothing
+  pub unnarrowed : (p : PathTerm) (a b s t : Scope) → s ≡ (narrowed p a b).sources → t ≡ (narrowed p a b).targets → path_repeats p ≡ false
+      → (result : Result (List Row) EvalFault) → WorksOutAs result (Cut g p s t) g limit (members_between p s t) → WorksOutAs result (Cut g p a b) g limit (worked p a b)
+  unnarrowed p a b s t e f u result h =
+      let k = subst (λ (v : Scope). WorksOutAs result (Cut g p v t) g limit (members_between p v t)) e h in
+      let l = subst (λ (v : Scope). WorksOutAs result (Cut g p (narrowed p a b).sources v) g limit (members_between p (narrowed p a b).sources v)) f k in
+      works_out_as g limit (Cut g p (narrowed p a b).sources (narrowed p a b).targets) (Cut g p a b) (members_between p (narrowed p a b).sources (narrowed p a b).targets) (worked p a b)
+      (widened_cut p a b g) (λ x y c. narrowed_cut p a b g x y good c) (members_are p a b u) result l
+
+  pub axis_out : (p : PathTerm) (a b : Scope) (result : Result (List Row) RelFault) → Gives result (Cut g p a b) limit → WorksOutAs (evaluated_as result) (Cut g p a b) g limit (axis_members p a b)
+  axis_out p a b = works_out g limit (member p a b) [] (Cut g p a b) (λ x y c. c) (λ x y c. c) (none_fit g limit)
+
+  -- an axis in time, where both ends have one scope
+  pub time_out : (p : PathTerm) (a b : Scope) → a ≡ b → (result : Result (List Row) RelFault) → Gives result (Cut g p a a) limit → WorksOutAs (evaluated_as result) (Cut g p a b) g limit (axis_members p a b)
+  time_out p a b e result h = axis_out p a b result (subst (λ (v : Scope). Gives result (Cut g p a v) limit) e h)
+
+  pub test_out : (c : TestTerm) (a : Scope) (objects : List ObjNo) (are : AreWithin a g objects) (marks : List Marked) → AreMarks objects (HoldsAt c g) marks → AllFit g limit (worked_conditions c a)
+      → (result : Result (List Row) RelFault) → Gives result (MarkedToItself marks) limit → WorksOutAs (evaluated_as result) (Cut g (OfTest c) a a) g limit (test_members c a)
+  test_out c a objects are marks is fit =
+      works_out g limit (member (OfTest c) a a) (worked_conditions c a) (MarkedToItself marks) (λ x y h. (scoped_test g a objects are c marks is x y).0 h) (λ x y h. (scoped_test g a objects are c marks is x y).1 h) fit
+
+  pub sequence_out : (p q : PathTerm) (a b m : Scope) → m ≡ middle p q (record { sources = a; targets = b }) → (left right : List Row)
+      → NormalRows (Cut g p a m) left × AllFit g limit (worked p a m) → NormalRows (Cut g q m b) right × AllFit g limit (worked q m b)
+      → (result : Result (List Row) RelFault) → Gives result (HasMiddlePoint left right) limit → WorksOutAs (evaluated_as result) (Cut g (Sequence p q) a b) g limit (sequence_members p q a b)
+  sequence_out p q a b m e left right first second =
+      let l = subst (λ (v : Scope). NormalRows (Cut g p a v) left × AllFit g limit (worked p a v)) e first in
+      let r = subst (λ (v : Scope). NormalRows (Cut g q v b) right × AllFit g limit (worked q v b)) e second in
+      let mid = middle p q (record { sources = a; targets = b }) in
+      works_out g limit (member (Sequence p q) a b) (worked p a mid ++ worked q mid b) (HasMiddlePoint left right) (sequence_from g good p q a b left right l.0 r.0) (from_sequence g good p q a b left right l.0 r.0)
+      (fit_both g limit (worked p a mid) (worked q mid b) l.1 r.1)
+
+  pub choice_out : (p q : PathTerm) (a b : Scope) (left right : List Row) → NormalRows (Cut g p a b) left × AllFit g limit (worked p a b) → NormalRows (Cut g q a b) right × AllFit g limit (worked q a b)
+      → (result : Result (List Row) RelFault) → Gives result (EitherHolds left right) limit → WorksOutAs (evaluated_as result) (Cut g (Choice p q) a b) g limit (choice_members p q a b)
+  choice_out p q a b left right first second =
+      works_out g limit (member (Choice p q) a b) (worked p a b ++ worked q a b) (EitherHolds left right) (choice_from g good p q a b left right first.0 second.0) (from_choice g good p q a b left right first.0 second.0)
+      (fit_both g limit (worked p a b) (worked q a b) first.1 second.1)
+
+module _ (g : Graph) (limit : ℕ) where
+  -- a fault of a part is one of the whole
+  pub first_fault : (R S : Relation) (own : Member) (ms ns : List Member) (fault : EvalFault) → WorksOutAs (Err fault) R g limit ms → WorksOutAs (Err fault) S g limit (own ∷ (ms ++ ns))
+  first_fault R S own ms ns Memory h = tt
+  first_fault R S own ms ns Wide h = wide_rest g limit own (ms ++ ns) (wide_first g limit ms ns h)
+
+  pub second_fault : (R S : Relation) (own : Member) (ms ns : List Member) (fault : EvalFault) → WorksOutAs (Err fault) R g limit ns → WorksOutAs (Err fault) S g limit (own ∷ (ms ++ ns))
+  second_fault R S own ms ns Memory h = tt
+  second_fault R S own ms ns Wide h = wide_rest g limit own (ms ++ ns) (wide_second g limit ms ns h)
+
+  pub marks_fault : (S : Relation) (c : TestTerm) (objects : List ObjNo) (own : Member) (ms : List Member) (fault : EvalFault) → MarksOutAs (Err fault) c objects g limit ms → WorksOutAs (Err fault) S g limit (own ∷ ms)
+  marks_fault S c objects own ms Memory h = tt
+  marks_fault S c objects own ms Wide h = wide_rest g limit own ms h
+
+  pub leading_fault : (R : Relation) (c : TestTerm) (objects : List ObjNo) (ms : List Member) (fault : EvalFault) → WorksOutAs (Err fault) R g limit ms → MarksOutAs (Err fault) c objects g limit ms
+  leading_fault R c objects ms Memory h = tt
+  leading_fault R c objects ms Wide h = h
+
+  pub first_marks : (c d : TestTerm) (objects : List ObjNo) (ms ns : List Member) (fault : EvalFault) → MarksOutAs (Err fault) c objects g limit ms → MarksOutAs (Err fault) d objects g limit (ms ++ ns)
+  first_marks c d objects ms ns Memory h = tt
+  first_marks c d objects ms ns Wide h = wide_first g limit ms ns h
+
+  pub second_marks : (c d : TestTerm) (objects : List ObjNo) (ms ns : List Member) (fault : EvalFault) → MarksOutAs (Err fault) c objects g limit ns → MarksOutAs (Err fault) d objects g limit (ms ++ ns)
+  second_marks c d objects ms ns Memory h = tt
+  second_marks c d objects ms ns Wide h = wide_second g limit ms ns h
+
+  pub same_marks : (c d : TestTerm) (objects : List ObjNo) (ms : List Member) (fault : EvalFault) → MarksOutAs (Err fault) c objects g limit ms → MarksOutAs (Err fault) d objects g limit ms
+  same_marks c d objects ms Memory h = tt
+  same_marks c d objects ms Wide h = h
+
+-- a path that keeps its object has one scope for both its ends
+pub kept_ends : (p : PathTerm) (a b s t : Scope) → s ≡ (narrowed p a b).sources → t ≡ (narrowed p a b).targets → IsTrue (keeps_object p) → s ≡ t
+kept_ends p a b s t e f k = of (keeps_object p) k e f
+  where
+    of : (b1 : Bool) → IsTrue b1 → s ≡ (both_where b1 (met a (source_scope p)) (met b (target_scope p))).sources → t ≡ (both_where b1 (met a (source_scope p)) (met b (target_scope p))).targets → s ≡ t
+    of true k e f = let back = sym f in cc
+    of false k e f = absurd (let none : ⊥ = cc in none)
+
+or_first : (a b : Bool) → (a || b) ≡ false → a ≡ false
+or_first true b e = e
+or_first false b e = refl
+
+or_second : (a b : Bool) → (a || b) ≡ false → b ≡ false
+or_second true b e = let none : ⊥ = cc in absurd none
+or_second false b e = e
+
+module _ (g : Graph) (limit : ℕ) (objects : List ObjNo) where
+  pub both_marked : (c d : TestTerm) (a : Scope) (own also marks : List Marked) → AreMarks objects (HoldsAt c g) own × AllFit g limit (worked_conditions c a) → AreMarks objects (HoldsAt d g) also × AllFit g limit (worked_conditions d a)
+      → AreMarks (objects_of own) (BothMark own also) marks → AreMarks objects (HoldsAt (Conjunction c d) g) marks × AllFit g limit (worked_conditions (Conjunction c d) a)
+  both_marked c d a own also marks is and h = (
+    both_hold g objects c d own also marks is.0 and.0 (subst (λ (v : List ObjNo). AreMarks v (BothMark own also) marks) is.0.these h),
+    fit_both g limit (worked_conditions c a) (worked_conditions d a) is.1 and.1,
+  )
+
+  pub either_marked : (c d : TestTerm) (a : Scope) (own also marks : List Marked) → AreMarks objects (HoldsAt c g) own × AllFit g limit (worked_conditions c a) → AreMarks objects (HoldsAt d g) also × AllFit g limit (worked_conditions d a)
+      → AreMarks (objects_of own) (EitherMarks own also) marks → AreMarks objects (HoldsAt (Disjunction c d) g) marks × AllFit g limit (worked_conditions (Disjunction c d) a)
+  either_marked c d a own also marks is and h = (
+    either_holds g objects c d own also marks is.0 and.0 (subst (λ (v : List ObjNo). AreMarks v (EitherMarks own also) marks) is.0.these h),
+    fit_both g limit (worked_conditions c a) (worked_conditions d a) is.1 and.1,
+  )
+
+  pub condition_marked : (a : Scope) → AreWithin a g objects → (p : PathTerm) (rows : List Row) (marks : List Marked) → NormalRows (Cut g p a All) rows × AllFit g limit (worked p a All)
+      → AreMarks objects (StartsAt rows g) marks → AreMarks objects (HoldsAt (Condition p) g) marks × AllFit g limit (worked_conditions (Condition p) a)
+  condition_marked a are p rows marks is h = (scoped_condition g a objects are p rows marks is.0 h, is.1)
+
+  pub negation_marked : (c : TestTerm) (a : Scope) (horizon : Span) → HasHorizon g horizon → Stand g objects → (own marks : List Marked) → AreMarks objects (HoldsAt c g) own × AllFit g limit (worked_conditions c a)
+      → AreMarks (objects_of own) (IsUnmarked horizon own) marks → AreMarks objects (HoldsAt (Negation c) g) marks × AllFit g limit (worked_conditions (Negation c) a)
+  negation_marked c a horizon begun stand own marks is h = (
+    negated g objects c horizon own marks begun stand is.0 (subst (λ (v : List ObjNo). AreMarks v (IsUnmarked horizon own) marks) is.0.these h),
+    is.1,
+  )

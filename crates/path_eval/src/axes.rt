@@ -1,0 +1,193 @@
+//! The relations of the axes, between the objects of two scopes.
+ghost use Rattle.std.specs.Prelude.{◌≡◌, ◌⊎◌, ◌↔◌, IsSome, IfOk, OnOk, IsTrue};
+ghost use Rattle.itpg_base.specs.Graphs.{Good, Stands};
+ghost use Rattle.itpg_base.specs.Points.{Point};
+ghost use Rattle.itpg_graph.specs.Edges.{AreNumbers};
+ghost use Rattle.zone_compose.specs.Compose.{IsOneStep};
+ghost use Rattle.relation_rows.specs.Answers.{Gives};
+ghost use Rattle.relation_rows.specs.Relations.{ItemsHold};
+ghost use Rattle.label_scope.specs.Narrowing.{Cut};
+ghost use Rattle.label_scope.specs.Scopes.{IsWithin};
+ghost use Rattle.condition_eval.specs.Tested.{Stand};
+ghost use Rattle.path_eval.specs.Axes.{axis_of, axis_in_time, far_end as far_end_of, LeadsToEdge, OnEach, StepTo, StepToOne, StepsFrom, StepsFromAny};
+
+use condition_eval::objects_within;
+use itpg_base::ObjNo;
+use itpg_graph::Graph;
+use label_scope::Scope;
+use relation_rows::{RelFault, Relation};
+use std::alloc::{AllocError, Global};
+use zone_compose::{diagonal, shift};
+use zone_core::Zone;
+
+/// A zone of moments from a source to a target.
+type Item = (ObjNo, ObjNo, Zone);
+
+/// Which way an edge is gone along.
+#[derive(Clone, Copy)]
+pub(crate) enum Direction {
+    /// From its source to it, and from it to its target.
+    Forward,
+    /// From its target to it, and from it to its source.
+    Backward,
+}
+
+/// The axis along edges in a direction: at each moment of the horizon, from the objects of the one scope to those of the other.
+pub(crate) fn along_edges(
+    alloc: Global,
+    graph: &Graph,
+    direction: Direction,
+    sources: &Scope,
+    targets: &Scope,
+    max_rows: u32,
+) -> Result<Relation, RelFault>
+    requires begun { IsSome graph.now.begun }
+    ensures { Gives result (Cut graph.now (axis_of direction) sources.now targets.now) max_rows }
+{
+    let horizon = graph.horizon().unwrap();
+    let zone = diagonal(horizon.from(), horizon.to()).unwrap();
+    let objects = objects_within(alloc, graph, sources)?;
+    let items = steps_of(alloc, graph, direction, &objects, targets, zone)?;
+    Relation::from_zones(alloc, items, max_rows)
+}
+
+/// The axis to the next moment, or to the one before, on each object of the scope.
+pub(crate) fn in_time(
+    alloc: Global,
+    graph: &Graph,
+    step: &i64,
+    scope: &Scope,
+    max_rows: u32,
+) -> Result<Relation, RelFault>
+    requires begun { IsSome graph.now.begun }
+    requires one { IsOneStep step.now }
+    ensures { Gives result (Cut graph.now (axis_in_time step.now) scope.now scope.now) max_rows }
+{
+    let horizon = graph.horizon().unwrap();
+    let objects = objects_within(alloc, graph, scope)?;
+    match shift(*step, horizon.from(), horizon.to()) {
+        Some(zone) => Relation::from_zones(alloc, on_each(alloc, &objects, zone)?, max_rows),
+        None => Ok(Relation::empty(alloc)),
+    }
+}
+
+/// The zone from each of the objects to itself.
+fn on_each(alloc: Global, objects: &[ObjNo], zone: Zone) -> Result<Vec<Item>, AllocError>
+    ensures { IfOk result (λ items. (x : Point) → (y : Point) → ItemsHold items.items x y ↔ OnEach zone objects.now x y) }
+{
+    let mut items = Vec::new(alloc);
+    for object in objects {
+        items.push((*object, *object, zone))?;
+    }
+    Ok(items)
+}
+
+/// A zone from each of the objects to each object within the scope that the direction leads to.
+fn steps_of(
+    alloc: Global,
+    graph: &Graph,
+    direction: Direction,
+    objects: &[ObjNo],
+    targets: &Scope,
+    zone: Zone,
+) -> Result<Vec<Item>, AllocError>
+    requires good { Good graph.now }
+    requires stand { Stand graph.now objects.now }
+    ensures { IfOk result (λ items. (x : Point) → (y : Point) → ItemsHold items.items x y ↔ StepsFromAny direction targets.now graph.now zone objects.now x y) }
+{
+    let mut items = Vec::new(alloc);
+    for object in objects {
+        push_steps(&mut items, graph, direction, *object, targets, zone)?;
+    }
+    Ok(items)
+}
+
+/// Adds a zone from the object to each object within the scope that the direction leads to.
+fn push_steps(
+    items: &mut Vec<Item>,
+    graph: &Graph,
+    direction: Direction,
+    object: ObjNo,
+    targets: &Scope,
+    zone: Zone,
+) -> Result<(), AllocError>
+    requires good { Good graph.now }
+    requires stands { Stands graph.now object.0 }
+    ensures { OnOk result ((x : Point) → (y : Point) → ItemsHold items.new.items x y ↔ (ItemsHold items.old.items x y ⊎ StepsFrom direction targets.now graph.now zone object x y)) }
+{
+    match graph.ends(object) {
+        Some(ends) => {
+            let end = far_end(direction, ends);
+            push_step(items, graph, object, end, targets, zone)
+        }
+        None => {
+            let edges = edges_at(graph, direction, object);
+            push_each(items, graph, object, edges, targets, zone)
+        }
+    }
+}
+
+/// The end of an edge that the direction leads to; its source is the first of the two.
+fn far_end(direction: Direction, ends: (ObjNo, ObjNo)) -> ObjNo
+    ensures { result ≡ far_end_of direction ends }
+{
+    match direction {
+        Direction::Forward => ends.1,
+        Direction::Backward => ends.0,
+    }
+}
+
+/// The edges that the direction leads to from a node.
+fn edges_at(graph: &Graph, direction: Direction, node: ObjNo) -> &[ObjNo]
+    requires { Stands graph.now node.0 }
+    ensures { AreNumbers (LeadsToEdge direction graph.now node.0) result.now }
+{
+    match direction {
+        Direction::Forward => graph.out_edges(node),
+        Direction::Backward => graph.in_edges(node),
+    }
+}
+
+/// Adds a zone from the object to each of the others that is within the scope.
+fn push_each(
+    items: &mut Vec<Item>,
+    graph: &Graph,
+    object: ObjNo,
+    others: &[ObjNo],
+    targets: &Scope,
+    zone: Zone,
+) -> Result<(), AllocError>
+    requires { Stand graph.now others.now }
+    ensures { OnOk result ((x : Point) → (y : Point) → ItemsHold items.new.items x y ↔ (ItemsHold items.old.items x y ⊎ StepToOne targets.now graph.now zone object others.now x y)) }
+{
+    for other in others {
+        push_step(items, graph, object, *other, targets, zone)?;
+    }
+    Ok(())
+}
+
+/// Adds a zone from the object to the other, if that is within the scope.
+fn push_step(
+    items: &mut Vec<Item>,
+    graph: &Graph,
+    object: ObjNo,
+    other: ObjNo,
+    targets: &Scope,
+    zone: Zone,
+) -> Result<(), AllocError>
+    requires { Stands graph.now other.0 }
+    ensures { OnOk result ((x : Point) → (y : Point) → ItemsHold items.new.items x y ↔ (ItemsHold items.old.items x y ⊎ StepTo targets.now graph.now zone object other x y)) }
+{
+    if is_within(graph, targets, other) {
+        items.push((object, other, zone))?;
+    }
+    Ok(())
+}
+
+/// Whether an object that stands is within the scope.
+fn is_within(graph: &Graph, scope: &Scope, object: ObjNo) -> bool
+    requires { Stands graph.now object.0 }
+    ensures { IsTrue result ↔ IsWithin scope.now graph.now object.0 }
+{
+    scope.has(&graph.labels(object))
+}

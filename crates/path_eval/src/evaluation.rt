@@ -1,0 +1,265 @@
+//! The relation of a path.
+//!
+//! A path is worked out between two scopes, and each part of it between those that its place leaves: the first part of a
+//! sequence ends where the second starts. So each relation that is made on the way is that of a worked member.
+ghost use Rattle.std.specs.Prelude.{◌≡◌, false, IsSome, IsTrue, IfOk, IsErrOf};
+ghost use Rattle.relation_rows.specs.Rows.{NormalRows};
+ghost use Rattle.relation_rows.specs.Relations.{Rise};
+ghost use Rattle.path_ast.specs.Terms.{path_term, test_term, OfTest, Sequence, Choice};
+ghost use Rattle.path_ast.specs.Sizes.{IsPathInRange};
+ghost use Rattle.path_ast.specs.Meaning.{keeps_object};
+ghost use Rattle.label_scope.specs.Narrowing.{Cut};
+ghost use Rattle.label_scope.specs.Members.{worked, worked_conditions};
+ghost use Rattle.condition_eval.specs.Marking.{AreMarks};
+ghost use Rattle.condition_eval.specs.Tested.{HoldsAt, Stand};
+ghost use Rattle.condition_eval.specs.Within.{AreWithin};
+ghost use Rattle.path_eval.specs.Evaluated.{AllFit, SomeIsWide};
+ghost use Rattle.path_eval.specs.Repeats.{path_repeats, test_repeats};
+ghost use Rattle.path_eval.specs.Axes.{axis_of};
+ghost use Rattle.path_eval.specs.Working.{evaluated_as, IsGround, IsLeaf, WorksOut, MarksOut, axis_members, test_members, sequence_members, choice_members, members_between};
+
+use crate::axes::{Direction, along_edges, in_time};
+use crate::middle::middle;
+use condition_eval::{
+    Marks, before, by_kind, by_label, by_value, exists, objects_within, starts_of,
+};
+use interval_set::Span;
+use itpg_base::ObjNo;
+use itpg_graph::{Graph, Kind};
+use label_scope::{Scope, narrow};
+use path_ast::{Path, Test};
+use relation_rows::{RelFault, Relation};
+use std::alloc::{AllocError, Global};
+
+/// Why a path isn't worked out.
+#[derive(Clone, Copy, Debug, PartialEq, Eq, Drop)]
+pub enum EvalFault {
+    /// Memory is wanting.
+    Memory,
+    /// Some member that is worked out on the way has more normal rows than the limit.
+    Wide,
+}
+
+impl From<AllocError> for EvalFault {
+    ghost use Rattle.std.specs.Prelude.{◌≡◌};
+    ghost use Rattle.path_eval.specs.declared.evaluation.EvalFault.TheVariants.{Memory};
+
+    ghost from_gives = { λ _ e. e ≡ Memory };
+
+    fn from(_error: AllocError) -> EvalFault {
+        EvalFault::Memory
+    }
+}
+
+impl From<RelFault> for EvalFault {
+    ghost use Rattle.std.specs.Prelude.{◌≡◌};
+    ghost use Rattle.path_eval.specs.Working.{fault_of};
+
+    ghost from_gives = { λ fault e. e ≡ fault_of fault };
+
+    fn from(fault: RelFault) -> EvalFault {
+        match fault {
+            RelFault::Memory => EvalFault::Memory,
+            RelFault::Wide => EvalFault::Wide,
+        }
+    }
+}
+
+/// What paths are worked out on: a begun graph with its horizon, and the limit of rows.
+#[derive(Clone, Copy)]
+struct Ground<'a> {
+    alloc: Global,
+    graph: &'a Graph,
+    horizon: Span,
+    max_rows: u32,
+}
+
+/// The relation of the path, cut to sources within `a` and targets within `b`, as its normal rows.
+///
+/// The graph is begun, the path is in range, and no repetition stands in it.
+///
+/// # Errors
+///
+/// `Wide` exactly where some worked member of the path between the two scopes has more than `max_rows` normal rows, by the
+/// graph, the path, the scopes and the limit alone; `Memory` for want of memory.
+pub fn relation_of(
+    alloc: Global,
+    graph: &Graph,
+    path: &Path,
+    a: &Scope,
+    b: &Scope,
+    max_rows: u32,
+) -> Result<Relation, EvalFault>
+    requires begun { IsSome graph.now.begun }
+    requires in_range { IsPathInRange (path_term path.now) }
+    requires unrepeated { path_repeats (path_term path.now) ≡ false }
+    ensures rows { IfOk result (λ rows. NormalRows (Cut graph.now (path_term path.now) a.now b.now) rows) }
+    ensures fits { IfOk result (λ rows. AllFit graph.now max_rows (worked (path_term path.now) a.now b.now)) }
+    ensures wide { IsErrOf result EvalFault.Wide → SomeIsWide graph.now max_rows (worked (path_term path.now) a.now b.now) }
+{
+    let ground = Ground {
+        alloc,
+        graph,
+        horizon: graph.horizon().unwrap(),
+        max_rows,
+    };
+    worked_out(&ground, path, a, b)
+}
+
+// A relation, or why it isn't given, as one of evaluation.
+fn evaluated(given: Result<Relation, RelFault>) -> Result<Relation, EvalFault>
+    ensures { result ≡ evaluated_as given }
+{
+    Ok(given?)
+}
+
+// The relation of a path between two scopes.
+#[cycle(evaluation)]
+fn worked_out(ground: &Ground<'_>, path: &Path, a: &Scope, b: &Scope) -> Result<Relation, EvalFault>
+    requires ground { IsGround ground.now }
+    requires unrepeated { path_repeats (path_term path.now) ≡ false }
+    ensures { WorksOut ground.now result (path_term path.now) a.now b.now (worked (path_term path.now) a.now b.now) }
+{
+    let (sources, targets) = narrow(ground.alloc, path, a, b)?;
+    between(ground, path, &sources, &targets)
+}
+
+// The relation of a path between two scopes that are narrowed.
+#[cycle(evaluation)]
+fn between(ground: &Ground<'_>, path: &Path, a: &Scope, b: &Scope) -> Result<Relation, EvalFault>
+    requires ground { IsGround ground.now }
+    requires unrepeated { path_repeats (path_term path.now) ≡ false }
+    requires kept { IsTrue (keeps_object (path_term path.now)) → a.now ≡ b.now }
+    ensures { WorksOut ground.now result (path_term path.now) a.now b.now (members_between (path_term path.now) a.now b.now) }
+{
+    match path {
+        Path::Test(test) => test_relation(ground, test, a),
+        Path::F => axis(ground, Direction::Forward, a, b),
+        Path::B => axis(ground, Direction::Backward, a, b),
+        Path::N => evaluated(in_time(ground.alloc, ground.graph, &1, a, ground.max_rows)),
+        Path::P => evaluated(in_time(ground.alloc, ground.graph, &-1, a, ground.max_rows)),
+        Path::Seq(first, second) => sequence(ground, first, second, a, b),
+        Path::Alt(one, other) => choice(ground, one, other, a, b),
+        Path::Repeat { .. } => unreachable!(),
+    }
+}
+
+// The relation of an axis along edges.
+fn axis(
+    ground: &Ground<'_>,
+    direction: Direction,
+    a: &Scope,
+    b: &Scope,
+) -> Result<Relation, EvalFault>
+    requires { IsGround ground.now }
+    ensures { WorksOut ground.now result (axis_of direction) a.now b.now (axis_members (axis_of direction) a.now b.now) }
+{
+    evaluated(along_edges(ground.alloc, ground.graph, direction, a, b, ground.max_rows))
+}
+
+// The relation of the first path and then the second.
+#[cycle(evaluation)]
+fn sequence(
+    ground: &Ground<'_>,
+    first: &Path,
+    second: &Path,
+    a: &Scope,
+    b: &Scope,
+) -> Result<Relation, EvalFault>
+    requires ground { IsGround ground.now }
+    requires first_unrepeated { path_repeats (path_term first.now) ≡ false }
+    requires second_unrepeated { path_repeats (path_term second.now) ≡ false }
+    ensures { WorksOut ground.now result (Sequence (path_term first.now) (path_term second.now)) a.now b.now (sequence_members (path_term first.now) (path_term second.now) a.now b.now) }
+{
+    let meeting = middle(ground.alloc, first, second, a, b)?;
+    let before = worked_out(ground, first, a, &meeting)?;
+    let after = worked_out(ground, second, &meeting, b)?;
+    evaluated(before.compose(&after, ground.max_rows))
+}
+
+// The relation of one path or the other.
+#[cycle(evaluation)]
+fn choice(
+    ground: &Ground<'_>,
+    one: &Path,
+    other: &Path,
+    a: &Scope,
+    b: &Scope,
+) -> Result<Relation, EvalFault>
+    requires ground { IsGround ground.now }
+    requires one_unrepeated { path_repeats (path_term one.now) ≡ false }
+    requires other_unrepeated { path_repeats (path_term other.now) ≡ false }
+    ensures { WorksOut ground.now result (Choice (path_term one.now) (path_term other.now)) a.now b.now (choice_members (path_term one.now) (path_term other.now) a.now b.now) }
+{
+    let by_one = worked_out(ground, one, a, b)?;
+    let by_other = worked_out(ground, other, a, b)?;
+    evaluated(by_one.union(&by_other, ground.max_rows))
+}
+
+// The relation of a test: each point of the scope at which it holds leads to itself.
+#[cycle(evaluation)]
+fn test_relation(ground: &Ground<'_>, test: &Test, scope: &Scope) -> Result<Relation, EvalFault>
+    requires ground { IsGround ground.now }
+    requires unrepeated { test_repeats (test_term test.now) ≡ false }
+    ensures { WorksOut ground.now result (OfTest (test_term test.now)) scope.now scope.now (test_members (test_term test.now) scope.now) }
+{
+    let objects = objects_within(ground.alloc, ground.graph, scope)?;
+    let marks = marks_of(ground, test, scope, &objects)?;
+    evaluated(marks.as_relation(ground.max_rows))
+}
+
+// The points of the scope's objects at which the test holds.
+#[cycle(evaluation)]
+fn marks_of(
+    ground: &Ground<'_>,
+    test: &Test,
+    scope: &Scope,
+    objects: &[ObjNo],
+) -> Result<Marks, EvalFault>
+    requires ground { IsGround ground.now }
+    requires unrepeated { test_repeats (test_term test.now) ≡ false }
+    requires within { AreWithin scope.now ground.now.graph.now objects.now }
+    ensures { MarksOut ground.now result (test_term test.now) objects.now (worked_conditions (test_term test.now) scope.now) }
+{
+    match test {
+        Test::Cond(path) => {
+            let leading = worked_out(ground, path, scope, &Scope::All)?;
+            Ok(starts_of(ground.alloc, ground.graph, objects, &leading)?)
+        }
+        Test::And(one, other) => {
+            let own = marks_of(ground, one, scope, objects)?;
+            let also = marks_of(ground, other, scope, objects)?;
+            Ok(own.and(&also)?)
+        }
+        Test::Or(one, other) => {
+            let own = marks_of(ground, one, scope, objects)?;
+            let also = marks_of(ground, other, scope, objects)?;
+            Ok(own.or(&also)?)
+        }
+        Test::Not(negated) => {
+            let own = marks_of(ground, negated, scope, objects)?;
+            Ok(own.not(ground.horizon)?)
+        }
+        _ => Ok(leaf_marks(ground, test, objects)?),
+    }
+}
+
+// The points of the objects at which a test holds that asks only for one object at one moment.
+fn leaf_marks(ground: &Ground<'_>, test: &Test, objects: &[ObjNo]) -> Result<Marks, AllocError>
+    requires ground { IsGround ground.now }
+    requires leaf { IsLeaf (test_term test.now) }
+    requires rise { Rise objects.now }
+    requires stand { Stand ground.now.graph.now objects.now }
+    ensures { IfOk result (λ marks. AreMarks objects.now (HoldsAt (test_term test.now) ground.now.graph.now) marks) }
+{
+    let (alloc, graph) = (ground.alloc, ground.graph);
+    match test {
+        Test::Node => by_kind(alloc, graph, objects, Kind::Node),
+        Test::Edge => by_kind(alloc, graph, objects, Kind::Edge),
+        Test::Label(label) => by_label(alloc, graph, objects, *label),
+        Test::Value { prop, value } => by_value(alloc, graph, objects, *prop, *value),
+        Test::Before(k) => before(alloc, graph, objects, *k),
+        Test::Exists => exists(alloc, graph, objects),
+        _ => unreachable!(),
+    }
+}
