@@ -9,53 +9,18 @@ use Rattle.itpg_base.specs.declared.rule_code.RuleCode.{RuleCode}
 use Rattle.itpg_base.specs.declared.rule_code.RuleCode.TheVariants.{NoGraph, GraphName, Later}
 use Rattle.itpg_base.proofs.Objects.{word_same, word_refl}
 use Rattle.itpg_edit.specs.Rules.{FirstOf, NoneOf}
-use Rattle.path_ast.specs.Terms.{PathTerm, OfTest, TestTerm, IsNode, HasLabel, DoesExist, Conjunction, QueryTerm}
-use Rattle.match_parser.specs.Translation.{node_test, with_label}
-use Rattle.itpg_session.specs.Questions.{plain_pattern, IsAnswered}
+use Rattle.path_ast.specs.Terms.{QueryTerm}
+use Rattle.path_eval.specs.Repeats.{path_repeats}
+use Rattle.itpg_session.specs.Questions.{IsAnswered}
 use Rattle.itpg_session.specs.Rules.{QueryBreaks, AskBreaks, WatchBreaks, CommandBreaks, query_rules, watch_rules}
 
-decide_node : (c : TestTerm) → Decided (c ≡ node_test)
-decide_node (Conjunction IsNode DoesExist) = inl refl
-decide_node _ = inr (λ e. let no : ⊥ = cc in no)
-
-abbrev IsPlain : TestTerm → Type 0
-IsPlain c = (label : Option Word) × (c ≡ with_label label node_test)
-
-not_plain : (c : TestTerm) → c ≢ node_test → ((label : Word) → c ≢ Conjunction node_test (HasLabel label)) → ¬ IsPlain c
-not_plain c bare labelled (None, e) = bare e
-not_plain c bare labelled (Some label, e) = labelled label e
-
-decide_labelled : (c : TestTerm) → c ≢ node_test → Decided (IsPlain c)
-decide_labelled (Conjunction a (HasLabel label)) bare = elim (decide_node a) [
-  | inl e ↦ inl (Some label, ap (λ x. Conjunction x (HasLabel label)) e)
-  | inr n ↦ inr (not_plain _ bare (λ l e. n (let same : a ≡ node_test = cc in same)))
-]
-decide_labelled c bare = inr (not_plain _ bare (λ l e. let no : ⊥ = cc in no))
-
-decide_plain : (c : TestTerm) → Decided (IsPlain c)
-decide_plain c = elim (decide_node c) [ inl e ↦ inl (None, e) | inr n ↦ decide_labelled c n ]
-
-abbrev IsPlainPath : PathTerm → Type 0
-IsPlainPath p = (label : Option Word) × (p ≡ plain_pattern label)
-
-same_test : {c d : TestTerm} → OfTest c ≡ OfTest d → c ≡ d
-same_test e = cc
-
-decide_path : (p : PathTerm) → Decided (IsPlainPath p)
-decide_path (OfTest c) = elim (decide_plain c) [ inl s ↦ inl (s.0, ap OfTest s.1) | inr n ↦ inr (λ s. n (s.0, same_test s.1)) ]
-decide_path _ = inr (λ s. let e = s.1 in let no : ⊥ = cc in no)
-
 -- whether a query is answered
-pub decide_answered : (q : QueryTerm) → Decided (IsAnswered q)
-decide_answered q = by_ends q.first q.last refl refl
+decide_answered : (q : QueryTerm) → Decided (IsAnswered q)
+decide_answered q = is_false (path_repeats q.path)
   where
-    by_ends : (f l : Bool) → q.first ≡ f → q.last ≡ l → Decided (IsAnswered q)
-    by_ends true false e k = elim (decide_path q.path) [
-      | inl s ↦ inl (s.0, record { first = e; last = k; path = s.1 })
-      | inr n ↦ inr (λ s. n (s.0, (s.1).path))
-    ]
-    by_ends false l e k = inr (λ s. let f = (s.1).first in let no : ⊥ = cc in no)
-    by_ends true true e k = inr (λ s. let f = (s.1).last in let no : ⊥ = cc in no)
+    is_false : (repeats : Bool) → Decided (repeats ≡ false)
+    is_false true = inr (λ e. let no : ⊥ = cc in no)
+    is_false false = inl refl
 
 decide_same : (a b : Word) → Decided (a ≡ b)
 decide_same a b = by_test (pointwise nat_eq a b) refl
@@ -104,7 +69,3 @@ watch_breaks g q = elim (decide_begun g.begun) [
 
 pub command_breaks : (g : Graph) → (rule : RuleCode) × FirstOf (CommandBreaks g) watch_rules rule
 command_breaks g = elim (decide_begun g.begun) [ inl b ↦ (NoGraph, inl (b, refl)) | inr n ↦ (Later, inr (n, inl (tt, refl))) ]
-
--- where asking breaks no rule, the query is answered
-pub answered : (g : Graph) (q : QueryTerm) → NoneOf (AskBreaks g q) query_rules → IsAnswered q
-answered g q (n, (k, (l, end))) = elim (decide_answered q) [ inl a ↦ a | inr m ↦ absurd (l m) ]

@@ -1,9 +1,6 @@
-pub mod Saying
-pub mod Shown
-pub mod RowTexts
-pub mod OneTimeRows
-pub mod Patterns
+pub mod Written
 pub mod Taken
-pub mod Asking
 pub mod Decided
+pub mod Replying
+pub mod Answering
 pub mod OneTurn

@@ -1,12 +1,11 @@
 -- On a good graph a line has exactly one turn, and it leaves a good graph.
-use Rattle.std.proofs.Common.{◌≡◌, ℕ, ◌≤◌, List, ◌⊎◌, inl, inr, length, refl, sym, ap, ◌∙◌, subst}
+use Rattle.std.proofs.Common.{◌≡◌, ℕ, ◌≤◌, List, ◌⊎◌, inl, inr, refl, sym, ap, ◌∙◌, subst}
 use Rattle.std.specs.Prelude.{◌↔◌, Result, Ok, Err, take}
-use Rattle.std.proofs.lemmas.Bool.{cases_lt}
 use Rattle.itpg_base.specs.Graphs.{Graph, Good}
 use Rattle.itpg_base.specs.declared.rule_code.RuleCode.{RuleCode}
 use Rattle.itpg_base.specs.declared.text_code.TextCode.{TextCode}
 use Rattle.itpg_edit.specs.declared.edit.Edit.{Edit}
-use Rattle.itpg_edit.specs.Rules.{NoneOf, Breaks, Broken, Unbroken, rules_of}
+use Rattle.itpg_edit.specs.Rules.{Breaks, Broken, Unbroken, rules_of}
 use Rattle.itpg_edit.specs.Next.{Next}
 use Rattle.itpg_edit.specs.Places.{HasMoments, HasLabels}
 use Rattle.itpg_edit.proofs.FirstOf.{first_unique, first_or_unbroken}
@@ -14,29 +13,16 @@ use Rattle.edit_reader.specs.Readings.{Reading, Nothing, Changes, Asks, Watches,
 use Rattle.edit_reader.specs.Lines.{LineOf}
 use Rattle.edit_reader.specs.Moments.{AsksOfMoments, AsksForLabels}
 use Rattle.path_ast.specs.Terms.{QueryTerm}
-use Rattle.match_parser.specs.Reading.{Reads, FaultOf}
-use Rattle.itpg_session.specs.Questions.{IsAnswered, Starts}
-use Rattle.itpg_session.specs.Rules.{AskBreaks, WatchBreaks, CommandBreaks, query_rules, watch_rules}
-use Rattle.itpg_session.specs.Listed.{spans_of, rows_below}
-use Rattle.itpg_session.specs.Machine.{Machine, Turn, Refuses, AnswersQuery, WatchesQuery, OfText, Answers, TurnOf, Replies, quiet_turn, bad_turn, refused_turn, wide_turn, rows_turn}
+use Rattle.itpg_session.specs.Rules.{WatchBreaks, CommandBreaks, query_rules, watch_rules}
+use Rattle.itpg_session.specs.Replies.{Reply, Bad, Refused, Wide, Rows}
+use Rattle.itpg_session.specs.Machine.{Machine, Turn, Refuses, AsksText, WatchesText, Answers, TurnOf, Replies, quiet_turn, bad_turn, refused_turn, asked_turn}
 use Rattle.itpg_session.specs.MachineLaws.{OneReply, SomeReply, GoodReply, FrontReplies}
-use Rattle.itpg_session.proofs.OneTimeRows.{rows_unique}
-use Rattle.itpg_session.proofs.Decided.{first_or_none, decide_ask, watch_breaks, command_breaks, answered}
-use Rattle.itpg_session.proofs.Asking.{replies_read, replies_bad, blank_answers, asks_answers, watches_answers, shows_answers, unwatches_answers, ticks_answers, edit_refused, edit_made, refuses, wide_answers, rows_answers}
+use Rattle.itpg_session.proofs.Decided.{watch_breaks, command_breaks}
+use Rattle.itpg_session.proofs.Replying.{TextLaws, one_asked, some_asked}
+use Rattle.itpg_session.proofs.Answering.{replies_read, replies_bad, blank_answers, asks_answers, asked_asks, watches_answers, watch_bad, watch_refused, shows_answers, unwatches_answers, ticks_answers, edit_refused, edit_made, refuses}
 
 one_refusal : (m : Machine) (number : ℕ) (broken : RuleCode → Type 0) (rules : List RuleCode) (x y : Turn) → Refuses m number broken rules x → Refuses m number broken rules y → x ≡ y
 one_refusal m number broken rules x y a b = a.is ∙ ap (refused_turn m number) (first_unique broken rules a.rule b.rule a.first b.first) ∙ sym b.is
-
-one_query_turn : (limit : ℕ) (m : Machine) (number : ℕ) (q : QueryTerm) (x y : Turn) → AnswersQuery limit m number q x → AnswersQuery limit m number q y → x ≡ y
-one_query_turn limit m number q x y (inl a) (inl b) = one_refusal m number (AskBreaks m.graph q) query_rules x y a b
-one_query_turn limit m number q x y (inl a) (inr (inl b)) = absurd (first_or_unbroken (AskBreaks m.graph q) query_rules a.rule a.first b.unbroken)
-one_query_turn limit m number q x y (inl a) (inr (inr b)) = absurd (first_or_unbroken (AskBreaks m.graph q) query_rules a.rule a.first b.unbroken)
-one_query_turn limit m number q x y (inr (inl a)) (inl b) = absurd (first_or_unbroken (AskBreaks m.graph q) query_rules b.rule b.first a.unbroken)
-one_query_turn limit m number q x y (inr (inr a)) (inl b) = absurd (first_or_unbroken (AskBreaks m.graph q) query_rules b.rule b.first a.unbroken)
-one_query_turn limit m number q x y (inr (inl a)) (inr (inl b)) = a.is ∙ sym b.is
-one_query_turn limit m number q x y (inr (inl a)) (inr (inr b)) = absurd (b.fits a.wide)
-one_query_turn limit m number q x y (inr (inr a)) (inr (inl b)) = absurd (a.fits b.wide)
-one_query_turn limit m number q x y (inr (inr a)) (inr (inr b)) = a.is ∙ ap (rows_turn m number) (rows_unique (Starts q.path m.graph) a.rows b.rows a.are b.are) ∙ sym b.is
 
 -- the laws of lines, of query texts and of edits
 pub record Below : Type 0 where
@@ -48,17 +34,17 @@ pub record Below : Type 0 where
   pub good_next : (g new : Graph) (edit : Edit) → Good g → HasMoments edit → HasLabels edit → Unbroken g edit → Next g edit new → Good new
   pub one_next : (g x y : Graph) (edit : Edit) → Good g → Next g edit x → Next g edit y → x ≡ y
   pub some_next : (g : Graph) (edit : Edit) → Good g → Unbroken g edit → (new : Graph) × Next g edit new
-  pub one_query : (text : List ℕ) (p q : QueryTerm) → Reads text p → Reads text q → p ≡ q
-  pub one_fault : (text : List ℕ) (c d : TextCode) → FaultOf text c → FaultOf text d → c ≡ d
-  pub apart : (text : List ℕ) (q : QueryTerm) (c : TextCode) → Reads text q → FaultOf text c → ⊥
-  pub some_query : (text : List ℕ) → ((q : QueryTerm) × Reads text q) ⊎ ((c : TextCode) × FaultOf text c)
+  pub texts : TextLaws
 
 module _ (below : Below) (limit : ℕ) (m : Machine) (number : ℕ) (good : Good m.graph) where
-  one_text : (text : List ℕ) (Of : QueryTerm → Turn → Type 0) (x y : Turn) → ((q : QueryTerm) → Of q x → Of q y → x ≡ y) → OfText m number text Of x → OfText m number text Of y → x ≡ y
-  one_text text Of x y one (inl (p, a, s)) (inl (q, b, t)) = one q (subst (λ r. Of r x) (below.one_query text p q a b) s) t
-  one_text text Of x y one (inl (p, a, s)) (inr (d, b, t)) = absurd (below.apart text p d a b)
-  one_text text Of x y one (inr (c, a, s)) (inl (q, b, t)) = absurd (below.apart text q c b a)
-  one_text text Of x y one (inr (c, a, s)) (inr (d, b, t)) = s ∙ ap (bad_turn m number) (below.one_fault text c d a b) ∙ sym t
+  one_ask : (text : List ℕ) (x y : Turn) → AsksText limit m number text x → AsksText limit m number text y → x ≡ y
+  one_ask text x y a b = a.is ∙ ap (asked_turn m number) (one_asked below.texts m.graph limit text a.reply b.reply a.replies b.replies) ∙ sym b.is
+
+  one_watch : (text : List ℕ) (x y : Turn) → WatchesText m number text x → WatchesText m number text y → x ≡ y
+  one_watch text x y (inl (c, f, e)) (inl (d, h, k)) = e ∙ ap (bad_turn m number) (below.texts.one_fault text c d f h) ∙ sym k
+  one_watch text x y (inl (c, f, e)) (inr (q, s, b)) = absurd (below.texts.apart text q c s f)
+  one_watch text x y (inr (p, r, a)) (inl (d, h, k)) = absurd (below.texts.apart text p d r h)
+  one_watch text x y (inr (p, r, a)) (inr (q, s, b)) = one_refusal m number (WatchBreaks m.graph q) query_rules x y (subst (λ (q : QueryTerm). Refuses m number (WatchBreaks m.graph q) query_rules x) (below.texts.one_query text p q r s) a) b
 
   one_change : (edit : Edit) (x y : Turn) → Answers limit m number (Changes edit) x → Answers limit m number (Changes edit) y → x ≡ y
   unfolding Answers
@@ -71,8 +57,8 @@ module _ (below : Below) (limit : ℕ) (m : Machine) (number : ℕ) (good : Good
   unfolding Answers
   one_answer Nothing x y a b = a ∙ sym b
   one_answer (Changes edit) x y a b = one_change edit x y a b
-  one_answer (Asks text) x y a b = one_text text (AnswersQuery limit m number) x y (λ q. one_query_turn limit m number q x y) a b
-  one_answer (Watches name text) x y a b = one_text text (WatchesQuery m number) x y (λ q. one_refusal m number (WatchBreaks m.graph q) query_rules x y) a b
+  one_answer (Asks text) x y a b = one_ask text x y a b
+  one_answer (Watches name text) x y a b = one_watch text x y a b
   one_answer (Shows name) x y a b = one_refusal m number (CommandBreaks m.graph) watch_rules x y a b
   one_answer (Unwatches name) x y a b = one_refusal m number (CommandBreaks m.graph) watch_rules x y a b
   one_answer Ticks x y a b = one_refusal m number (CommandBreaks m.graph) watch_rules x y a b
@@ -89,14 +75,18 @@ module _ (below : Below) (limit : ℕ) (m : Machine) (number : ℕ) (good : Good
   good_refusal : (broken : RuleCode → Type 0) (rules : List RuleCode) (t : Turn) → Refuses m number broken rules t → Good t.next.graph
   good_refusal broken rules t a = subst (λ (u : Turn). Good u.next.graph) (sym a.is) good
 
-  good_query : (q : QueryTerm) (t : Turn) → AnswersQuery limit m number q t → Good t.next.graph
-  good_query q t (inl a) = good_refusal (AskBreaks m.graph q) query_rules t a
-  good_query q t (inr (inl a)) = subst (λ (u : Turn). Good u.next.graph) (sym a.is) good
-  good_query q t (inr (inr a)) = subst (λ (u : Turn). Good u.next.graph) (sym a.is) good
+  same_machine : (reply : Reply) → m ≡ (asked_turn m number reply).next
+  same_machine (Bad code) = refl
+  same_machine (Refused rule) = refl
+  same_machine Wide = refl
+  same_machine (Rows answer) = refl
 
-  good_text : (text : List ℕ) (Of : QueryTerm → Turn → Type 0) (t : Turn) → ((q : QueryTerm) → Of q t → Good t.next.graph) → OfText m number text Of t → Good t.next.graph
-  good_text text Of t each (inl (q, reads, of)) = each q of
-  good_text text Of t each (inr (c, fault, is)) = subst (λ (u : Turn). Good u.next.graph) (sym is) good
+  good_ask : (text : List ℕ) (t : Turn) → AsksText limit m number text t → Good t.next.graph
+  good_ask text t a = subst (λ (u : Turn). Good u.next.graph) (sym a.is) (subst (λ (n : Machine). Good n.graph) (same_machine a.reply) good)
+
+  good_watch : (text : List ℕ) (t : Turn) → WatchesText m number text t → Good t.next.graph
+  good_watch text t (inl (c, f, e)) = subst (λ (u : Turn). Good u.next.graph) (sym e) good
+  good_watch text t (inr (q, s, b)) = good_refusal (WatchBreaks m.graph q) query_rules t b
 
   good_change : (edit : Edit) (t : Turn) → HasMoments edit → HasLabels edit → Answers limit m number (Changes edit) t → Good t.next.graph
   unfolding Answers
@@ -107,8 +97,8 @@ module _ (below : Below) (limit : ℕ) (m : Machine) (number : ℕ) (good : Good
   unfolding Answers
   good_answer Nothing t moments labels a = subst (λ (u : Turn). Good u.next.graph) (sym a) good
   good_answer (Changes edit) t moments labels a = good_change edit t moments labels a
-  good_answer (Asks text) t moments labels a = good_text text (AnswersQuery limit m number) t (λ q. good_query q t) a
-  good_answer (Watches name text) t moments labels a = good_text text (WatchesQuery m number) t (λ q. good_refusal (WatchBreaks m.graph q) query_rules t) a
+  good_answer (Asks text) t moments labels a = good_ask text t a
+  good_answer (Watches name text) t moments labels a = good_watch text t a
   good_answer (Shows name) t moments labels a = good_refusal (CommandBreaks m.graph) watch_rules t a
   good_answer (Unwatches name) t moments labels a = good_refusal (CommandBreaks m.graph) watch_rules t a
   good_answer Ticks t moments labels a = good_refusal (CommandBreaks m.graph) watch_rules t a
@@ -121,29 +111,17 @@ module _ (below : Below) (limit : ℕ) (m : Machine) (number : ℕ) (good : Good
   pub good_reply_of : (line : List ℕ) (t : Turn) → Replies limit m number line t → Good t.next.graph
   good_reply_of line t a = good_turn line a.what t a.line_of a.turn
 
-  some_query_turn : (q : QueryTerm) → (t : Turn) × AnswersQuery limit m number q t
-  some_query_turn q = elim (first_or_none (AskBreaks m.graph q) (decide_ask m.graph q) query_rules) [
-    | inl f ↦ (refused_turn m number f.0, inl (refuses m number (AskBreaks m.graph q) query_rules f.0 f.1 _ refl))
-    | inr u ↦ by_length u (answered m.graph q u)
-  ]
-    where
-      by_length : NoneOf (AskBreaks m.graph q) query_rules → IsAnswered q → (t : Turn) × AnswersQuery limit m number q t
-      by_length u (label, is) = elim (cases_lt limit (length (rows_below (spans_of m.graph label) (length m.graph.objects)))) [
-        | inl many ↦ (wide_turn m number, wide_answers limit m number q label is good u many _ refl)
-        | inr few ↦ (rows_turn m number (rows_below (spans_of m.graph label) (length m.graph.objects)), rows_answers limit m number q label is good u few)
-      ]
-
-  some_text : (text : List ℕ) (Of : QueryTerm → Turn → Type 0) → ((q : QueryTerm) → (t : Turn) × Of q t) → (t : Turn) × OfText m number text Of t
-  some_text text Of each = elim (below.some_query text) [
-    | inl s ↦ let t = each s.0 in (t.0, inl (s.0, s.1, t.1))
-    | inr f ↦ (bad_turn m number f.0, inr (f.0, f.1, refl))
-  ]
-
   some_command : (t : Turn) × Refuses m number (CommandBreaks m.graph) watch_rules t
   some_command = let f = command_breaks m.graph in (refused_turn m number f.0, refuses m number (CommandBreaks m.graph) watch_rules f.0 f.1 _ refl)
 
-  some_watch : (q : QueryTerm) → (t : Turn) × WatchesQuery m number q t
-  some_watch q = let f = watch_breaks m.graph q in (refused_turn m number f.0, refuses m number (WatchBreaks m.graph q) query_rules f.0 f.1 _ refl)
+  some_ask : (text : List ℕ) → (t : Turn) × AsksText limit m number text t
+  some_ask text = let r = some_asked below.texts m.graph limit text in (asked_turn m number r.0, asked_asks limit m number text r.0 r.1 _ refl)
+
+  some_watch : (text : List ℕ) → (t : Turn) × WatchesText m number text t
+  some_watch text = elim (below.texts.some_query text) [
+    | inl s ↦ let f = watch_breaks m.graph s.0 in (refused_turn m number f.0, watch_refused m number text s.0 s.1 f.0 f.1 _ refl)
+    | inr f ↦ (bad_turn m number f.0, watch_bad m number text f.0 f.1 _ refl)
+  ]
 
   some_change : (edit : Edit) → (t : Turn) × Answers limit m number (Changes edit) t
   some_change edit = elim (below.rules m.graph edit good) [
@@ -154,8 +132,8 @@ module _ (below : Below) (limit : ℕ) (m : Machine) (number : ℕ) (good : Good
   some_answer : (reading : Reading) → (t : Turn) × Answers limit m number reading t
   some_answer Nothing = (quiet_turn m, blank_answers limit m number)
   some_answer (Changes edit) = some_change edit
-  some_answer (Asks text) = let t = some_text text (AnswersQuery limit m number) some_query_turn in (t.0, asks_answers limit m number text t.0 t.1)
-  some_answer (Watches name text) = let t = some_text text (WatchesQuery m number) some_watch in (t.0, watches_answers limit m number name text t.0 t.1)
+  some_answer (Asks text) = let t = some_ask text in (t.0, asks_answers limit m number text t.0 t.1)
+  some_answer (Watches name text) = let t = some_watch text in (t.0, watches_answers limit m number name text t.0 t.1)
   some_answer (Shows name) = let t = some_command in (t.0, shows_answers limit m number name t.0 t.1)
   some_answer (Unwatches name) = let t = some_command in (t.0, unwatches_answers limit m number name t.0 t.1)
   some_answer Ticks = let t = some_command in (t.0, ticks_answers limit m number t.0 t.1)

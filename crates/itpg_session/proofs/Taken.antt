@@ -11,8 +11,8 @@ use Rattle.itpg_session.specs.declared.session.Seen.{Seen}
 use Rattle.itpg_session.specs.declared.session.Seen.TheVariants.{Quiet, Answered, Refused}
 use Rattle.itpg_session.specs.declared.session.StepFault.{StepFault}
 use Rattle.itpg_session.specs.declared.session.StepFault.TheVariants.{Memory, Write}
-use Rattle.itpg_session.specs.OneTime.{OneRow}
-use Rattle.itpg_session.specs.Texts.{bad_text, refused_text, wide_text, head_text, answer_text}
+use Rattle.relation_rows.specs.Answered.{Answered as Answer}
+use Rattle.itpg_session.specs.Texts.{bad_text, refused_text, wide_text, head_text, rows_text}
 use Rattle.itpg_session.specs.Machine.{Machine, Standing, Turn, quiet_turn, bad_turn, refused_turn, wide_turn, rows_turn}
 use Rattle.itpg_session.specs.Steps.{Sees, IsTaken, Fails}
 
@@ -77,9 +77,9 @@ wide_some : (number : ℕ) → wide_text number ≢ []
 unfolding wide_text
 wide_some number e = cc
 
-pub answer_some : (g : Graph) (number : ℕ) (rows : List OneRow) → answer_text g number rows ≢ []
+pub rows_some : (g : Graph) (number : ℕ) (answer : Answer) → rows_text g number answer ≢ []
 unfolding head_text
-answer_some g number rows e = cc
+rows_some g number answer e = cc
 
 module _ (m : Machine) (number : ℕ) (page : List ℕ) (Holds : (Turn → Type 0) → Type 0) (fails : Fails m page Holds) where
   pub refused_told : (rule : RuleCode) → page ≡ refused_text number rule → Holds (λ turn. turn ≡ refused_turn m number rule)
@@ -91,13 +91,13 @@ module _ (m : Machine) (number : ℕ) (page : List ℕ) (Holds : (Turn → Type 
   pub wide_told : page ≡ wide_text number → Holds (λ turn. turn ≡ wide_turn m number)
   wide_told is = subst (λ p. Fails m p Holds) is fails (wide_some number)
 
-module _ {P : Turn → Type 0} {W : Type 0} (self : Standing) (number : ℕ) (rows : List OneRow) (p : P (rows_turn self.machine number rows)) {held now : Option (List ℕ)} {before after : ℕ} where
+module _ (self : Standing) (number : ℕ) (answer : Answer) {held now : Option (List ℕ)} {before after : ℕ} where
   -- the rows of an answer were written, or a front part of them
-  pub rows_taken : Appends held now (answer_text self.machine.graph number rows) → before ≤ after → IsTaken P W held now before after self self (Ok Answered)
+  pub rows_taken : Appends held now (rows_text self.machine.graph number answer) → before ≤ after → IsTaken (λ turn. turn ≡ rows_turn self.machine number answer) ⊥ held now before after self self (Ok Answered)
   rows_taken written later = record {
-    ends = record { turn = rows_turn self.machine number rows; replies = p; written = written; next = refl; sees = sees_answered (answer_text self.machine.graph number rows) (answer_some self.machine.graph number rows) };
+    ends = record { turn = rows_turn self.machine number answer; replies = refl; written = written; next = refl; sees = sees_answered (rows_text self.machine.graph number answer) (rows_some self.machine.graph number answer) };
     later = later;
   }
 
-  pub rows_front : AppendsSome held now (answer_text self.machine.graph number rows) → Rose before after → before ≤ after → IsTaken P W held now before after self self (Err Write)
-  rows_front some rose later = record { ends = (refl, rose, record { turn = rows_turn self.machine number rows; replies = p; some = some }); later = later }
+  pub rows_front : AppendsSome held now (rows_text self.machine.graph number answer) → Rose before after → before ≤ after → IsTaken (λ turn. turn ≡ rows_turn self.machine number answer) ⊥ held now before after self self (Err Write)
+  rows_front some rose later = record { ends = (refl, rose, record { turn = rows_turn self.machine number answer; replies = refl; some = some }); later = later }

@@ -1,9 +1,7 @@
 pub mod Questions
 pub mod Rules
-pub mod OneTime
+pub mod Replies
 pub mod Texts
 pub mod Machine
 pub mod MachineLaws
 pub mod Steps
-pub mod Listed
-pub mod Said

@@ -1,19 +1,19 @@
 -- The plain machine: what may answer each line, and what it leaves.
-use Rattle.std.specs.Prelude.{◌≡◌, ℕ, ◌<◌, List, [], length, Bool, true, false, None, ◌⊎◌, Result, Ok, Err}
+use Rattle.std.specs.Prelude.{◌≡◌, ℕ, List, [], Bool, true, false, None, ◌⊎◌, Result, Ok, Err}
 use Rattle.itpg_base.specs.Graphs.{Graph, Good}
 use Rattle.itpg_base.specs.declared.rule_code.RuleCode.{RuleCode}
 use Rattle.itpg_base.specs.declared.text_code.TextCode.{TextCode}
 use Rattle.itpg_edit.specs.declared.edit.Edit.{Edit}
-use Rattle.itpg_edit.specs.Rules.{rules_of, Breaks, NoneOf, FirstOf, Unbroken}
+use Rattle.itpg_edit.specs.Rules.{rules_of, Breaks, FirstOf, Unbroken}
 use Rattle.itpg_edit.specs.Next.{Next}
 use Rattle.edit_reader.specs.Readings.{Reading, Nothing, Changes, Asks, Watches, Shows, Unwatches, Ticks}
 use Rattle.edit_reader.specs.Lines.{LineOf}
 use Rattle.path_ast.specs.Terms.{QueryTerm}
 use Rattle.match_parser.specs.Reading.{Reads, FaultOf}
-use Rattle.itpg_session.specs.Questions.{Starts}
-use Rattle.itpg_session.specs.Rules.{query_rules, watch_rules, AskBreaks, WatchBreaks, CommandBreaks}
-use Rattle.itpg_session.specs.OneTime.{OneRow, AreOneTimeRows}
-use Rattle.itpg_session.specs.Texts.{bad_text, refused_text, wide_text, answer_text}
+use Rattle.relation_rows.specs.Answered.{Answered}
+use Rattle.itpg_session.specs.Rules.{query_rules, watch_rules, WatchBreaks, CommandBreaks}
+use Rattle.itpg_session.specs.Replies.{Reply, Bad, Refused, Wide, Rows, IsReply}
+use Rattle.itpg_session.specs.Texts.{bad_text, refused_text, wide_text, rows_text}
 
 -- a machine has a graph
 pub record Machine : Type 0 where
@@ -55,8 +55,15 @@ abbrev pub wide_turn : Machine → ℕ → Turn
 wide_turn m number = record { text = wide_text number; failing = true; next = m }
 
 -- the rows of an answer, and the same machine
-abbrev pub rows_turn : Machine → ℕ → List OneRow → Turn
-rows_turn m number rows = record { text = answer_text m.graph number rows; failing = false; next = m }
+abbrev pub rows_turn : Machine → ℕ → Answered → Turn
+rows_turn m number answer = record { text = rows_text m.graph number answer; failing = false; next = m }
+
+-- the turn with this reply to a question
+abbrev pub asked_turn : Machine → ℕ → Reply → Turn
+asked_turn m number (Bad code) = bad_turn m number code
+asked_turn m number (Refused rule) = refused_turn m number rule
+asked_turn m number Wide = wide_turn m number
+asked_turn m number (Rows answer) = rows_turn m number answer
 
 -- refused by the first of these rules that is broken, and nothing changes
 pub record Refuses (m : Machine) (number : ℕ) (broken : RuleCode → Type 0) (rules : List RuleCode) (t : Turn) : Type 0 where
@@ -71,44 +78,24 @@ pub record Makes (m : Machine) (edit : Edit) (t : Turn) : Type 0 where
   pub next : Next m.graph edit graph
   pub is : t ≡ quiet_turn (record { graph = graph })
 
--- the answer of the query has more rows than the limit
-pub record IsWide (limit : ℕ) (g : Graph) (q : QueryTerm) : Type 0 where
-  pub rows : List OneRow
-  pub are : AreOneTimeRows (Starts q.path g) rows
-  pub longer : limit < length rows
+-- the text is asked
+pub record AsksText (limit : ℕ) (m : Machine) (number : ℕ) (text : List ℕ) (t : Turn) : Type 0 where
+  pub reply : Reply
+  pub replies : IsReply m.graph limit text reply
+  pub is : t ≡ asked_turn m number reply
 
--- the question has too many rows
-pub record AnswersWide (limit : ℕ) (m : Machine) (number : ℕ) (q : QueryTerm) (t : Turn) : Type 0 where
-  pub unbroken : NoneOf (AskBreaks m.graph q) query_rules
-  pub wide : IsWide limit m.graph q
-  pub is : t ≡ wide_turn m number
-
--- the question is answered by its rows
-pub record AnswersRows (limit : ℕ) (m : Machine) (number : ℕ) (q : QueryTerm) (t : Turn) : Type 0 where
-  pub unbroken : NoneOf (AskBreaks m.graph q) query_rules
-  pub rows : List OneRow
-  pub are : AreOneTimeRows (Starts q.path m.graph) rows
-  pub fits : ¬ IsWide limit m.graph q
-  pub is : t ≡ rows_turn m number rows
-
--- the turn that the question of a query may have
-abbrev pub AnswersQuery : ℕ → Machine → ℕ → QueryTerm → Turn → Type 0
-AnswersQuery limit m number q t = Refuses m number (AskBreaks m.graph q) query_rules t ⊎ (AnswersWide limit m number q t ⊎ AnswersRows limit m number q t)
-
--- the turn that the watch of a query may have
-abbrev pub WatchesQuery : Machine → ℕ → QueryTerm → Turn → Type 0
-WatchesQuery m number q t = Refuses m number (WatchBreaks m.graph q) query_rules t
-
--- the text reads as a query, which has such a turn; or its first fault is told, and nothing changes
-abbrev pub OfText : Machine → ℕ → List ℕ → (QueryTerm → Turn → Type 0) → Turn → Type 0
-OfText m number text OfQuery t = ((q : QueryTerm) × Reads text q × OfQuery q t) ⊎ ((code : TextCode) × FaultOf text code × (t ≡ bad_turn m number code))
+-- the text is to be watched: its first fault is told, or the query that it reads as is refused
+abbrev pub WatchesText : Machine → ℕ → List ℕ → Turn → Type 0
+WatchesText m number text t =
+    ((code : TextCode) × FaultOf text code × (t ≡ bad_turn m number code))
+    ⊎ ((q : QueryTerm) × Reads text q × Refuses m number (WatchBreaks m.graph q) query_rules t)
 
 -- the turn that a line may have which asks for this
 unfoldable pub Answers : ℕ → Machine → ℕ → Reading → Turn → Type 0
 Answers limit m number Nothing t = t ≡ quiet_turn m
 Answers limit m number (Changes edit) t = Refuses m number (Breaks m.graph edit) (rules_of edit) t ⊎ Makes m edit t
-Answers limit m number (Asks text) t = OfText m number text (AnswersQuery limit m number) t
-Answers limit m number (Watches name text) t = OfText m number text (WatchesQuery m number) t
+Answers limit m number (Asks text) t = AsksText limit m number text t
+Answers limit m number (Watches name text) t = WatchesText m number text t
 Answers limit m number (Shows name) t = Refuses m number (CommandBreaks m.graph) watch_rules t
 Answers limit m number (Unwatches name) t = Refuses m number (CommandBreaks m.graph) watch_rules t
 Answers limit m number Ticks t = Refuses m number (CommandBreaks m.graph) watch_rules t

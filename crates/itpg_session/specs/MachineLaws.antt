@@ -1,6 +1,20 @@
 -- Laws of the plain machine.
 use Rattle.std.specs.Prelude.{◌≡◌, ◌↔◌, ℕ, ◌≤◌, List, take}
+use Rattle.itpg_base.specs.Graphs.{Graph}
+use Rattle.itpg_session.specs.Replies.{Reply, IsReply, NamesDeclared}
 use Rattle.itpg_session.specs.Machine.{Machine, IsGood, Turn, Replies, opening}
+
+-- on each graph a query text has at most one reply
+abbrev pub OneAsked : Type 0
+OneAsked = (g : Graph) (limit : ℕ) (text : List ℕ) (x y : Reply) → IsReply g limit text x → IsReply g limit text y → x ≡ y
+
+-- and it has one
+abbrev pub SomeAsked : Type 0
+SomeAsked = (g : Graph) (limit : ℕ) (text : List ℕ) → (reply : Reply) × IsReply g limit text reply
+
+-- whose rows are of declared objects
+abbrev pub DeclaredAsked : Type 0
+DeclaredAsked = (g : Graph) (limit : ℕ) (text : List ℕ) (reply : Reply) → IsReply g limit text reply → NamesDeclared g reply
 
 -- from a good machine a line has at most one turn
 abbrev pub OneReply : Type 0

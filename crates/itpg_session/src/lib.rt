@@ -1,19 +1,21 @@
 //! The session: it takes the lines of a script one at a time and writes their replies.
 //!
-//! It stands on the readers of lines and of query texts, on the edits and on the graph. Its definitions (`specs/`) are the
-//! plain machine: the turn that a line may have, that is, its reply and the machine after it. It promises that a step is a
-//! turn of that machine (`Session::step`), and that on a good graph each line has exactly one (`law_of_replies`).
+//! It stands on the readers of lines and of query texts, on the edits and on the graph, on `path_eval`, which works out what
+//! is asked, and on `row_printer`, which writes it. Its definitions (`specs/`) are the plain machine: the turn that a line may
+//! have, that is, its reply and the machine after it. It promises that a step is a turn of that machine (`Session::step`),
+//! that a question is answered by the reply of its line (`Session::ask`), and that on a good graph each line has exactly one
+//! turn (`law_of_replies`).
 #![tactic(auto)]
 
-mod answer;
+mod asking;
 mod laws;
 mod page;
-mod pattern;
 mod replies;
 mod rules;
 mod session;
 #[cfg(test)]
 mod tests;
 
-pub use laws::{law_of_fronts, law_of_replies};
+pub use asking::Asked;
+pub use laws::{law_of_asked, law_of_fronts, law_of_replies};
 pub use session::{Seen, Session, StepFault};

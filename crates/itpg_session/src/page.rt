@@ -1,6 +1,6 @@
-// Text on its way to a sink, gathered without memory.
+// The line of a reply, formed without memory.
 ghost use Rattle.std.specs.Prelude.{◌≡◌, ◌+◌, ◌≤◌, [], ◌++◌, length, take, OnOk, OnErr};
-ghost use Rattle.std.specs.Fmt.{decimal, signed_decimal};
+ghost use Rattle.std.specs.Fmt.{decimal};
 ghost use Rattle.std.specs.Io.KnownBytes.{Appends};
 ghost use Rattle.itpg_base.specs.Outside.{HasCause, AppendsSome};
 
@@ -9,7 +9,7 @@ use itpg_base::{Failed, Sink};
 use std::marker::Model;
 
 /// How many bytes a page holds.
-pub(crate) const PAGE: usize = 4_096;
+pub(crate) const PAGE: usize = 64;
 
 // How many bytes a number is written with at most.
 const MAX_NUMBER: usize = 20;
@@ -28,7 +28,7 @@ impl Model for Page {
 
     ghost view = { λ p. take p.size p.bytes };
 
-    ghost invariant = { λ p. (length p.bytes ≡ 4096) × (p.size ≤ 4096) };
+    ghost invariant = { λ p. (length p.bytes ≡ 64) × (p.size ≤ 64) };
 }
 
 impl Page {
@@ -40,14 +40,6 @@ impl Page {
             bytes: [0; PAGE],
             size: 0,
         }
-    }
-
-    /// How many bytes it has.
-    pub(crate) fn len(&self) -> usize
-        ensures count { result ≡ length self.now }
-        ensures fits { result ≤ PAGE }
-    {
-        self.size
     }
 
     /// Puts text behind what the page has.
@@ -70,26 +62,13 @@ impl Page {
         self.add(digits.format(number).as_bytes());
     }
 
-    /// Puts a moment behind what the page has.
-    pub(crate) fn add_moment(&mut self, moment: i64)
-        requires { length self.old + MAX_NUMBER ≤ PAGE }
-        ensures added { self.new ≡ self.old ++ signed_decimal moment }
-        ensures size { length self.new ≤ length self.old + MAX_NUMBER }
-    {
-        let mut digits = Buffer::new();
-        self.add(digits.format(moment).as_bytes());
-    }
-
-    /// Writes the text of the page, which then has none.
-    pub(crate) fn write<K: Sink>(&mut self, out: &mut K) -> Result<(), Failed>
-        ensures written { OnOk result (Appends (K.held out.old) (K.held out.new) self.old) }
-        ensures none { OnOk result (self.new ≡ []) }
-        ensures some { OnErr result (AppendsSome (K.held out.old) (K.held out.new) self.old) }
+    /// Writes the text of the page.
+    pub(crate) fn write<K: Sink>(&self, out: &mut K) -> Result<(), Failed>
+        ensures written { OnOk result (Appends (K.held out.old) (K.held out.new) self.now) }
+        ensures some { OnErr result (AppendsSome (K.held out.old) (K.held out.new) self.now) }
         ensures cause { HasCause (K.faults out.old) (K.faults out.new) result }
     {
-        out.write(&self.bytes[..self.size])?;
-        self.size = 0;
-        Ok(())
+        out.write(&self.bytes[..self.size])
     }
 }
 

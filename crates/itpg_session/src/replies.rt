@@ -1,13 +1,16 @@
 // The replies to a line.
-ghost use Rattle.std.specs.Prelude.{◌≡◌, ◌+◌, ◌≤◌, ◌++◌, length};
-ghost use Rattle.itpg_session.specs.Texts.{bad_text, refused_text, wide_text, head_text, row_text};
+ghost use Rattle.std.specs.Prelude.{◌≡◌, length, OnOk, OnErr};
+ghost use Rattle.std.specs.Io.KnownBytes.{Appends};
+ghost use Rattle.itpg_base.specs.Outside.{AppendsSome, HasCause};
+ghost use Rattle.relation_rows.specs.Answered.{answered};
+ghost use Rattle.row_printer.specs.Texts.{AreDeclared};
+ghost use Rattle.itpg_session.specs.Texts.{bad_text, refused_text, wide_text, head_text, rows_text};
 
-use crate::page::{PAGE, Page};
-use interval_set::Span;
-use itpg_base::{Name, RuleCode, TextCode};
-
-/// How many bytes a row is written with at most.
-pub(crate) const MAX_ROW: usize = 128;
+use crate::page::Page;
+use itpg_base::{Failed, RuleCode, Sink, TextCode};
+use itpg_graph::Graph;
+use relation_rows::Answer;
+use row_printer::print_rows;
 
 /// The page of `line N refused RULE`.
 #[tactic(auto, unfolding(crate::specs::Texts::refused_text))]
@@ -49,30 +52,33 @@ pub(crate) fn wide(number: u64) -> Page
     page
 }
 
-/// The page of `line N rows K`.
+// The page of `line N rows K`.
 #[tactic(auto, unfolding(crate::specs::Texts::head_text))]
-pub(crate) fn head(number: u64, count: usize) -> Page
+fn head(number: u64, count: u64) -> Page
     ensures { result ≡ head_text number count }
 {
     let mut page = Page::new();
     page.add(b"line ");
     page.add_number(number);
     page.add(b" rows ");
-    page.add_number(count as u64);
+    page.add_number(count);
     page.add(b"\n");
     page
 }
 
-/// Puts a row behind what the page has.
-#[tactic(auto, unfolding(crate::specs::Texts::row_text))]
-pub(crate) fn add_row(page: &mut Page, name: &Name, span: &Span)
-    requires { length page.old + MAX_ROW ≤ PAGE }
-    ensures { page.new ≡ page.old ++ row_text name.now span.now }
+/// Writes the rows of an answer behind `line N rows K`.
+pub(crate) fn write_rows<K: Sink>(
+    graph: &Graph,
+    number: u64,
+    answer: &Answer,
+    out: &mut K,
+) -> Result<(), Failed>
+    requires declared { AreDeclared (length graph.now.objects) (answered answer.now) }
+    ensures written { OnOk result (Appends (K.held out.old) (K.held out.new) (rows_text graph.now number (answered answer.now))) }
+    ensures some { OnErr result (AppendsSome (K.held out.old) (K.held out.new) (rows_text graph.now number (answered answer.now))) }
+    ensures cause { HasCause (K.faults out.old) (K.faults out.new) result }
 {
-    page.add(name.bytes());
-    page.add(b" ");
-    page.add_moment(span.from());
-    page.add(b"..");
-    page.add_moment(span.to());
-    page.add(b"\n");
+    head(number, answer.rows()).write(out)?;
+    print_rows(graph, answer, b"", out)?;
+    Ok(())
 }

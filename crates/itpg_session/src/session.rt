@@ -2,21 +2,22 @@
 ghost use Rattle.std.specs.Prelude.{◌≡◌, ◌≤◌, IfOk, OnOk, OnErr, IsErrOf};
 ghost use Rattle.std.specs.Io.KnownBytes.{Appends, Keeps};
 ghost use Rattle.itpg_base.specs.Outside.{AppendsSome, HasCause, Rose};
+ghost use Rattle.itpg_session.specs.Replies.{Reply, reply_of, IsReply, NamesDeclared};
 ghost use Rattle.itpg_session.specs.Machine.{opening, Replies};
 ghost use Rattle.itpg_session.specs.Steps.{Stepped, StepsWithin, LineWants};
 
-use crate::answer::{count_rows, write_answer};
+use crate::asking::{Asked, reply_to};
+use crate::laws::law_of_asked;
 use crate::page::Page;
-use crate::pattern::{Pattern, pattern_of};
-use crate::replies::{bad, refused, wide};
-use crate::rules::{broken_by_command, broken_by_query};
+use crate::replies::{bad, refused, wide, write_rows};
+use crate::rules::{broken_by_command, broken_by_watch};
 use edit_reader::{Line, read_line};
 use itpg_base::{Failed, Limits, RuleCode, Sink, TextCode};
 use itpg_edit::{Edit, EditFault, apply};
 use itpg_graph::Graph;
 use match_parser::{QueryFault, read_query};
-use path_ast::Query;
-use std::alloc::Global;
+use relation_rows::Answer;
+use std::alloc::{AllocError, Global};
 use std::marker::Model;
 
 /// What is seen of a reply.
@@ -83,6 +84,31 @@ impl Session {
         &self.graph
     }
 
+    /// The reply to a question with this query text, as a value. The session stays as it is.
+    ///
+    /// ```text
+    ///     MATCH (x:Person)         Rows: the moments at which each of them exists
+    ///     MATCH (x)-/N*/-(y)       Refused(Later): a repetition stands in it
+    ///     MATCH (x                 Bad(Text)
+    /// ```
+    ///
+    /// `Bad` comes exactly with the first fault of the text; the faults of a script line have no part in it. Of a text that
+    /// reads as a query, `Refused` comes exactly with the first rule that asking it breaks, `Wide` exactly where the relation
+    /// of some worked member of its path has more rows than the limit, and else `Rows` with its answer. Each object of the
+    /// rows was declared in the graph.
+    ///
+    /// # Errors
+    ///
+    /// For want of memory.
+    pub fn ask(&self, text: &[u8]) -> Result<Asked, AllocError>
+        ensures reply { IfOk result (λ asked. IsReply self.now.machine.graph self.now.limit text.now (reply_of asked)) }
+        ensures only { IfOk result (λ asked. (reply : Reply) → IsReply self.now.machine.graph self.now.limit text.now reply → reply_of asked ≡ reply) }
+        ensures declared { IfOk result (λ asked. NamesDeclared self.now.machine.graph (reply_of asked)) }
+    {
+        law_of_asked();
+        reply_to(self.alloc, &self.graph, self.limits.max_rows(), text)
+    }
+
     /// Takes a line without its LF, which has the number `no`, and writes its reply.
     ///
     /// Of a line of more than 65,538 bytes the first so many are enough: they have the same reply.
@@ -106,15 +132,14 @@ impl Session {
 
 impl Session {
     ghost use Rattle.std.specs.Prelude.{Ok};
-    ghost use Rattle.itpg_edit.specs.Rules.{NoneOf};
     ghost use Rattle.itpg_edit.specs.Next.{Excuses};
     ghost use Rattle.itpg_edit.specs.Places.{HasMoments};
     ghost use Rattle.edit_reader.specs.Readings.{reading_of, Changes};
     ghost use Rattle.edit_reader.specs.Moments.{AsksOfMoments};
-    ghost use Rattle.path_ast.specs.Terms.{query_term};
-    ghost use Rattle.itpg_session.specs.Questions.{IsPattern};
-    ghost use Rattle.itpg_session.specs.Rules.{AskBreaks, CommandBreaks, query_rules, watch_rules};
-    ghost use Rattle.itpg_session.specs.Machine.{Answers, AnswersQuery, WatchesQuery, OfText, Refuses, bad_turn, refused_turn};
+    ghost use Rattle.itpg_session.specs.Rules.{CommandBreaks, watch_rules};
+    ghost use Rattle.relation_rows.specs.Answered.{answered};
+    ghost use Rattle.itpg_session.specs.Replies.{Rows};
+    ghost use Rattle.itpg_session.specs.Machine.{Answers, AsksText, WatchesText, Refuses, bad_turn, refused_turn, wide_turn, rows_turn, asked_turn};
     ghost use Rattle.itpg_session.specs.Steps.{IsTaken, WantsMemory, Fails};
 
     // Takes a line.
@@ -140,7 +165,7 @@ impl Session {
         match line {
             Line::Blank => Ok(Seen::Quiet),
             Line::Edit(edit) => self.edit(number, edit, out),
-            Line::Ask(text) => self.ask(number, text, out),
+            Line::Ask(text) => self.answer_text(number, text, out),
             Line::Watch(_, text) => self.watch(number, text, out),
             Line::Show(_) => self.command(number, out),
             Line::Unwatch(_) => self.command(number, out),
@@ -177,46 +202,44 @@ impl Session {
     }
 
     // Answers a query text.
-    fn ask<K: Sink>(&self, number: u64, text: &[u8], out: &mut K) -> Result<Seen, StepFault>
-        ensures { IsTaken (λ turn. OfText self.now.machine number text.now (AnswersQuery self.now.limit self.now.machine number) turn) (Unit {0}) (K.held out.old) (K.held out.new) (K.faults out.old) (K.faults out.new) self.now self.now result }
-    {
-        match &read_query(self.alloc, text) {
-            Ok(query) => self.ask_query(number, query, out),
-            Err(QueryFault::Bad(code)) => self.fault(number, *code, out),
-            Err(QueryFault::Memory) => Err(StepFault::Memory),
-        }
-    }
-
-    // Answers a query.
-    fn ask_query<K: Sink>(&self, number: u64, query: &Query, out: &mut K) -> Result<Seen, StepFault>
-        ensures { IsTaken (λ turn. AnswersQuery self.now.limit self.now.machine number (query_term query.now) turn) ⊥ (K.held out.old) (K.held out.new) (K.faults out.old) (K.faults out.new) self.now self.now result }
-    {
-        match broken_by_query(&self.graph, query) {
-            Some(rule) => self.refuse(number, rule, out),
-            None => match &pattern_of(query) {
-                Some(pattern) => self.show(number, query, pattern, out),
-                None => self.refuse(number, RuleCode::Later, out),
-            },
-        }
-    }
-
-    // Answers a query that breaks no rule.
-    fn show<K: Sink>(
+    fn answer_text<K: Sink>(
         &self,
         number: u64,
-        query: &Query,
-        pattern: &Pattern,
+        text: &[u8],
         out: &mut K,
     ) -> Result<Seen, StepFault>
-        requires pattern { IsPattern (query_term query.now) pattern.now.label }
-        requires unbroken { NoneOf (AskBreaks self.now.machine.graph (query_term query.now)) query_rules }
-        ensures { IsTaken (λ turn. AnswersQuery self.now.limit self.now.machine number (query_term query.now) turn) ⊥ (K.held out.old) (K.held out.new) (K.faults out.old) (K.faults out.new) self.now self.now result }
+        ensures { IsTaken (λ turn. AsksText self.now.limit self.now.machine number text.now turn) (Unit {0}) (K.held out.old) (K.held out.new) (K.faults out.old) (K.faults out.new) self.now self.now result }
     {
-        let count = count_rows(&self.graph, pattern);
-        if count > self.limits.max_rows() as usize {
-            return self.tell(wide(number), out);
+        match &self.ask(text) {
+            Ok(asked) => self.write_asked(number, asked, out),
+            Err(AllocError) => Err(StepFault::Memory),
         }
-        match write_answer(&self.graph, pattern, number, count, out) {
+    }
+
+    // Writes the reply to a question.
+    fn write_asked<K: Sink>(
+        &self,
+        number: u64,
+        asked: &Asked,
+        out: &mut K,
+    ) -> Result<Seen, StepFault>
+        requires { NamesDeclared self.now.machine.graph (reply_of asked.now) }
+        ensures { IsTaken (λ turn. turn ≡ asked_turn self.now.machine number (reply_of asked.now)) ⊥ (K.held out.old) (K.held out.new) (K.faults out.old) (K.faults out.new) self.now self.now result }
+    {
+        match asked {
+            Asked::Rows(answer) => self.show(number, answer, out),
+            Asked::Wide => self.too_wide(number, out),
+            Asked::Bad(code) => self.fault(number, *code, out),
+            Asked::Refused(rule) => self.refuse(number, *rule, out),
+        }
+    }
+
+    // Writes the rows of an answer.
+    fn show<K: Sink>(&self, number: u64, answer: &Answer, out: &mut K) -> Result<Seen, StepFault>
+        requires { NamesDeclared self.now.machine.graph (Rows (answered answer.now)) }
+        ensures { IsTaken (λ turn. turn ≡ rows_turn self.now.machine number (answered answer.now)) ⊥ (K.held out.old) (K.held out.new) (K.faults out.old) (K.faults out.new) self.now self.now result }
+    {
+        match write_rows(&self.graph, number, answer, out) {
             Ok(()) => Ok(Seen::Answered),
             Err(Failed) => Err(StepFault::Write),
         }
@@ -224,26 +247,13 @@ impl Session {
 
     // Refuses to watch a query text.
     fn watch<K: Sink>(&self, number: u64, text: &[u8], out: &mut K) -> Result<Seen, StepFault>
-        ensures { IsTaken (λ turn. OfText self.now.machine number text.now (WatchesQuery self.now.machine number) turn) (Unit {0}) (K.held out.old) (K.held out.new) (K.faults out.old) (K.faults out.new) self.now self.now result }
+        ensures { IsTaken (λ turn. WatchesText self.now.machine number text.now turn) (Unit {0}) (K.held out.old) (K.held out.new) (K.faults out.old) (K.faults out.new) self.now self.now result }
     {
         match &read_query(self.alloc, text) {
-            Ok(query) => self.watch_query(number, query, out),
+            Ok(query) => self.refuse(number, broken_by_watch(&self.graph, query), out),
             Err(QueryFault::Bad(code)) => self.fault(number, *code, out),
             Err(QueryFault::Memory) => Err(StepFault::Memory),
         }
-    }
-
-    // Refuses to watch a query.
-    fn watch_query<K: Sink>(
-        &self,
-        number: u64,
-        query: &Query,
-        out: &mut K,
-    ) -> Result<Seen, StepFault>
-        ensures { IsTaken (λ turn. WatchesQuery self.now.machine number (query_term query.now) turn) ⊥ (K.held out.old) (K.held out.new) (K.faults out.old) (K.faults out.new) self.now self.now result }
-    {
-        let rule = broken_by_query(&self.graph, query).unwrap_or(RuleCode::Later);
-        self.refuse(number, rule, out)
     }
 
     // Refuses another command on watches.
@@ -267,22 +277,20 @@ impl Session {
         self.tell(bad(number, code), out)
     }
 
+    // Writes that a query is too wide.
+    fn too_wide<K: Sink>(&self, number: u64, out: &mut K) -> Result<Seen, StepFault>
+        ensures { IsTaken (λ turn. turn ≡ wide_turn self.now.machine number) ⊥ (K.held out.old) (K.held out.new) (K.faults out.old) (K.faults out.new) self.now self.now result }
+    {
+        self.tell(wide(number), out)
+    }
+
     // Writes a page that tells of a line that failed.
     fn tell<K: Sink>(&self, page: Page, out: &mut K) -> Result<Seen, StepFault>
         ensures { Fails self.now.machine page (λ turns. IsTaken turns ⊥ (K.held out.old) (K.held out.new) (K.faults out.old) (K.faults out.new) self.now self.now result) }
     {
-        match write_page(page, out) {
+        match page.write(out) {
             Ok(()) => Ok(Seen::Refused),
             Err(Failed) => Err(StepFault::Write),
         }
     }
-}
-
-// Writes a page.
-fn write_page<K: Sink>(mut page: Page, out: &mut K) -> Result<(), Failed>
-    ensures written { OnOk result (Appends (K.held out.old) (K.held out.new) page) }
-    ensures some { OnErr result (AppendsSome (K.held out.old) (K.held out.new) page) }
-    ensures cause { HasCause (K.faults out.old) (K.faults out.new) result }
-{
-    page.write(out)
 }

@@ -1,9 +1,23 @@
-// Steps of a session.
+// Steps of a session, and questions asked of it. The replies were worked out by hand.
 use super::*;
-use itpg_base::{Limits, MemSink};
+use band_normal::{Band, End};
+use itpg_base::{Limits, MemSink, ObjNo, RuleCode, TextCode};
+use relation_rows::{Answer, Row};
+use std::alloc::Global;
 use std::test::Fail;
 
-const LINES: [&[u8]; 14] = [
+// A session that took these lines.
+fn session_of(alloc: Global, max_rows: u32, lines: &[&[u8]]) -> Result<Session, Fail> {
+    let limits = Limits::new(max_rows).ok_or("limit")?;
+    let mut session = Session::new(alloc, limits);
+    let mut sink = MemSink::new(vec![in alloc; 0; 0]?, 5, vec![in alloc; 0; 512]?);
+    for line in lines {
+        let _ = session.step(1, line, &mut sink);
+    }
+    Ok(session)
+}
+
+const LINES: [&[u8]; 15] = [
     b"graph g 0 100",
     b"node a Person\r",
     b"live a 0 9",
@@ -13,14 +27,15 @@ const LINES: [&[u8]; 14] = [
     b"ask MATCH (x)",
     b"ask MATCH (x:City) ON g",
     b"ask MATCH (x) ON h",
-    b"ask MATCH (x)-/N/-(y)",
+    b"ask MATCH (x)-/N*/-(y)",
     b"ask MATCH (x",
     b"watch w MATCH (x)",
     b"live a 5 2",
     b"live a 5 x",
+    b"ask MATCH (x)-/P/{time < 0}/-()",
 ];
 
-const SEEN: [Seen; 14] = [
+const SEEN: [Seen; 15] = [
     Seen::Quiet,
     Seen::Quiet,
     Seen::Quiet,
@@ -29,6 +44,7 @@ const SEEN: [Seen; 14] = [
     Seen::Quiet,
     Seen::Refused,
     Seen::Answered,
+    Seen::Refused,
     Seen::Refused,
     Seen::Refused,
     Seen::Refused,
@@ -39,21 +55,67 @@ const SEEN: [Seen; 14] = [
 
 const WRITTEN: &[u8] =
     b"line 4 rows 1\na 0..9\nline 7 wide\nline 8 rows 0\nline 9 refused graphname\n\
-line 10 refused later\nline 11 bad text\nline 12 refused later\nline 13 refused backwards\nline 14 bad text\n";
+line 10 refused later\nline 11 bad text\nline 12 refused later\nline 13 refused backwards\nline 14 bad text\n\
+line 15 wide\n";
 
 #[test]
 fn each_line_has_its_reply(rt: HostRuntime) -> Result<(), Fail> {
     let alloc = rt.alloc();
-    let Some(limits) = Limits::new(1) else {
-        return Ok(());
-    };
-    let mut session = Session::new(alloc, limits);
+    let mut session = session_of(alloc, 1, &[])?;
     let mut sink = MemSink::new(vec![in alloc; 0; 0]?, 5, vec![in alloc; 0; 512]?);
-    for index in 0..14 {
+    for index in 0..15 {
         let seen = session.step(index as u64 + 1, LINES[index], &mut sink);
         assert_eq!(rt; seen, Ok(SEEN[index]), "line {}", index + 1);
     }
     assert_eq!(rt; sink.held(), WRITTEN);
     assert_eq!(rt; session.graph().declared(), 1);
+    Ok(())
+}
+
+#[test]
+fn a_question_gives_its_rows(rt: HostRuntime) -> Result<(), Fail> {
+    let lines: [&[u8]; 8] = [
+        b"graph g 0 100",
+        b"node a Person",
+        b"node b Person",
+        b"live a 0 20",
+        b"live b 5 30",
+        b"edge m meets a b",
+        b"live m 5 12",
+        b"ask MATCH (x)-/FWD/:meets/FWD/-(y)",
+    ];
+    let session = session_of(rt.alloc(), 100, &lines)?;
+    let Asked::Rows(answer) = session.ask(b"MATCH (x)-/FWD/:meets/FWD/-(y)")? else {
+        return Err(Fail::from("no rows"));
+    };
+    let Answer::Pairs(relation) = &answer else {
+        return Err(Fail::from("rows of one time"));
+    };
+    let at_one_moment = Row {
+        source: ObjNo(0),
+        target: ObjNo(1),
+        band: Band {
+            from: 5,
+            to: 12,
+            low: End::Moving(0),
+            high: End::Moving(0),
+        },
+    };
+    assert_eq!(rt; relation.row(0), Some(at_one_moment));
+    assert_eq!(rt; relation.row(1), None);
+    Ok(())
+}
+
+#[test]
+fn a_question_has_no_faults_of_a_line(rt: HostRuntime) -> Result<(), Fail> {
+    let alloc = rt.alloc();
+    let session = session_of(alloc, 1, &[b"graph g 0 100"])?;
+    let marks = vec![in alloc; b'+'; 4097]?;
+    assert!(rt; matches!(&session.ask(&marks)?, Asked::Bad(TextCode::Tokens)));
+    let mut text = vec![in alloc; b'('; 65]?;
+    text.push(b'\'')?;
+    assert!(rt; matches!(&session.ask(&text)?, Asked::Bad(TextCode::Deep)));
+    let repeated = session.ask(b"MATCH (x)-/N*/-(y)")?;
+    assert!(rt; matches!(&repeated, Asked::Refused(RuleCode::Later)));
     Ok(())
 }

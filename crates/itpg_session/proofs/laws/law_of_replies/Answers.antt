@@ -12,10 +12,12 @@ returns-clause-one c = one_reply (record {
   good_next = c.law_of_next.ensures.good;
   one_next = c.law_of_next.ensures.one;
   some_next = c.law_of_next.ensures.some;
-  one_query = c.law_of_queries.ensures.one;
-  one_fault = c.law_of_queries.ensures.first;
-  apart = c.law_of_queries.ensures.apart;
-  some_query = c.law_of_queries.ensures.some;
+  texts = record {
+    one_query = c.law_of_queries.ensures.one;
+    one_fault = c.law_of_queries.ensures.first;
+    apart = c.law_of_queries.ensures.apart;
+    some_query = c.law_of_queries.ensures.some;
+  };
 })
 
 pub returns-clause-some : goal.returns-clause-some
@@ -28,10 +30,12 @@ returns-clause-some c = some_reply (record {
   good_next = c.law_of_next.ensures.good;
   one_next = c.law_of_next.ensures.one;
   some_next = c.law_of_next.ensures.some;
-  one_query = c.law_of_queries.ensures.one;
-  one_fault = c.law_of_queries.ensures.first;
-  apart = c.law_of_queries.ensures.apart;
-  some_query = c.law_of_queries.ensures.some;
+  texts = record {
+    one_query = c.law_of_queries.ensures.one;
+    one_fault = c.law_of_queries.ensures.first;
+    apart = c.law_of_queries.ensures.apart;
+    some_query = c.law_of_queries.ensures.some;
+  };
 })
 
 pub returns-clause-good : goal.returns-clause-good
@@ -44,10 +48,12 @@ returns-clause-good c = good_reply (record {
   good_next = c.law_of_next.ensures.good;
   one_next = c.law_of_next.ensures.one;
   some_next = c.law_of_next.ensures.some;
-  one_query = c.law_of_queries.ensures.one;
-  one_fault = c.law_of_queries.ensures.first;
-  apart = c.law_of_queries.ensures.apart;
-  some_query = c.law_of_queries.ensures.some;
+  texts = record {
+    one_query = c.law_of_queries.ensures.one;
+    one_fault = c.law_of_queries.ensures.first;
+    apart = c.law_of_queries.ensures.apart;
+    some_query = c.law_of_queries.ensures.some;
+  };
 })
 
 pub returns-clause-opening : goal.returns-clause-opening

@@ -1,5 +1,5 @@
 use Rattle.std.proofs.Common.{refl}
-use Rattle.itpg_session.proofs.Asking.{blank_answers, asks_answers, watches_answers, shows_answers, unwatches_answers, ticks_answers}
+use Rattle.itpg_session.proofs.Answering.{blank_answers, asks_answers, watches_answers, shows_answers, unwatches_answers, ticks_answers}
 use Rattle.itpg_session.proofs.Taken.{nothing_taken, taken_as}
 use Rattle.itpg_session.proofs.session.Session.answer.Goals as goal
 
@@ -7,7 +7,7 @@ pub returns-in-Blank : goal.returns-in-Blank
 returns-in-Blank g c = rw (c.in-Blank.is) (nothing_taken _ _ c.args.self.now c.args.self.now refl (blank_answers c.args.self.now.limit c.args.self.now.machine c.args.number))
 
 pub returns-in-Ask : goal.returns-in-Ask
-returns-in-Ask g c = rw (c.in-Ask.is) (taken_as (asks_answers c.args.self.now.limit c.args.self.now.machine c.args.number _) (λ u. u) c.ask.result c.ask.ensures)
+returns-in-Ask g c = rw (c.in-Ask.is) (taken_as (asks_answers c.args.self.now.limit c.args.self.now.machine c.args.number _) (λ u. u) c.answer_text.result c.answer_text.ensures)
 
 pub returns-in-Watch : goal.returns-in-Watch
 returns-in-Watch g c = rw (c.in-Watch.is) (taken_as (watches_answers c.args.self.now.limit c.args.self.now.machine c.args.number _ _) (λ u. u) c.watch.result c.watch.ensures)

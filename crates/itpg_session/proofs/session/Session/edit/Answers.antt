@@ -5,7 +5,7 @@ use Rattle.itpg_edit.specs.Next.{Makes, Excuses}
 use Rattle.edit_reader.specs.Readings.{Changes}
 use Rattle.itpg_session.specs.Machine.{Standing, Answers}
 use Rattle.itpg_session.specs.Steps.{IsTaken, WantsMemory}
-use Rattle.itpg_session.proofs.Asking.{edit_made}
+use Rattle.itpg_session.proofs.Answering.{edit_made}
 use Rattle.itpg_session.proofs.Taken.{nothing_taken}
 use Rattle.itpg_session.proofs.session.Session.edit.Goals as goal
 

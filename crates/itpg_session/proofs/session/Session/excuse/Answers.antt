@@ -1,6 +1,6 @@
 use Rattle.std.proofs.Common.{subst}
 use Rattle.itpg_edit.specs.Next.{Excuses}
-use Rattle.itpg_session.proofs.Asking.{edit_refused}
+use Rattle.itpg_session.proofs.Answering.{edit_refused}
 use Rattle.itpg_session.proofs.Taken.{taken_as}
 use Rattle.itpg_session.proofs.session.Session.excuse.Goals as goal
 

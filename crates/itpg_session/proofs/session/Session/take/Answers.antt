@@ -1,7 +1,7 @@
 use Rattle.std.proofs.Common.{subst}
 use Rattle.edit_reader.specs.Readings.{reading_of, told}
 use Rattle.edit_reader.specs.Lines.{LineOf}
-use Rattle.itpg_session.proofs.Asking.{replies_read, replies_bad}
+use Rattle.itpg_session.proofs.Answering.{replies_read, replies_bad}
 use Rattle.itpg_session.proofs.Taken.{taken_as}
 use Rattle.itpg_session.proofs.session.Session.take.Goals as goal
 

@@ -1,0 +1,34 @@
+-- A text that is written in two parts, and results.
+use Rattle.std.proofs.Common.{◌≡◌, List, ℕ, Option, ◌++◌, sym, ap, ◌∙◌, append_assoc}
+use Rattle.std.specs.Prelude.{Result, Ok, Err, IfOk, OnErr}
+use Rattle.std.specs.Io.KnownBytes.{Appends}
+use Rattle.std.proofs.KnownBytes.{Appends-trans}
+use Rattle.itpg_base.specs.Outside.{AppendsSome}
+
+-- a front part of the first part
+pub some_first : (a b : Option (List ℕ)) (xs ys : List ℕ) → AppendsSome a b xs → AppendsSome a b (xs ++ ys)
+some_first a b xs ys s = record {
+  taken = s.taken;
+  rest = s.rest ++ ys;
+  split = sym (append_assoc s.taken s.rest ys) ∙ ap (λ t. t ++ ys) s.split;
+  appends = s.appends;
+}
+
+-- the first part, and a front part of the second
+pub some_second : (a b c : Option (List ℕ)) (xs ys : List ℕ) → Appends a b xs → AppendsSome b c ys → AppendsSome a c (xs ++ ys)
+some_second a b c xs ys w s = record {
+  taken = xs ++ s.taken;
+  rest = s.rest;
+  split = append_assoc xs s.taken s.rest ∙ ap (λ t. xs ++ t) s.split;
+  appends = Appends-trans a b c xs s.taken w s.appends;
+}
+
+-- what holds at all holds on an error
+pub on_err : {T E : Type 0} (r : Result T E) (P : Type 0) → P → OnErr r P
+on_err (Ok x) P p = tt
+on_err (Err e) P p = p
+
+-- what follows for each value follows for that of a result
+pub if_ok : {T E : Type 0} {P Q : T → Type 0} → ((x : T) → P x → Q x) → (r : Result T E) → IfOk r P → IfOk r Q
+if_ok to (Ok x) p = to x p
+if_ok to (Err e) p = tt
