@@ -1,0 +1,686 @@
+#!/usr/bin/env python3
+"""A second opinion on the scripts beside it: the plain machine, worked out moment by moment.
+
+    model.py SCRIPT [LIMIT]     writes what the script must write
+    model.py                    tries each script of this folder against its NAME.out and NAME.status
+
+It shares nothing with itpg. A relation is a set of quadruples, made by the meaning of its path at every moment of the
+horizon; rows are made from it and then tried against the five conditions of a normal list; wide is told by the rows of each
+worked member. So it says nothing of horizons longer than MOST_MOMENTS. Scripts with words are left out. A question with a
+repetition, and each command on watches, is `later`, as long as the program answers so.
+"""
+import functools
+import itertools
+import pathlib
+import re
+import sys
+
+MOST_MOMENTS = 20_000
+BOUND = 10**12
+ALL = None  # the scope of all objects; another scope is a set of labels
+
+sys.setrecursionlimit(20_000)
+
+
+class Fault(Exception):
+    """A code word, and whether the line is refused or bad."""
+
+    def __init__(self, word, refused=False):
+        self.reply = f"{'refused' if refused else 'bad'} {word}"
+
+
+class TooLong(Exception):
+    """The horizon is too long for this model."""
+
+
+def refuse(word, broken):
+    if broken:
+        raise Fault(word, refused=True)
+
+
+# Tokens
+
+TOKEN = re.compile(rb"[ \t]*(?:([A-Za-z][A-Za-z0-9_]*)|(-?[0-9]+)|'([ -&(-~]*)'|(-/|/-|>=|[(){}\[\]:,+*/?=<_]))")
+
+
+def tokens_of(line):
+    """The tokens of the bytes as pairs of a kind and a text, and how they end: None, 'byte' or 'text'."""
+    found, at = [], 0
+    while line[at:].strip(b" \t"):
+        match = TOKEN.match(line, at)
+        if not match:
+            rest = line[at:].lstrip(b" \t")
+            open_quote = rest[:1] == b"'" and re.fullmatch(rb"[ -&(-~]*", rest[1:])
+            return found, "text" if open_quote else "byte"
+        kind = ("word", "number", "quoted", "mark")[match.lastindex - 1]
+        found.append((kind, match.group(match.lastindex).decode()))
+        at = match.end()
+    return found, None
+
+
+def beyond(number):
+    return abs(int(number)) > BOUND
+
+
+# Query texts: paths and tests are tuples that begin with their name
+
+NODE_EXISTS = ("and", ("node",), ("exists",))
+AXES = {"FWD": "F", "BWD": "B", "NEXT": "N", "PREV": "P"}
+
+
+class Reader:
+    """Reads tokens by the grammar, one method for each rule."""
+
+    def __init__(self, tokens):
+        self.tokens, self.at, self.ranges = tokens, 0, []
+
+    def peek(self, ahead=0):
+        return self.tokens[self.at + ahead] if self.at + ahead < len(self.tokens) else (None, None)
+
+    def take(self, kind, text=None):
+        got = self.peek()
+        if got[0] != kind or text is not None and got[1] != text:
+            raise Fault("text")
+        self.at += 1
+        return got[1]
+
+    def mark(self, text):
+        if self.peek() != ("mark", text):
+            return False
+        self.at += 1
+        return True
+
+    def word(self, *texts):
+        kind, text = self.peek()
+        if kind != "word" or text not in texts:
+            return None
+        self.at += 1
+        return text
+
+    def query(self):
+        self.take("word", "MATCH")
+        name, path = self.pattern()
+        names = [name]
+        while self.mark("-/"):
+            step = self.alt()
+            self.take("mark", "/-")
+            name, test = self.pattern()
+            names.append(name)
+            path = ("seq", ("seq", path, step), test)
+        graph = self.take("word") if self.word("ON") else None
+        if self.at < len(self.tokens):
+            raise Fault("text")
+        return names, path, graph
+
+    def pattern(self):
+        self.take("mark", "(")
+        name = self.take("word") if self.peek()[0] == "word" else None
+        test = NODE_EXISTS
+        if self.mark(":"):
+            test = ("and", test, ("label", self.take("word")))
+        if self.mark("{"):
+            test = ("and", test, self.either())
+            self.take("mark", "}")
+        self.take("mark", ")")
+        return name, ("test", test)
+
+    def alt(self):
+        path = self.seq()
+        while self.mark("+"):
+            path = ("alt", path, self.seq())
+        return path
+
+    def seq(self):
+        path = self.rep()
+        while self.mark("/"):
+            path = ("seq", path, self.rep())
+        return path
+
+    def rep(self):
+        path = self.atom()
+        if self.mark("*"):
+            return ("repeat", path)
+        if self.mark("["):
+            least = self.count()
+            self.take("mark", ",")
+            if not self.mark("_"):
+                self.ranges.append((least, self.count()))
+            self.take("mark", "]")
+            return ("repeat", path)
+        return path
+
+    def count(self):
+        number = self.take("number")
+        if number.startswith("-"):
+            raise Fault("text")
+        return int(number)
+
+    def atom(self):
+        axis = self.word(*AXES, *AXES.values())
+        if axis in AXES:
+            return ("seq", (AXES[axis],), ("test", ("exists",)))
+        if axis:
+            return (axis,)
+        if self.mark(":"):
+            return ("test", ("label", self.take("word")))
+        if self.mark("{"):
+            test = self.either()
+            self.take("mark", "}")
+            return ("test", test)
+        if self.mark("?"):
+            return ("test", ("cond", self.bracketed(self.alt)))
+        return self.bracketed(self.alt)
+
+    def bracketed(self, rule):
+        self.take("mark", "(")
+        inner = rule()
+        self.take("mark", ")")
+        return inner
+
+    def either(self):
+        test = self.both()
+        while self.word("OR"):
+            test = ("or", test, self.both())
+        return test
+
+    def both(self):
+        test = self.unary()
+        while self.mark(",") or self.word("AND"):
+            test = ("and", test, self.unary())
+        return test
+
+    def unary(self):
+        return ("not", self.prim()) if self.word("NOT") else self.prim()
+
+    def prim(self):
+        plain = self.word("NODE", "EDGE", "EXISTS")
+        if plain:
+            return (plain.lower(),)
+        if self.word("time"):
+            return self.bound()
+        if self.mark(":"):
+            return ("label", self.take("word"))
+        if self.mark("?"):
+            return ("cond", self.bracketed(self.alt))
+        if self.peek() == ("mark", "("):
+            return self.bracketed(self.either)
+        if self.peek()[1] in ("NOT", "AND", "OR"):
+            raise Fault("text")
+        prop = self.take("word")
+        self.take("mark", "=")
+        return ("value", prop, self.take("quoted"))
+
+    def bound(self):
+        relation = next((mark for mark in ("<", "=", ">=") if self.mark(mark)), None)
+        if not relation:
+            raise Fault("text")
+        number = int(self.take("number"))
+        if relation == "<":
+            return ("before", number)
+        if relation == ">=":
+            return ("not", ("before", number))
+        return ("and", ("not", ("before", number)), ("before", number + 1))
+
+
+def terms(term):
+    inner = sum(terms(part) for part in term[1:] if isinstance(part, tuple))
+    return inner + (term[0] != "test")
+
+
+def repeats(term):
+    return term[0] == "repeat" or any(repeats(part) for part in term[1:] if isinstance(part, tuple))
+
+
+def read_query(tokens):
+    """The query, or its first fault behind those of the line."""
+    depth = 0
+    for _, text in (token for token in tokens if token[0] == "mark"):
+        depth += (text in "([{") - (text in ")]}")
+        if depth > 64:
+            raise Fault("deep")
+    reader = Reader(tokens)
+    names, path, graph = reader.query()
+    fault_of_parts(tokens)
+    if any(least > most for least, most in reader.ranges):
+        raise Fault("range")
+    first, last = names[0], names[-1] if len(names) > 1 else None
+    if any(names[1:-1]) or not (first or last) or first and first == last:
+        raise Fault("names")
+    if terms(path) > 1024:
+        raise Fault("terms")
+    return bool(first), bool(last), path, graph
+
+
+def fault_of_parts(tokens):
+    if any(kind == "number" and beyond(text) for kind, text in tokens):
+        raise Fault("number")
+    if any(kind in ("word", "quoted") and len(text) > 64 for kind, text in tokens):
+        raise Fault("name")
+
+
+# The graph, moment by moment
+
+class Object:
+    def __init__(self, name, label, ends=None):
+        self.name, self.label, self.ends = name, label, ends
+        self.stands, self.lives, self.values = True, set(), {}
+
+
+def runs(moments):
+    """The spans of consecutive moments, rising."""
+    found = []
+    for t in sorted(moments):
+        if found and found[-1][1] == t - 1:
+            found[-1][1] = t
+        else:
+            found.append([t, t])
+    return [tuple(span) for span in found]
+
+
+def value_runs(values):
+    return sum(len(runs(t for t in values if values[t] == value)) for value in set(values.values()))
+
+
+class Graph:
+    def __init__(self):
+        self.name, self.horizon, self.objects = None, None, []
+
+    def moments(self):
+        low, high = self.horizon
+        if high - low >= MOST_MOMENTS:
+            raise TooLong
+        return range(low, high + 1)
+
+    def standing(self):
+        return [o for o, it in enumerate(self.objects) if it.stands]
+
+    def find(self, name):
+        return next((o for o in self.standing() if self.objects[o].name == name), None)
+
+    def known(self, name):
+        number = self.find(name)
+        refuse("unknown", number is None)
+        return self.objects[number]
+
+    def span(self, low, high):
+        refuse("backwards", low > high)
+        refuse("horizon", low < self.horizon[0] or high > self.horizon[1])
+        if high - low >= MOST_MOMENTS:
+            raise TooLong
+        return set(range(low, high + 1))
+
+    def edges_at(self, node):
+        return [it for it in self.objects if it.stands and it.ends
+                and node in (self.objects[end] for end in it.ends)]
+
+    def graph(self, name, low, high):
+        refuse("again", self.name is not None)
+        refuse("backwards", low > high)
+        self.name, self.horizon = name, (low, high)
+
+    def node(self, name, label):
+        refuse("taken", self.find(name) is not None)
+        refuse("full", len(self.objects) >= 200_000)
+        self.objects.append(Object(name, label))
+
+    def edge(self, name, label, source, target):
+        refuse("taken", self.find(name) is not None)
+        ends = (self.find(source), self.find(target))
+        refuse("unknown", None in ends)
+        refuse("kind", any(self.objects[end].ends for end in ends))
+        refuse("full", len(self.objects) >= 200_000)
+        self.objects.append(Object(name, label, ends))
+
+    def live(self, name, low, high):
+        it = self.known(name)
+        span = self.span(low, high)
+        refuse("ends", it.ends and not all(span <= self.objects[end].lives for end in it.ends))
+        refuse("full", len(runs(it.lives | span)) > 4096)
+        it.lives |= span
+
+    def gone(self, name, low, high):
+        it = self.known(name)
+        span = self.span(low, high)
+        refuse("held", not it.ends and any(edge.lives & span for edge in self.edges_at(it)))
+        left = {prop: {t: v for t, v in values.items() if t not in span} for prop, values in it.values.items()}
+        refuse("full", len(runs(it.lives - span)) > 4096 or any(value_runs(v) > 4096 for v in left.values()))
+        it.lives -= span
+        it.values = {prop: values for prop, values in left.items() if values}
+
+    def set(self, name, prop, value, low, high):
+        it = self.known(name)
+        span = self.span(low, high)
+        refuse("absent", not span <= it.lives)
+        values = it.values.get(prop, {}) | dict.fromkeys(span, value)
+        refuse("full", value_runs(values) > 4096 or len(it.values.keys() | {prop}) > 64)
+        it.values[prop] = values
+
+    def unset(self, name, prop, low, high):
+        it = self.known(name)
+        span = self.span(low, high)
+        values = {t: v for t, v in it.values.get(prop, {}).items() if t not in span}
+        refuse("full", value_runs(values) > 4096)
+        it.values.pop(prop, None)
+        if values:
+            it.values[prop] = values
+
+    def drop(self, name):
+        it = self.known(name)
+        refuse("incident", not it.ends and bool(self.edges_at(it)))
+        it.stands, it.lives, it.values = False, set(), {}
+
+
+# What a path means: a set of quadruples (object, moment, object, moment)
+
+class Meaning:
+    def __init__(self, graph):
+        self.graph, self.known = graph, {}
+        self.points = [(o, t) for o in graph.standing() for t in graph.moments()]
+
+    def holds(self, test, o, t):
+        it, kind = self.graph.objects[o], test[0]
+        if kind == "node" or kind == "edge":
+            return (it.ends is None) == (kind == "node")
+        if kind == "label":
+            return it.label == test[1]
+        if kind == "value":
+            return it.values.get(test[1], {}).get(t) == test[2]
+        if kind == "before":
+            return t < test[1]
+        if kind == "exists":
+            return t in it.lives
+        if kind == "cond":
+            return (o, t) in self.starts(test[1])
+        if kind == "not":
+            return not self.holds(test[1], o, t)
+        both = [self.holds(part, o, t) for part in test[1:]]
+        return all(both) if kind == "and" else any(both)
+
+    def starts(self, path):
+        return self.kept(("starts", path), lambda: {(o, t) for o, t, _, _ in self.of(path)})
+
+    def kept(self, key, work):
+        if key not in self.known:
+            self.known[key] = work()
+        return self.known[key]
+
+    def of(self, path):
+        return self.kept(path, lambda: self.worked(path))
+
+    def worked(self, path):
+        kind = path[0]
+        if kind == "test":
+            return {(o, t, o, t) for o, t in self.points if self.holds(path[1], o, t)}
+        if kind in "FB":
+            ends = [(o, self.graph.objects[o].ends) for o in self.graph.standing() if self.graph.objects[o].ends]
+            steps = [step for edge, (source, target) in ends for step in ((source, edge), (edge, target))]
+            steps = [(x, y) if kind == "F" else (y, x) for x, y in steps]
+            return {(x, t, y, t) for x, y in steps for t in self.graph.moments()}
+        if kind in "NP":
+            later = {(o, t, o, t + 1) for o, t in self.points if t + 1 in self.graph.moments()}
+            return later if kind == "N" else {(o, u, p, t) for o, t, p, u in later}
+        first, second = self.of(path[1]), self.of(path[2])
+        if kind == "alt":
+            return first | second
+        led = {}
+        for o, t, p, u in second:
+            led.setdefault((o, t), []).append((p, u))
+        return {(o, t, *end) for o, t, *middle in first for end in led.get(tuple(middle), ())}
+
+
+# Normal rows: (source, target, from, to, low, high), where an end is ('fixed', n) or ('moving', k)
+
+def end_at(end, t):
+    return end[1] + (t if end[0] == "moving" else 0)
+
+
+def continues(run, after):
+    return after[0] - run[0] in (0, 1) and after[1] - run[1] in (0, 1)
+
+
+def runs_by_departure(relation):
+    arrivals = {}
+    for o, t, p, u in relation:
+        arrivals.setdefault((o, p), {}).setdefault(t, set()).add(u)
+    return {pair: {t: runs(us) for t, us in at.items()} for pair, at in arrivals.items()}
+
+
+def normal_rows(relation):
+    rows = []
+    for (o, p), at in runs_by_departure(relation).items():
+        left = {(t, run) for t in at for run in at[t]}
+        while left:
+            start = t, run = min(left)
+            left.remove(start)
+            moves = None
+            while True:
+                after = next((r for r in at.get(t + 1, ()) if continues(run, r)), None)
+                move = after and (after[0] - run[0], after[1] - run[1])
+                if after is None or moves not in (None, move):
+                    break
+                t, run, moves = t + 1, after, move
+                left.remove((t, run))
+            ends = [("moving", edge - start[0]) if moves and moves[i] else ("fixed", edge)
+                    for i, edge in enumerate(start[1])]
+            rows.append((o, p, start[0], t, *ends))
+    rows.sort(key=lambda row: (*row[:3], end_at(row[4], row[2])))
+    assert_normal(relation, rows)
+    return rows
+
+
+def assert_normal(relation, rows):
+    """The five conditions of a normal list."""
+    held, at = set(), runs_by_departure(relation)
+    for o, p, first, last, low, high in rows:
+        for t in range(first, last + 1):
+            run = (end_at(low, t), end_at(high, t))
+            assert run in at[o, p].get(t, ()), "a row's arrivals are one run"
+            quadruples = {(o, t, p, u) for u in range(run[0], run[1] + 1)}
+            assert not held & quadruples, "each quadruple is in one row"
+            held |= quadruples
+        run = (end_at(low, last), end_at(high, last))
+        after = next((r for r in at[o, p].get(last + 1, ()) if continues(run, r)), None)
+        moves = tuple(int(end[0] == "moving") for end in (low, high))
+        assert first < last or moves == (0, 0), "a row of one moment has fixed ends"
+        if after:
+            assert first < last, "a row with a next run has two moments"
+            assert (after[0] - run[0], after[1] - run[1]) != moves, "the next run moves otherwise"
+    assert held == relation, "the rows hold the relation"
+    keys = [(*row[:3], end_at(row[4], row[2])) for row in rows]
+    assert keys == sorted(set(keys)), "rows are in order"
+
+
+# Scopes and worked members
+
+def meet(a, b):
+    return b if a is ALL else a if b is ALL else a & b
+
+
+def join(a, b):
+    return ALL if a is ALL or b is ALL else a | b
+
+
+@functools.cache
+def keeps(path):
+    return path[0] in ("test", "N", "P") or path[0] in ("seq", "alt") and keeps(path[1]) and keeps(path[2])
+
+
+def scope_of(test):
+    kind = test[0]
+    if kind == "label":
+        return frozenset([test[1]])
+    if kind == "cond":
+        return scope(test[1], 0)
+    if kind in ("and", "or"):
+        return (meet if kind == "and" else join)(scope_of(test[1]), scope_of(test[2]))
+    return ALL
+
+
+@functools.cache
+def scope(path, side):
+    """The scope of a path's sources, or (side 1) of its targets."""
+    if path[0] == "test":
+        return scope_of(path[1])
+    if path[0] == "alt":
+        return join(scope(path[1], side), scope(path[2], side))
+    if path[0] == "seq":
+        near, far = path[1 + side], path[2 - side]
+        return meet(scope(near, side), scope(far, side)) if keeps(near) else scope(near, side)
+    return ALL
+
+
+def conditions(test):
+    if test[0] == "cond":
+        return [test[1]]
+    return [c for part in test[1:] if isinstance(part, tuple) for c in conditions(part)]
+
+
+def members(path, a, b):
+    a, b = meet(a, scope(path, 0)), meet(b, scope(path, 1))
+    if keeps(path):
+        a = b = meet(a, b)
+    yield path, a, b
+    if path[0] == "test":
+        for condition in conditions(path[1]):
+            yield from members(condition, a, ALL)
+    elif path[0] == "alt":
+        yield from members(path[1], a, b)
+        yield from members(path[2], a, b)
+    elif path[0] == "seq":
+        middle = meet(scope(path[1], 1), scope(path[2], 0))
+        if keeps(path[1]):
+            middle = meet(middle, a)
+        if keeps(path[2]):
+            middle = meet(middle, b)
+        yield from members(path[1], a, middle)
+        yield from members(path[2], middle, b)
+
+
+# Lines and replies
+
+FORMS = {
+    "graph": "nii", "node": "nn", "edge": "nnnn", "live": "nii", "gone": "nii", "set": "nnqii", "unset": "nnii", "drop": "n",
+    "ask": None, "watch": "n", "show": "n", "unwatch": "n", "tick": "",
+}
+KINDS = {"word": "n", "number": "i", "quoted": "q"}
+
+
+class Machine:
+    def __init__(self, limit):
+        self.graph, self.limit = Graph(), limit
+
+    def reply(self, line):
+        """The lines of the reply, the first without its lead; none where the reply is empty."""
+        line = line.removesuffix(b"\r")
+        if len(line) > 65_536:
+            raise Fault("long")
+        if not line.strip(b" \t") or line.lstrip(b" \t").startswith(b"#"):
+            return []
+        tokens, end = tokens_of(line)
+        if end == "byte":
+            raise Fault("byte")
+        if len(tokens) > 4096:
+            raise Fault("tokens")
+        if end or tokens[0][0] != "word" or tokens[0][1] not in FORMS:
+            raise Fault("text")
+        command, rest = tokens[0][1], tokens[1:]
+        parts, query = self.parts(command, rest)
+        fault_of_parts(parts)
+        if query is not None:
+            query = read_query(query)
+        refuse("nograph", self.graph.name is None and command != "graph")
+        if command in ("ask", "watch"):
+            refuse("graphname", query[3] is not None and query[3] != self.graph.name)
+        if command == "ask":
+            return self.answer(query)
+        refuse("later", command in ("watch", "show", "unwatch", "tick"))
+        getattr(self.graph, command)(*(int(text) if kind == "number" else text for kind, text in parts))
+        return []
+
+    def parts(self, command, rest):
+        """The tokens of the form, and those of the query text behind them."""
+        if command == "ask":
+            return [], rest
+        if command == "watch" and rest and rest[0][0] == "word":
+            return rest[:1], rest[1:]
+        if "".join(KINDS.get(kind, "-") for kind, _ in rest) != FORMS[command] or command == "watch":
+            raise Fault("text")
+        return rest, None
+
+    def answer(self, query):
+        first, last, path, _ = query
+        refuse("later", repeats(path))
+        meaning = Meaning(self.graph)
+        if any(len(self.cut(meaning, *member)) > self.limit for member in members(path, ALL, ALL)):
+            return ["wide"]
+        relation = meaning.of(path)
+        if first and last:
+            texts = [self.row(*row) for row in normal_rows(relation)]
+        else:
+            ends = {(o, t) for o, t, _, _ in relation} if first else {(p, u) for _, _, p, u in relation}
+            texts = [f"{self.graph.objects[o].name} {low}..{high}" for o in sorted({o for o, _ in ends})
+                     for low, high in runs(t for p, t in ends if p == o)]
+        return [f"rows {len(texts)}"] + texts
+
+    def cut(self, meaning, path, a, b):
+        def within(o, labels):
+            return labels is ALL or self.graph.objects[o].label in labels
+        return normal_rows({q for q in meaning.of(path) if within(q[0], a) and within(q[2], b)})
+
+    def row(self, o, p, low, high, *ends):
+        names = [self.graph.objects[number].name for number in (o, p)]
+        shown = [str(n) if kind == "fixed" else f"t{n:+}" if n else "t" for kind, n in ends]
+        return f"{names[0]} {low}..{high} {names[1]} {shown[0]}..{shown[1]}"
+
+
+def run(script, limit=100_000):
+    """What the script must write, and the exit status."""
+    machine, output, status = Machine(limit), [], 0
+    lines = script.split(b"\n")
+    for number, line in enumerate(lines if lines[-1] else lines[:-1], start=1):
+        try:
+            reply = machine.reply(line)
+        except Fault as fault:
+            reply = [fault.reply]
+        if reply:
+            output += [f"line {number} {reply[0]}", *reply[1:]]
+            status = status or int(reply[0].split()[0] in ("bad", "refused", "wide"))
+    return "".join(line + "\n" for line in output).encode(), status
+
+
+def number_in(path, otherwise):
+    return int(path.read_text()) if path.exists() else otherwise
+
+
+def try_all(folder):
+    same = differing = untried = 0
+    for path in sorted(folder.glob("*.itpg")):
+        if path.with_suffix(".words").exists():
+            untried += 1
+            continue
+        wanted = path.with_suffix(".out").read_bytes(), number_in(path.with_suffix(".status"), 0)
+        try:
+            got = run(path.read_bytes(), number_in(path.with_suffix(".limit"), 100_000))
+        except TooLong:
+            untried += 1
+            print(f"{path.stem}: the horizon is too long for this model")
+            continue
+        same, differing = same + (got == wanted), differing + (got != wanted)
+        if got != wanted:
+            pairs = itertools.zip_longest(wanted[0].decode().splitlines(), got[0].decode().splitlines())
+            line = next((f"{w!r} in the file, {g!r} by the model" for w, g in pairs if w != g), f"status {got[1]}")
+            print(f"{path.stem}: {line}")
+    print(f"{same} alike, {differing} differ, {untried} not tried")
+    return 1 if differing else 0
+
+
+def main():
+    if len(sys.argv) == 1:
+        return try_all(pathlib.Path(__file__).resolve().parent)
+    output, status = run(pathlib.Path(sys.argv[1]).read_bytes(), int(sys.argv[2]) if len(sys.argv) > 2 else 100_000)
+    sys.stdout.buffer.write(output)
+    return status
+
+
+if __name__ == "__main__":
+    sys.exit(main())
