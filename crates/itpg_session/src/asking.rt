@@ -66,18 +66,20 @@ fn reply_to_query(
 }
 
 // The reply to a query that breaks no rule.
-fn work_out(
-    alloc: Global,
-    graph: &Graph,
-    max_rows: u32,
-    query: &Query,
-) -> Result<Asked, AllocError>
+fn work_out(alloc: Global, graph: &Graph, max_rows: u32, query: &Query) -> Result<Asked, AllocError>
     requires in_range { IsPathInRange (path_term query.now.path) }
     requires ends { IsTrue (query.now.first || query.now.last) }
     requires unbroken { NoneOf (AskBreaks graph.now (query_term query.now)) query_rules }
     ensures { IfOk result (λ asked. IsReplyTo graph.now max_rows (query_term query.now) (reply_of asked)) }
 {
-    match relation_of(alloc, graph, &query.path, &Scope::All, &Scope::All, max_rows) {
+    match relation_of(
+        alloc,
+        graph,
+        &query.path,
+        &Scope::All,
+        &Scope::All,
+        max_rows,
+    ) {
         Ok(relation) => Ok(Asked::Rows(answer_of(alloc, relation, query)?)),
         Err(EvalFault::Wide) => Ok(Asked::Wide),
         Err(EvalFault::Memory) => Err(AllocError),

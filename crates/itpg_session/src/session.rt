@@ -202,12 +202,7 @@ impl Session {
     }
 
     // Answers a query text.
-    fn answer_text<K: Sink>(
-        &self,
-        number: u64,
-        text: &[u8],
-        out: &mut K,
-    ) -> Result<Seen, StepFault>
+    fn answer_text<K: Sink>(&self, number: u64, text: &[u8], out: &mut K) -> Result<Seen, StepFault>
         ensures { IsTaken (λ turn. AsksText self.now.limit self.now.machine number text.now turn) (Unit {0}) (K.held out.old) (K.held out.new) (K.faults out.old) (K.faults out.new) self.now self.now result }
     {
         match &self.ask(text) {
