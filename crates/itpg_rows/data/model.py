@@ -2,7 +2,8 @@
 """A second opinion on the scripts beside it: the plain machine, worked out moment by moment.
 
     model.py SCRIPT [LIMIT]     writes what the script must write
-    model.py                    tries each script of this folder against its NAME.out and NAME.status
+    model.py                    tries each script of this folder against its NAME.out and NAME.status, and the files
+                                of the folder examples/ at the top, which are copies of files here
 
 It shares nothing with itpg. A relation is a set of quadruples, made by the meaning of its path at every moment of the
 horizon; rows are made from it and then tried against the five conditions of a normal list; wide is told by the rows of each
@@ -648,6 +649,12 @@ def run(script, limit=100_000):
     return "".join(line + "\n" for line in output).encode(), status
 
 
+def stale_copies(folder):
+    """The names of the files in examples/ that aren't the same as here."""
+    examples = folder.parents[2] / "examples"
+    return [path.name for path in sorted(examples.iterdir()) if path.read_bytes() != (folder / path.name).read_bytes()]
+
+
 def number_in(path, otherwise):
     return int(path.read_text()) if path.exists() else otherwise
 
@@ -670,8 +677,11 @@ def try_all(folder):
             pairs = itertools.zip_longest(wanted[0].decode().splitlines(), got[0].decode().splitlines())
             line = next((f"{w!r} in the file, {g!r} by the model" for w, g in pairs if w != g), f"status {got[1]}")
             print(f"{path.stem}: {line}")
+    stale = stale_copies(folder)
+    for name in stale:
+        print(f"examples/{name} isn't the file of this name here")
     print(f"{same} alike, {differing} differ, {untried} not tried")
-    return 1 if differing else 0
+    return 1 if differing or stale else 0
 
 
 def main():

@@ -12,7 +12,7 @@ use Rattle.edit_reader.specs.Readings.{Reading, Nothing, Changes, Asks, Watches,
 use Rattle.edit_reader.specs.Lines.{LineOf}
 use Rattle.path_ast.specs.Terms.{QueryTerm}
 use Rattle.match_parser.specs.Reading.{Reads, FaultOf}
-use Rattle.itpg_session.specs.Rules.{WatchBreaks, CommandBreaks, query_rules, watch_rules}
+use Rattle.itpg_session.specs.Rules.{WatchBreaks, CommandBreaks, watch_rules, command_rules}
 use Rattle.itpg_session.specs.Replies.{Reply, IsReply}
 use Rattle.itpg_session.specs.Machine.{Machine, Turn, Refuses, AsksText, WatchesText, Answers, TurnOf, Replies, quiet_turn, bad_turn, refused_turn, asked_turn}
 
@@ -40,15 +40,15 @@ module _ (limit : ℕ) (m : Machine) (number : ℕ) where
   unfolding Answers
   watches_answers name text t a = a
 
-  pub shows_answers : (name : Word) (t : Turn) → Refuses m number (CommandBreaks m.graph) watch_rules t → Answers limit m number (Shows name) t
+  pub shows_answers : (name : Word) (t : Turn) → Refuses m number (CommandBreaks m.graph) command_rules t → Answers limit m number (Shows name) t
   unfolding Answers
   shows_answers name t a = a
 
-  pub unwatches_answers : (name : Word) (t : Turn) → Refuses m number (CommandBreaks m.graph) watch_rules t → Answers limit m number (Unwatches name) t
+  pub unwatches_answers : (name : Word) (t : Turn) → Refuses m number (CommandBreaks m.graph) command_rules t → Answers limit m number (Unwatches name) t
   unfolding Answers
   unwatches_answers name t a = a
 
-  pub ticks_answers : (t : Turn) → Refuses m number (CommandBreaks m.graph) watch_rules t → Answers limit m number Ticks t
+  pub ticks_answers : (t : Turn) → Refuses m number (CommandBreaks m.graph) command_rules t → Answers limit m number Ticks t
   unfolding Answers
   ticks_answers t a = a
 
@@ -67,5 +67,5 @@ module _ (m : Machine) (number : ℕ) (text : List ℕ) where
   pub watch_bad : (code : TextCode) → FaultOf text code → (t : Turn) → t ≡ bad_turn m number code → WatchesText m number text t
   watch_bad code fault t is = inl (code, fault, is)
 
-  pub watch_refused : (q : QueryTerm) → Reads text q → (rule : RuleCode) → FirstOf (WatchBreaks m.graph q) query_rules rule → (t : Turn) → t ≡ refused_turn m number rule → WatchesText m number text t
+  pub watch_refused : (q : QueryTerm) → Reads text q → (rule : RuleCode) → FirstOf (WatchBreaks m.graph q) watch_rules rule → (t : Turn) → t ≡ refused_turn m number rule → WatchesText m number text t
   watch_refused q reads rule first t is = inr (q, reads, record { rule = rule; first = first; is = is })

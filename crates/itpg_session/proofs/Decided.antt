@@ -10,17 +10,7 @@ use Rattle.itpg_base.specs.declared.rule_code.RuleCode.TheVariants.{NoGraph, Gra
 use Rattle.itpg_base.proofs.Objects.{word_same, word_refl}
 use Rattle.itpg_edit.specs.Rules.{FirstOf, NoneOf}
 use Rattle.path_ast.specs.Terms.{QueryTerm}
-use Rattle.path_eval.specs.Repeats.{path_repeats}
-use Rattle.itpg_session.specs.Questions.{IsAnswered}
-use Rattle.itpg_session.specs.Rules.{QueryBreaks, AskBreaks, WatchBreaks, CommandBreaks, query_rules, watch_rules}
-
--- whether a query is answered
-decide_answered : (q : QueryTerm) → Decided (IsAnswered q)
-decide_answered q = is_false (path_repeats q.path)
-  where
-    is_false : (repeats : Bool) → Decided (repeats ≡ false)
-    is_false true = inr (λ e. let no : ⊥ = cc in no)
-    is_false false = inl refl
+use Rattle.itpg_session.specs.Rules.{QueryBreaks, WatchBreaks, CommandBreaks, watch_rules, ask_rules, command_rules}
 
 decide_same : (a b : Word) → Decided (a ≡ b)
 decide_same a b = by_test (pointwise nat_eq a b) refl
@@ -46,19 +36,13 @@ first_or_none broken decide (r ∷ rest) = elim (decide r) [
   | inr n ↦ elim (first_or_none broken decide rest) [ inl f ↦ inl (f.0, inr (n, f.1)) | inr u ↦ inr (n, u) ]
 ]
 
-decide_query : (g : Graph) (q : QueryTerm) (rule : RuleCode) → Decided (QueryBreaks g q rule)
-decide_query g q NoGraph = decide_begun g.begun
-decide_query g q GraphName = decide_name q.graph_name g.begun
-decide_query g q _ = inr (λ no. no)
-
-pub decide_ask : (g : Graph) (q : QueryTerm) (rule : RuleCode) → Decided (AskBreaks g q rule)
-decide_ask g q Later = elim (decide_answered q) [ inl a ↦ inr (λ n. n a) | inr n ↦ inl n ]
-decide_ask g q NoGraph = decide_query g q NoGraph
-decide_ask g q GraphName = decide_query g q GraphName
+pub decide_ask : (g : Graph) (q : QueryTerm) (rule : RuleCode) → Decided (QueryBreaks g q rule)
+decide_ask g q NoGraph = decide_begun g.begun
+decide_ask g q GraphName = decide_name q.graph_name g.begun
 decide_ask g q _ = inr (λ no. no)
 
 -- the first rule that a watch, or another command on watches, breaks: `later` at the last
-pub watch_breaks : (g : Graph) (q : QueryTerm) → (rule : RuleCode) × FirstOf (WatchBreaks g q) query_rules rule
+pub watch_breaks : (g : Graph) (q : QueryTerm) → (rule : RuleCode) × FirstOf (WatchBreaks g q) watch_rules rule
 watch_breaks g q = elim (decide_begun g.begun) [
   | inl b ↦ (NoGraph, inl (b, refl))
   | inr n ↦ elim (decide_name q.graph_name g.begun) [
@@ -67,5 +51,5 @@ watch_breaks g q = elim (decide_begun g.begun) [
   ]
 ]
 
-pub command_breaks : (g : Graph) → (rule : RuleCode) × FirstOf (CommandBreaks g) watch_rules rule
+pub command_breaks : (g : Graph) → (rule : RuleCode) × FirstOf (CommandBreaks g) command_rules rule
 command_breaks g = elim (decide_begun g.begun) [ inl b ↦ (NoGraph, inl (b, refl)) | inr n ↦ (Later, inr (n, inl (tt, refl))) ]

@@ -13,7 +13,7 @@ use Rattle.edit_reader.specs.Readings.{Reading, Nothing, Changes, Asks, Watches,
 use Rattle.edit_reader.specs.Lines.{LineOf}
 use Rattle.edit_reader.specs.Moments.{AsksOfMoments, AsksForLabels}
 use Rattle.path_ast.specs.Terms.{QueryTerm}
-use Rattle.itpg_session.specs.Rules.{WatchBreaks, CommandBreaks, query_rules, watch_rules}
+use Rattle.itpg_session.specs.Rules.{WatchBreaks, CommandBreaks, watch_rules, command_rules}
 use Rattle.itpg_session.specs.Replies.{Reply, Bad, Refused, Wide, Rows}
 use Rattle.itpg_session.specs.Machine.{Machine, Turn, Refuses, AsksText, WatchesText, Answers, TurnOf, Replies, quiet_turn, bad_turn, refused_turn, asked_turn}
 use Rattle.itpg_session.specs.MachineLaws.{OneReply, SomeReply, GoodReply, FrontReplies}
@@ -44,7 +44,7 @@ module _ (below : Below) (limit : ℕ) (m : Machine) (number : ℕ) (good : Good
   one_watch text x y (inl (c, f, e)) (inl (d, h, k)) = e ∙ ap (bad_turn m number) (below.texts.one_fault text c d f h) ∙ sym k
   one_watch text x y (inl (c, f, e)) (inr (q, s, b)) = absurd (below.texts.apart text q c s f)
   one_watch text x y (inr (p, r, a)) (inl (d, h, k)) = absurd (below.texts.apart text p d r h)
-  one_watch text x y (inr (p, r, a)) (inr (q, s, b)) = one_refusal m number (WatchBreaks m.graph q) query_rules x y (subst (λ (q : QueryTerm). Refuses m number (WatchBreaks m.graph q) query_rules x) (below.texts.one_query text p q r s) a) b
+  one_watch text x y (inr (p, r, a)) (inr (q, s, b)) = one_refusal m number (WatchBreaks m.graph q) watch_rules x y (subst (λ (q : QueryTerm). Refuses m number (WatchBreaks m.graph q) watch_rules x) (below.texts.one_query text p q r s) a) b
 
   one_change : (edit : Edit) (x y : Turn) → Answers limit m number (Changes edit) x → Answers limit m number (Changes edit) y → x ≡ y
   unfolding Answers
@@ -59,9 +59,9 @@ module _ (below : Below) (limit : ℕ) (m : Machine) (number : ℕ) (good : Good
   one_answer (Changes edit) x y a b = one_change edit x y a b
   one_answer (Asks text) x y a b = one_ask text x y a b
   one_answer (Watches name text) x y a b = one_watch text x y a b
-  one_answer (Shows name) x y a b = one_refusal m number (CommandBreaks m.graph) watch_rules x y a b
-  one_answer (Unwatches name) x y a b = one_refusal m number (CommandBreaks m.graph) watch_rules x y a b
-  one_answer Ticks x y a b = one_refusal m number (CommandBreaks m.graph) watch_rules x y a b
+  one_answer (Shows name) x y a b = one_refusal m number (CommandBreaks m.graph) command_rules x y a b
+  one_answer (Unwatches name) x y a b = one_refusal m number (CommandBreaks m.graph) command_rules x y a b
+  one_answer Ticks x y a b = one_refusal m number (CommandBreaks m.graph) command_rules x y a b
 
   one_turn : (what : Result Reading TextCode) (x y : Turn) → TurnOf limit m number what x → TurnOf limit m number what y → x ≡ y
   unfolding TurnOf
@@ -86,7 +86,7 @@ module _ (below : Below) (limit : ℕ) (m : Machine) (number : ℕ) (good : Good
 
   good_watch : (text : List ℕ) (t : Turn) → WatchesText m number text t → Good t.next.graph
   good_watch text t (inl (c, f, e)) = subst (λ (u : Turn). Good u.next.graph) (sym e) good
-  good_watch text t (inr (q, s, b)) = good_refusal (WatchBreaks m.graph q) query_rules t b
+  good_watch text t (inr (q, s, b)) = good_refusal (WatchBreaks m.graph q) watch_rules t b
 
   good_change : (edit : Edit) (t : Turn) → HasMoments edit → HasLabels edit → Answers limit m number (Changes edit) t → Good t.next.graph
   unfolding Answers
@@ -99,9 +99,9 @@ module _ (below : Below) (limit : ℕ) (m : Machine) (number : ℕ) (good : Good
   good_answer (Changes edit) t moments labels a = good_change edit t moments labels a
   good_answer (Asks text) t moments labels a = good_ask text t a
   good_answer (Watches name text) t moments labels a = good_watch text t a
-  good_answer (Shows name) t moments labels a = good_refusal (CommandBreaks m.graph) watch_rules t a
-  good_answer (Unwatches name) t moments labels a = good_refusal (CommandBreaks m.graph) watch_rules t a
-  good_answer Ticks t moments labels a = good_refusal (CommandBreaks m.graph) watch_rules t a
+  good_answer (Shows name) t moments labels a = good_refusal (CommandBreaks m.graph) command_rules t a
+  good_answer (Unwatches name) t moments labels a = good_refusal (CommandBreaks m.graph) command_rules t a
+  good_answer Ticks t moments labels a = good_refusal (CommandBreaks m.graph) command_rules t a
 
   good_turn : (line : List ℕ) (what : Result Reading TextCode) (t : Turn) → LineOf line what → TurnOf limit m number what t → Good t.next.graph
   unfolding TurnOf
@@ -111,8 +111,8 @@ module _ (below : Below) (limit : ℕ) (m : Machine) (number : ℕ) (good : Good
   pub good_reply_of : (line : List ℕ) (t : Turn) → Replies limit m number line t → Good t.next.graph
   good_reply_of line t a = good_turn line a.what t a.line_of a.turn
 
-  some_command : (t : Turn) × Refuses m number (CommandBreaks m.graph) watch_rules t
-  some_command = let f = command_breaks m.graph in (refused_turn m number f.0, refuses m number (CommandBreaks m.graph) watch_rules f.0 f.1 _ refl)
+  some_command : (t : Turn) × Refuses m number (CommandBreaks m.graph) command_rules t
+  some_command = let f = command_breaks m.graph in (refused_turn m number f.0, refuses m number (CommandBreaks m.graph) command_rules f.0 f.1 _ refl)
 
   some_ask : (text : List ℕ) → (t : Turn) × AsksText limit m number text t
   some_ask text = let r = some_asked below.texts m.graph limit text in (asked_turn m number r.0, asked_asks limit m number text r.0 r.1 _ refl)

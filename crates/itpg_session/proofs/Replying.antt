@@ -29,7 +29,7 @@ use Rattle.path_eval.specs.Evaluated.{AllFit}
 use Rattle.path_eval.proofs.Answers.{answer_from}
 use Rattle.path_eval.proofs.Finite.{cut_rows, departures, arrivals, fit_or_wide, fit_apart}
 use Rattle.row_printer.specs.Texts.{AreDeclared}
-use Rattle.itpg_session.specs.Rules.{AskBreaks, query_rules}
+use Rattle.itpg_session.specs.Rules.{QueryBreaks, ask_rules}
 use Rattle.itpg_session.specs.Replies.{Reply, Bad, Refused, Wide, Rows, IsReply, IsReplyTo, NamesDeclared}
 use Rattle.itpg_session.specs.MachineLaws.{OneAsked, SomeAsked, DeclaredAsked}
 use Rattle.itpg_session.proofs.Decided.{first_or_none, decide_ask}
@@ -91,20 +91,20 @@ module _ (g : Graph) (limit : ℕ) (q : QueryTerm) where
   one_reply_to : (x y : Reply) → IsReplyTo g limit q x → IsReplyTo g limit q y → x ≡ y
   one_reply_to (Bad c) y a b = absurd a
   one_reply_to (Refused r) (Bad c) a b = absurd b
-  one_reply_to (Refused r) (Refused s) a b = ap Refused (first_unique (AskBreaks g q) query_rules r s a b)
-  one_reply_to (Refused r) Wide a b = absurd (first_or_unbroken (AskBreaks g q) query_rules r a b.0)
-  one_reply_to (Refused r) (Rows y) a b = absurd (first_or_unbroken (AskBreaks g q) query_rules r a b.0)
+  one_reply_to (Refused r) (Refused s) a b = ap Refused (first_unique (QueryBreaks g q) ask_rules r s a b)
+  one_reply_to (Refused r) Wide a b = absurd (first_or_unbroken (QueryBreaks g q) ask_rules r a b.0)
+  one_reply_to (Refused r) (Rows y) a b = absurd (first_or_unbroken (QueryBreaks g q) ask_rules r a b.0)
   one_reply_to Wide (Bad c) a b = absurd b
-  one_reply_to Wide (Refused s) a b = absurd (first_or_unbroken (AskBreaks g q) query_rules s b a.0)
+  one_reply_to Wide (Refused s) a b = absurd (first_or_unbroken (QueryBreaks g q) ask_rules s b a.0)
   one_reply_to Wide Wide a b = refl
   one_reply_to Wide (Rows y) a b = absurd (b.1 a.1)
   one_reply_to (Rows x) (Bad c) a b = absurd b
-  one_reply_to (Rows x) (Refused s) a b = absurd (first_or_unbroken (AskBreaks g q) query_rules s b a.0)
+  one_reply_to (Rows x) (Refused s) a b = absurd (first_or_unbroken (QueryBreaks g q) ask_rules s b a.0)
   one_reply_to (Rows x) Wide a b = absurd (a.1 b.1)
   one_reply_to (Rows x) (Rows y) a b = ap Rows (one_answer q.first q.last (Rel q.path g) x y a.2 b.2)
 
   some_reply_to : IsTrue (q.first || q.last) → (reply : Reply) × IsReplyTo g limit q reply
-  some_reply_to ends = elim (first_or_none (AskBreaks g q) (decide_ask g q) query_rules) [
+  some_reply_to ends = elim (first_or_none (QueryBreaks g q) (decide_ask g q) ask_rules) [
     | inl f ↦ (Refused f.0, f.1)
     | inr unbroken ↦ elim (fit_or_wide g limit (worked q.path All All)) [
       | inl fits ↦ let a = some_answer q.first q.last g q.path ends in (Rows a.0, (unbroken, fit_apart g limit (worked q.path All All) fits, a.1))
@@ -113,7 +113,7 @@ module _ (g : Graph) (limit : ℕ) (q : QueryTerm) where
   ]
 
 -- the rows of the path's relation, where all its members fit, give the reply
-pub rows_reply : (g : Graph) (limit : ℕ) (q : QueryTerm) (rows : List Row) (answer : Answered) → NoneOf (AskBreaks g q) query_rules → AllFit g limit (worked q.path All All)
+pub rows_reply : (g : Graph) (limit : ℕ) (q : QueryTerm) (rows : List Row) (answer : Answered) → NoneOf (QueryBreaks g q) ask_rules → AllFit g limit (worked q.path All All)
     → NormalRows (Cut g q.path All All) rows → IsAnswerFrom q.first q.last rows answer → IsReplyTo g limit q (Rows answer)
 rows_reply g limit q rows answer unbroken fits n from = (unbroken, fit_apart g limit (worked q.path All All) fits, answer_of_rows g q rows answer n from)
 

@@ -11,7 +11,7 @@ use Rattle.edit_reader.specs.Lines.{LineOf}
 use Rattle.path_ast.specs.Terms.{QueryTerm}
 use Rattle.match_parser.specs.Reading.{Reads, FaultOf}
 use Rattle.relation_rows.specs.Answered.{Answered}
-use Rattle.itpg_session.specs.Rules.{query_rules, watch_rules, WatchBreaks, CommandBreaks}
+use Rattle.itpg_session.specs.Rules.{watch_rules, command_rules, WatchBreaks, CommandBreaks}
 use Rattle.itpg_session.specs.Replies.{Reply, Bad, Refused, Wide, Rows, IsReply}
 use Rattle.itpg_session.specs.Texts.{bad_text, refused_text, wide_text, rows_text}
 
@@ -88,7 +88,7 @@ pub record AsksText (limit : ℕ) (m : Machine) (number : ℕ) (text : List ℕ)
 abbrev pub WatchesText : Machine → ℕ → List ℕ → Turn → Type 0
 WatchesText m number text t =
     ((code : TextCode) × FaultOf text code × (t ≡ bad_turn m number code))
-    ⊎ ((q : QueryTerm) × Reads text q × Refuses m number (WatchBreaks m.graph q) query_rules t)
+    ⊎ ((q : QueryTerm) × Reads text q × Refuses m number (WatchBreaks m.graph q) watch_rules t)
 
 -- the turn that a line may have which asks for this
 unfoldable pub Answers : ℕ → Machine → ℕ → Reading → Turn → Type 0
@@ -96,9 +96,9 @@ Answers limit m number Nothing t = t ≡ quiet_turn m
 Answers limit m number (Changes edit) t = Refuses m number (Breaks m.graph edit) (rules_of edit) t ⊎ Makes m edit t
 Answers limit m number (Asks text) t = AsksText limit m number text t
 Answers limit m number (Watches name text) t = WatchesText m number text t
-Answers limit m number (Shows name) t = Refuses m number (CommandBreaks m.graph) watch_rules t
-Answers limit m number (Unwatches name) t = Refuses m number (CommandBreaks m.graph) watch_rules t
-Answers limit m number Ticks t = Refuses m number (CommandBreaks m.graph) watch_rules t
+Answers limit m number (Shows name) t = Refuses m number (CommandBreaks m.graph) command_rules t
+Answers limit m number (Unwatches name) t = Refuses m number (CommandBreaks m.graph) command_rules t
+Answers limit m number Ticks t = Refuses m number (CommandBreaks m.graph) command_rules t
 
 -- the turn of what a line is: it asks for something, or has a first fault, which is told
 unfoldable pub TurnOf : ℕ → Machine → ℕ → Result Reading TextCode → Turn → Type 0

@@ -12,7 +12,7 @@ use Rattle.path_eval.specs.Answering.{AnswersQuery}
 use Rattle.itpg_session.specs.declared.asking.Asked.{Asked}
 use Rattle.itpg_session.specs.declared.asking.Asked.TheVariants as asked
 use Rattle.itpg_session.specs.Questions.{IsTooWide}
-use Rattle.itpg_session.specs.Rules.{AskBreaks, query_rules}
+use Rattle.itpg_session.specs.Rules.{QueryBreaks, ask_rules}
 
 -- a fault of the text, a refusal, the word that the query is too wide, or the rows of its answer
 pub data Reply : Type 0 where
@@ -32,9 +32,9 @@ reply_of (asked.Rows answer) = Rows (answered answer)
 -- it is too wide, or what answers it
 abbrev pub IsReplyTo : Graph → ℕ → QueryTerm → Reply → Type 0
 IsReplyTo g limit q (Bad code) = ⊥
-IsReplyTo g limit q (Refused rule) = FirstOf (AskBreaks g q) query_rules rule
-IsReplyTo g limit q Wide = NoneOf (AskBreaks g q) query_rules × IsTooWide g limit q
-IsReplyTo g limit q (Rows answer) = NoneOf (AskBreaks g q) query_rules × (¬ IsTooWide g limit q) × AnswersQuery g q answer
+IsReplyTo g limit q (Refused rule) = FirstOf (QueryBreaks g q) ask_rules rule
+IsReplyTo g limit q Wide = NoneOf (QueryBreaks g q) ask_rules × IsTooWide g limit q
+IsReplyTo g limit q (Rows answer) = NoneOf (QueryBreaks g q) ask_rules × (¬ IsTooWide g limit q) × AnswersQuery g q answer
 
 -- the reply to a query text: its first fault, or the reply to the query that it reads as
 abbrev pub IsReply : Graph → ℕ → List ℕ → Reply → Type 0

@@ -5,7 +5,7 @@ ghost use Rattle.path_ast.specs.Terms.{query_term, path_term};
 ghost use Rattle.path_ast.specs.Sizes.{IsPathInRange};
 ghost use Rattle.relation_rows.specs.Answered.{answered};
 ghost use Rattle.path_eval.specs.Answering.{IsAnswerFrom};
-ghost use Rattle.itpg_session.specs.Rules.{AskBreaks, query_rules};
+ghost use Rattle.itpg_session.specs.Rules.{QueryBreaks, ask_rules};
 ghost use Rattle.itpg_session.specs.Replies.{reply_of, IsReply, IsReplyTo};
 
 use crate::rules::broken_by_ask;
@@ -69,7 +69,7 @@ fn reply_to_query(
 fn work_out(alloc: Global, graph: &Graph, max_rows: u32, query: &Query) -> Result<Asked, AllocError>
     requires in_range { IsPathInRange (path_term query.now.path) }
     requires ends { IsTrue (query.now.first || query.now.last) }
-    requires unbroken { NoneOf (AskBreaks graph.now (query_term query.now)) query_rules }
+    requires unbroken { NoneOf (QueryBreaks graph.now (query_term query.now)) ask_rules }
     ensures { IfOk result (λ asked. IsReplyTo graph.now max_rows (query_term query.now) (reply_of asked)) }
 {
     match relation_of(

@@ -136,7 +136,7 @@ impl Session {
     ghost use Rattle.itpg_edit.specs.Places.{HasMoments};
     ghost use Rattle.edit_reader.specs.Readings.{reading_of, Changes};
     ghost use Rattle.edit_reader.specs.Moments.{AsksOfMoments};
-    ghost use Rattle.itpg_session.specs.Rules.{CommandBreaks, watch_rules};
+    ghost use Rattle.itpg_session.specs.Rules.{CommandBreaks, command_rules};
     ghost use Rattle.relation_rows.specs.Answered.{answered};
     ghost use Rattle.itpg_session.specs.Replies.{Rows};
     ghost use Rattle.itpg_session.specs.Machine.{Answers, AsksText, WatchesText, Refuses, bad_turn, refused_turn, wide_turn, rows_turn, asked_turn};
@@ -253,7 +253,7 @@ impl Session {
 
     // Refuses another command on watches.
     fn command<K: Sink>(&self, number: u64, out: &mut K) -> Result<Seen, StepFault>
-        ensures { IsTaken (λ turn. Refuses self.now.machine number (CommandBreaks self.now.machine.graph) watch_rules turn) ⊥ (K.held out.old) (K.held out.new) (K.faults out.old) (K.faults out.new) self.now self.now result }
+        ensures { IsTaken (λ turn. Refuses self.now.machine number (CommandBreaks self.now.machine.graph) command_rules turn) ⊥ (K.held out.old) (K.held out.new) (K.faults out.old) (K.faults out.new) self.now self.now result }
     {
         self.refuse(number, broken_by_command(&self.graph), out)
     }

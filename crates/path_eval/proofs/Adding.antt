@@ -1,10 +1,10 @@
 -- Items that a loop adds, one thing of a list after another.
-use Rattle.std.proofs.Common.{◌≡◌, ◌↔◌, ◌⊎◌, inl, inr, ⊎_elim, ℕ, zero, suc, ◌+◌, ◌<◌, ◌≤◌, List, [], ◌∷◌, ◌++◌, length, slice_index_or, take, Result, Ok, Err, refl, sym, subst, arith}
+use Rattle.std.proofs.Common.{◌≡◌, ◌↔◌, ◌⊎◌, inl, inr, ⊎_elim, ℕ, zero, suc, ◌+◌, ◌<◌, ◌≤◌, List, [], ◌∷◌, length, slice_index_or, take, Result, Ok, Err, refl, sym, subst, arith}
 use Rattle.std.specs.Prelude.{OnOk}
 use Rattle.std.proofs.lemmas.List.{take_all}
 use Rattle.itpg_base.specs.Points.{Point, Relation}
 use Rattle.band_normal.specs.Lists.{Among}
-use Rattle.relation_rows.specs.Relations.{Item, ItemsHold, InItem}
+use Rattle.relation_rows.specs.Relations.{Item, ItemsHold}
 use Rattle.relation_rows.proofs.Partitions.{among_more, more_among}
 
 -- some thing of the list adds the pair

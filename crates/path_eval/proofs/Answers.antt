@@ -1,14 +1,14 @@
 -- The answer of a relation, from its normal rows.
-use Rattle.std.proofs.Common.{◌≡◌, ◌||◌, ℕ, ℤ, Bool, true, false, List, sym, subst}
+use Rattle.std.proofs.Common.{◌||◌, Bool, true, false, List, sym, subst}
 use Rattle.std.specs.Prelude.{IsTrue}
-use Rattle.itpg_base.specs.Points.{Point, Relation}
+use Rattle.itpg_base.specs.Points.{Relation}
 use Rattle.relation_rows.specs.declared.rows.Row.{Row}
 use Rattle.relation_rows.specs.declared.times.OneRow.{OneRow}
 use Rattle.relation_rows.specs.Rows.{NormalRows}
-use Rattle.relation_rows.specs.Times.{AreTimes, Departs, Arrives}
+use Rattle.relation_rows.specs.Times.{AreTimes, Arrives}
 use Rattle.relation_rows.specs.Answered.{Answered, pairs, times}
 use Rattle.relation_rows.proofs.Alike.{rows_hold, hold_only}
-use Rattle.path_eval.specs.Answering.{LeadsFrom, LeadsTo, IsAnswer, IsAnswerFrom}
+use Rattle.path_eval.specs.Answering.{IsAnswer, IsAnswerFrom}
 
 -- where the first end isn't asked for, the last is
 pub of_last : (last : Bool) (own : List Row) (rows : List OneRow) → IsTrue (false || last) → AreTimes (Arrives own) rows → IsAnswerFrom false last own (times rows)

@@ -1,22 +1,21 @@
 -- The relations of the axes between scopes, from what their items hold.
-use Rattle.std.proofs.Common.{◌≡◌, ◌↔◌, ◌⊎◌, inl, inr, ⊎_elim, ℕ, ◌<◌, ◌≤◌, ℤ, pos, negsuc, ◌+ℤ◌, ◌-ℤ◌, List, [], ◌∷◌, Option, Some, None, length, refl, sym, ◌∙◌, ap, subst, arith}
-use Rattle.std.specs.Prelude.{IfSome, option_map, int_lt, if◌then◌else◌, Result, Ok, Err}
+use Rattle.std.proofs.Common.{◌≡◌, ◌↔◌, inl, inr, ℕ, ◌≤◌, ℤ, pos, negsuc, ◌+ℤ◌, ◌-ℤ◌, List, [], Option, Some, None, length, refl, sym, ◌∙◌, subst, arith}
+use Rattle.std.specs.Prelude.{IfSome, option_map, Result, Ok, Err}
 use Rattle.std.proofs.lemmas.Int.{ints}
 use Rattle.itpg_base.specs.declared.object_number.ObjNo.{ObjNo}
 use Rattle.itpg_base.specs.Spans.{Span, IsSpan, Within}
 use Rattle.itpg_base.specs.Graphs.{Graph, Begun, Good, IsBegun, Stands}
 use Rattle.itpg_base.specs.Points.{Point, Relation, IsAt}
 use Rattle.zone_core.specs.declared.Bounds.{Bounds}
-use Rattle.zone_core.specs.Zone.{Meets, Holds, IsZoneOf, SomePair}
+use Rattle.zone_core.specs.Zone.{Meets, Holds, IsZoneOf}
 use Rattle.zone_core.specs.Zone.{Within as IsNearZero, moment_reach}
 use Rattle.zone_compose.specs.Compose.{Stays, Moves, IsOneStep}
-use Rattle.band_normal.specs.Lists.{Among}
 use Rattle.relation_rows.specs.declared.rows.Row.{Row}
 use Rattle.relation_rows.specs.declared.rows.RelFault.{RelFault}
 use Rattle.relation_rows.specs.declared.rows.RelFault.TheVariants.{Memory, Wide}
-use Rattle.relation_rows.specs.Rows.{NormalRows, IsWide}
+use Rattle.relation_rows.specs.Rows.{NormalRows}
 use Rattle.relation_rows.specs.Answers.{Gives}
-use Rattle.relation_rows.specs.Relations.{Item, ItemsHold, InItem, IsOneOf}
+use Rattle.relation_rows.specs.Relations.{IsOneOf}
 use Rattle.relation_rows.proofs.Alike.{rows_alike, wide_alike}
 use Rattle.path_ast.specs.Meaning.{Rel, BetweenPoints}
 use Rattle.label_scope.specs.declared.scope.Scope.{Scope}
@@ -27,7 +26,7 @@ use Rattle.condition_eval.specs.Within.{AreWithin}
 use Rattle.condition_eval.proofs.Points.{in_horizon}
 use Rattle.path_eval.specs.declared.axes.Direction.{Direction}
 use Rattle.path_eval.specs.declared.axes.Direction.TheVariants as to
-use Rattle.path_eval.specs.Axes.{axis_of, axis_in_time, Joins, OnEach, StepTo, StepsFrom, StepsFromAny}
+use Rattle.path_eval.specs.Axes.{axis_of, axis_in_time, Joins, OnEach, StepsFromAny}
 
 -- the horizon of a good graph is a span, and its ends are near zero
 pub horizon_near : (g : Graph) (horizon : Span) → Good g → HasHorizon g horizon → IsNearZero moment_reach horizon.from × (IsNearZero moment_reach horizon.to × IsSpan horizon)

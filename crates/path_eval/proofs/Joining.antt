@@ -1,10 +1,10 @@
 -- Sequences and choices between two scopes, from their parts.
-use Rattle.std.proofs.Common.{◌≡◌, ◌⊎◌, inl, inr, ℕ, Bool, true, false, List, refl, sym, subst}
+use Rattle.std.proofs.Common.{◌⊎◌, inl, inr, ℕ, Bool, true, false, List, refl, sym, subst}
 use Rattle.std.specs.Prelude.{IsTrue}
 use Rattle.itpg_base.specs.Graphs.{Graph, Good}
 use Rattle.itpg_base.specs.Points.{Point}
 use Rattle.relation_rows.specs.declared.rows.Row.{Row}
-use Rattle.relation_rows.specs.Rows.{NormalRows, RowsHold}
+use Rattle.relation_rows.specs.Rows.{NormalRows}
 use Rattle.relation_rows.specs.Relations.{HasMiddlePoint, EitherHolds}
 use Rattle.relation_rows.proofs.Alike.{rows_hold, hold_only}
 use Rattle.path_ast.specs.Terms.{PathTerm, Sequence, Choice}

@@ -1,31 +1,19 @@
 -- The axes, from the zones between objects.
-use Rattle.std.proofs.Common.{◌≡◌, ◌↔◌, ◌⊎◌, inl, inr, ⊎_elim, ℕ, zero, suc, ◌<◌, ℤ, pos, ◌+ℤ◌, ◌-ℤ◌, List, [], ◌∷◌, Option, Some, None, refl, sym, ◌∙◌, ap, subst, arith}
-use Rattle.std.specs.Prelude.{IsSome, IsSomeAnd, IsTrue, IfSome, option_map, slice_get}
-use Rattle.std.proofs.lemmas.Int.{ints}
+use Rattle.std.proofs.Common.{◌≡◌, ◌↔◌, ◌⊎◌, inl, inr, ℕ, List, [], ◌∷◌, Option, Some, None, refl, sym, ◌∙◌, ap, subst}
+use Rattle.std.specs.Prelude.{IsSomeAnd, IsTrue, slice_get}
 use Rattle.itpg_base.specs.declared.object_number.ObjNo.{ObjNo}
-use Rattle.itpg_base.specs.Spans.{Span, IsSpan, Within}
-use Rattle.itpg_base.specs.Graphs.{Graph, Object, Begun, Ends, Good, IsBegun, ObjectIs, HasEnd, Stands}
-use Rattle.itpg_base.specs.Points.{Point, IsAt}
+use Rattle.itpg_base.specs.Graphs.{Graph, Object, Ends, Good, ObjectIs, HasEnd, Stands}
+use Rattle.itpg_base.specs.Points.{Point}
 use Rattle.itpg_base.proofs.Objects.{there, here, same_some}
-use Rattle.itpg_graph.specs.Edges.{LeadsFrom, LeadsTo, HasNumber, AreNumbers}
+use Rattle.itpg_graph.specs.Edges.{HasNumber, AreNumbers}
 use Rattle.itpg_graph.specs.Kinds.{ends_of, IsNode}
 use Rattle.zone_core.specs.declared.Bounds.{Bounds}
-use Rattle.zone_core.specs.Zone.{Meets}
-use Rattle.zone_core.specs.Zone.{Within as IsNearZero, moment_reach}
-use Rattle.zone_compose.specs.Compose.{Stays, Moves, IsOneStep}
 use Rattle.band_normal.specs.Lists.{Among}
-use Rattle.relation_rows.specs.Rows.{NormalRows}
-use Rattle.relation_rows.specs.Relations.{InItem, IsOneOf}
-use Rattle.path_ast.specs.Meaning.{Rel, BetweenPoints, HasSource, HasTarget}
 use Rattle.label_scope.specs.declared.scope.Scope.{Scope}
-use Rattle.label_scope.specs.Scopes.{IsWithin}
-use Rattle.label_scope.specs.Narrowing.{Cut}
-use Rattle.condition_eval.specs.Tested.{HasHorizon, Stand}
-use Rattle.condition_eval.specs.Within.{AreWithin}
-use Rattle.condition_eval.proofs.Points.{in_horizon}
+use Rattle.condition_eval.specs.Tested.{Stand}
 use Rattle.path_eval.specs.declared.axes.Direction.{Direction}
 use Rattle.path_eval.specs.declared.axes.Direction.TheVariants as to
-use Rattle.path_eval.specs.Axes.{axis_of, axis_in_time, Joins, far_end, LeadsToEdge, OnEach, StepTo, StepToOne, StepsFrom, StepsFromAny}
+use Rattle.path_eval.specs.Axes.{Joins, far_end, LeadsToEdge, StepTo, StepToOne, StepsFrom}
 
 number_ext : (o p : ObjNo) → o.0 ≡ p.0 → o ≡ p
 number_ext o p e = ap (λ (n : ℕ). let v : ObjNo = record { 0 = n } in v) e

@@ -2,7 +2,14 @@ pub mod Adding
 pub mod Answers
 pub mod Between
 pub mod Finite
+pub mod Fitting
 pub mod Joining
 pub mod Leading
-pub mod Members
 pub mod Working
+pub mod Inner
+pub mod Walking
+pub mod Diagonals
+pub mod MembersWithin
+pub mod Composing
+pub mod Taking
+pub mod Ending

@@ -1,23 +1,27 @@
 -- What is worked out, from what its parts are.
-use Rattle.std.proofs.Common.{◌≡◌, ◌↔◌, ◌≤◌, ◌||◌, ℕ, Bool, true, false, List, [], ◌∷◌, ◌++◌, length, inl, inr, Result, Ok, Err, refl, sym, subst}
+use Rattle.std.proofs.Common.{◌≡◌, ◌≤◌, ℕ, Bool, true, false, List, [], ◌∷◌, ◌++◌, length, inl, inr, ⊎_elim, Option, Result, Ok, Err, refl, sym, subst}
 use Rattle.std.specs.Prelude.{IsTrue}
 use Rattle.itpg_base.specs.declared.object_number.ObjNo.{ObjNo}
 use Rattle.itpg_base.specs.Spans.{Span}
 use Rattle.itpg_base.specs.Graphs.{Graph, Good}
-use Rattle.itpg_base.specs.Points.{Point, Relation}
+use Rattle.itpg_base.specs.Points.{Relation}
+use Rattle.band_normal.specs.Lists.{Among}
+use Rattle.band_normal.proofs.Lists.{append_second}
 use Rattle.relation_rows.specs.declared.rows.Row.{Row}
 use Rattle.relation_rows.specs.declared.rows.RelFault.{RelFault}
 use Rattle.relation_rows.specs.declared.rows.RelFault.TheVariants as rel
-use Rattle.relation_rows.specs.Rows.{NormalRows, RowsHold, Fits}
+use Rattle.relation_rows.specs.Rows.{NormalRows}
 use Rattle.relation_rows.specs.Answers.{Gives}
 use Rattle.relation_rows.specs.Relations.{HasMiddlePoint, EitherHolds}
+use Rattle.relation_rows.proofs.Alike.{rows_alike}
+use Rattle.relation_rows.proofs.Listed.{rows_unique}
 use Rattle.path_ast.specs.Terms.{PathTerm, OfTest, Forward, Backward, Next, Previous, Sequence, Choice, Repetition, TestTerm, Condition, Conjunction, Disjunction, Negation}
 use Rattle.path_ast.specs.Meaning.{keeps_object}
 use Rattle.label_scope.specs.declared.scope.Scope.{Scope}
 use Rattle.label_scope.specs.declared.scope.Scope.TheVariants.{All}
 use Rattle.label_scope.specs.Scopes.{met, source_scope, target_scope}
 use Rattle.label_scope.specs.Narrowing.{Cut, both_where, narrowed}
-use Rattle.label_scope.specs.Members.{Member, worked, worked_conditions, middle}
+use Rattle.label_scope.specs.Members.{Member, worked, worked_conditions, middle, passed}
 use Rattle.label_scope.proofs.Within.{narrowed_cut, widened_cut}
 use Rattle.condition_eval.specs.declared.marks.Marked.{Marked}
 use Rattle.condition_eval.specs.Combined.{BothMark, EitherMarks, IsUnmarked, MarkedToItself}
@@ -27,32 +31,44 @@ use Rattle.condition_eval.specs.Within.{AreWithin}
 use Rattle.condition_eval.proofs.Meanings.{negated, both_hold, either_holds, scoped_condition, scoped_test}
 use Rattle.path_eval.specs.declared.evaluation.EvalFault.{EvalFault}
 use Rattle.path_eval.specs.declared.evaluation.EvalFault.TheVariants.{Memory, Wide}
-use Rattle.path_eval.specs.Evaluated.{AllFit, SomeIsWide}
-use Rattle.path_eval.specs.Repeats.{path_repeats}
-use Rattle.path_eval.specs.Working.{evaluated_as, WorksOutAs, MarksOutAs, member, axis_members, test_members, sequence_members, choice_members, members_between}
-use Rattle.path_eval.proofs.Members.{none_fit, fit_both, wide_first, wide_second, wide_rest, works_out, works_out_as}
+use Rattle.path_eval.specs.Evaluated.{AllFit}
+use Rattle.path_eval.specs.Powers.{GivesMember, repetition_member, repetition_members}
+use Rattle.path_eval.specs.Working.{evaluated_as, WorksOutAs, MarksOutAs, member, axis_members, test_members, sequence_members, choice_members, repeated_members, members_between}
+use Rattle.path_eval.proofs.Fitting.{fit_own, works_out, works_out_as}
+use Rattle.path_eval.proofs.MembersWithin.{none_fit, fit_both, wide_first, wide_second, wide_rest}
 use Rattle.path_eval.proofs.Joining.{sequence_from, from_sequence, choice_from, from_choice}
 
 -- the members of a path are those between its narrowed scopes
-members_are : (p : PathTerm) (a b : Scope) → path_repeats p ≡ false → members_between p (narrowed p a b).sources (narrowed p a b).targets ≡ worked p a b
-members_are (OfTest c) a b u = refl
-members_are Forward a b u = refl
-members_are Backward a b u = refl
-members_are Next a b u = refl
-members_are Previous a b u = refl
-members_are (Sequence p q) a b u = refl
-members_are (Choice p q) a b u = refl
-members_are (Repetition r n m) a b u = let none : ⊥ = cc in absurd none
+members_are : (p : PathTerm) (a b : Scope) → members_between p (narrowed p a b).sources (narrowed p a b).targets ≡ worked p a b
+members_are (OfTest c) a b = refl
+members_are Forward a b = refl
+members_are Backward a b = refl
+members_are Next a b = refl
+members_are Previous a b = refl
+members_are (Sequence p q) a b = refl
+members_are (Choice p q) a b = refl
+members_are (Repetition r n m) a b = refl
+
+-- the first of them is the path itself
+first_member : (p : PathTerm) (a b : Scope) → Among (worked p a b) (member p (narrowed p a b).sources (narrowed p a b).targets)
+first_member (OfTest c) a b = inl refl
+first_member Forward a b = inl refl
+first_member Backward a b = inl refl
+first_member Next a b = inl refl
+first_member Previous a b = inl refl
+first_member (Sequence p q) a b = inl refl
+first_member (Choice p q) a b = inl refl
+first_member (Repetition r n m) a b = inl refl
 
 module _ (g : Graph) (limit : ℕ) (good : Good g) where
   -- narrowing the scopes changes nothing
-  pub unnarrowed : (p : PathTerm) (a b s t : Scope) → s ≡ (narrowed p a b).sources → t ≡ (narrowed p a b).targets → path_repeats p ≡ false
+  pub unnarrowed : (p : PathTerm) (a b s t : Scope) → s ≡ (narrowed p a b).sources → t ≡ (narrowed p a b).targets
       → (result : Result (List Row) EvalFault) → WorksOutAs result (Cut g p s t) g limit (members_between p s t) → WorksOutAs result (Cut g p a b) g limit (worked p a b)
-  unnarrowed p a b s t e f u result h =
+  unnarrowed p a b s t e f result h =
       let k = subst (λ (v : Scope). WorksOutAs result (Cut g p v t) g limit (members_between p v t)) e h in
       let l = subst (λ (v : Scope). WorksOutAs result (Cut g p (narrowed p a b).sources v) g limit (members_between p (narrowed p a b).sources v)) f k in
       works_out_as g limit (Cut g p (narrowed p a b).sources (narrowed p a b).targets) (Cut g p a b) (members_between p (narrowed p a b).sources (narrowed p a b).targets) (worked p a b)
-      (widened_cut p a b g) (λ x y c. narrowed_cut p a b g x y good c) (members_are p a b u) result l
+      (widened_cut p a b g) (λ x y c. narrowed_cut p a b g x y good c) (members_are p a b) result l
 
   pub axis_out : (p : PathTerm) (a b : Scope) (result : Result (List Row) RelFault) → Gives result (Cut g p a b) limit → WorksOutAs (evaluated_as result) (Cut g p a b) g limit (axis_members p a b)
   axis_out p a b = works_out g limit (member p a b) [] (Cut g p a b) (λ x y c. c) (λ x y c. c) (none_fit g limit)
@@ -75,6 +91,27 @@ module _ (g : Graph) (limit : ℕ) (good : Good g) where
       let mid = middle p q (record { sources = a; targets = b }) in
       works_out g limit (member (Sequence p q) a b) (worked p a mid ++ worked q mid b) (HasMiddlePoint left right) (sequence_from g good p q a b left right l.0 r.0) (from_sequence g good p q a b left right l.0 r.0)
       (fit_both g limit (worked p a mid) (worked q mid b) l.1 r.1)
+
+  -- what is worked out within the scope of all that a repetition passes, after the members of its body
+  pub repetition_out : (r : PathTerm) (n : ℕ) (m : Option ℕ) (a b u : Scope) → u ≡ passed r (record { sources = a; targets = b }) → AllFit g limit (worked r u u)
+      → (result : Result (List Row) RelFault) → GivesMember g limit (repetition_member r n m a b) (repetition_members r u n m) result → WorksOutAs (evaluated_as result) (Cut g (Repetition r n m) a b) g limit (repeated_members r n m a b)
+  repetition_out r n m a b u e fit result h =
+      works_repeated r n m a b (passed r (record { sources = a; targets = b })) (subst (λ (v : Scope). AllFit g limit (worked r v v)) e fit) result (subst (λ (v : Scope). GivesMember g limit (repetition_member r n m a b) (repetition_members r v n m) result) e h)
+    where
+      works_repeated : (r : PathTerm) (n : ℕ) (m : Option ℕ) (a b u : Scope) → AllFit g limit (worked r u u) → (result : Result (List Row) RelFault) → GivesMember g limit (repetition_member r n m a b) (repetition_members r u n m) result
+          → WorksOutAs (evaluated_as result) (Cut g (Repetition r n m) a b) g limit (member (Repetition r n m) a b ∷ (worked r u u ++ repetition_members r u n m))
+      works_repeated r n m a b u fit (Ok rows) h = (h.0, fit_own g limit (member (Repetition r n m) a b) (worked r u u ++ repetition_members r u n m) (rows, h.0, h.1) (fit_both g limit (worked r u u) (repetition_members r u n m) fit h.2))
+      works_repeated r n m a b u fit (Err rel.Memory) h = tt
+      works_repeated r n m a b u fit (Err rel.Wide) h = record { member = h.member; among = ⊎_elim (λ i. inl i) (λ i. inr (append_second (worked r u u) (repetition_members r u n m) h.member i)) h.among; wide = h.wide }
+
+  -- a relation whose members fit has few enough rows itself
+  pub few_rows : (p : PathTerm) (a b : Scope) (rows : List Row) → NormalRows (Cut g p a b) rows → AllFit g limit (worked p a b) → length rows ≤ limit
+  few_rows p a b rows normal all =
+      let s = (narrowed p a b).sources in
+      let t = (narrowed p a b).targets in
+      let own = all (member p s t) (first_member p a b) in
+      let same = rows_unique (Cut g p a b) rows own.0 normal (rows_alike (Cut g p s t) (Cut g p a b) (widened_cut p a b g) (λ x y c. narrowed_cut p a b g x y good c) own.0 own.1) in
+      subst (λ (v : List Row). length v ≤ limit) (sym same) own.2
 
   pub choice_out : (p q : PathTerm) (a b : Scope) (left right : List Row) → NormalRows (Cut g p a b) left × AllFit g limit (worked p a b) → NormalRows (Cut g q a b) right × AllFit g limit (worked q a b)
       → (result : Result (List Row) RelFault) → Gives result (EitherHolds left right) limit → WorksOutAs (evaluated_as result) (Cut g (Choice p q) a b) g limit (choice_members p q a b)
@@ -119,14 +156,6 @@ kept_ends p a b s t e f k = of (keeps_object p) k e f
     of : (b1 : Bool) → IsTrue b1 → s ≡ (both_where b1 (met a (source_scope p)) (met b (target_scope p))).sources → t ≡ (both_where b1 (met a (source_scope p)) (met b (target_scope p))).targets → s ≡ t
     of true k e f = let back = sym f in cc
     of false k e f = absurd (let none : ⊥ = cc in none)
-
-or_first : (a b : Bool) → (a || b) ≡ false → a ≡ false
-or_first true b e = e
-or_first false b e = refl
-
-or_second : (a b : Bool) → (a || b) ≡ false → b ≡ false
-or_second true b e = let none : ⊥ = cc in absurd none
-or_second false b e = e
 
 module _ (g : Graph) (limit : ℕ) (objects : List ObjNo) where
   pub both_marked : (c d : TestTerm) (a : Scope) (own also marks : List Marked) → AreMarks objects (HoldsAt c g) own × AllFit g limit (worked_conditions c a) → AreMarks objects (HoldsAt d g) also × AllFit g limit (worked_conditions d a)

@@ -1,5 +1,7 @@
 pub mod Evaluated
-pub mod Repeats
 pub mod Answering
 pub mod Working
 pub mod Axes
+pub mod Passing
+pub mod Powers
+pub mod Ready

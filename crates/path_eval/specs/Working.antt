@@ -1,6 +1,7 @@
 -- For the crate's own functions: what they work out, and the members of each kind of path.
-use Rattle.std.specs.Prelude.{ℕ, List, [], ◌∷◌, ◌++◌, Result, Ok, Err}
+use Rattle.std.specs.Prelude.{ℕ, Option, List, [], ◌∷◌, ◌++◌, Result, Ok, Err}
 use Rattle.itpg_base.specs.declared.object_number.ObjNo.{ObjNo}
+use Rattle.itpg_base.specs.Chains.{chain}
 use Rattle.itpg_base.specs.Graphs.{Graph, Good}
 use Rattle.itpg_base.specs.Points.{Relation}
 use Rattle.relation_rows.specs.declared.rows.Row.{Row}
@@ -10,7 +11,7 @@ use Rattle.relation_rows.specs.Rows.{NormalRows}
 use Rattle.path_ast.specs.Terms.{PathTerm, OfTest, Forward, Backward, Next, Previous, Sequence, Choice, Repetition, TestTerm, IsNode, IsEdge, HasLabel, HasValue, IsBelow, DoesExist, Condition, Conjunction, Disjunction, Negation}
 use Rattle.label_scope.specs.declared.scope.Scope.{Scope}
 use Rattle.label_scope.specs.Narrowing.{Cut}
-use Rattle.label_scope.specs.Members.{Member, worked, worked_conditions, middle}
+use Rattle.label_scope.specs.Members.{Member, worked, worked_conditions, middle, passed, powers_within, unions_within, further}
 use Rattle.condition_eval.specs.declared.marks.Marked.{Marked}
 use Rattle.condition_eval.specs.Marking.{AreMarks}
 use Rattle.condition_eval.specs.Tested.{HoldsAt, HasHorizon}
@@ -86,6 +87,10 @@ sequence_members p q a b = let m = middle p q (record { sources = a; targets = b
 abbrev pub choice_members : PathTerm → PathTerm → Scope → Scope → List Member
 choice_members p q a b = member (Choice p q) a b ∷ (worked p a b ++ worked q a b)
 
+-- a repetition needs those of its body between all that it passes, and the powers there
+abbrev pub repeated_members : PathTerm → ℕ → Option ℕ → Scope → Scope → List Member
+repeated_members r n m a b = let u = passed r (record { sources = a; targets = b }) in member (Repetition r n m) a b ∷ (worked r u u ++ (powers_within r u (chain n) ++ unions_within r u (further n m)))
+
 -- those of a path between narrowed scopes
 abbrev pub members_between : PathTerm → Scope → Scope → List Member
 members_between (OfTest c) a b = test_members c a
@@ -95,4 +100,4 @@ members_between Next a b = axis_members Next a b
 members_between Previous a b = axis_members Previous a b
 members_between (Sequence p q) a b = sequence_members p q a b
 members_between (Choice p q) a b = choice_members p q a b
-members_between (Repetition r n m) a b = member (Repetition r n m) a b ∷ []
+members_between (Repetition r n m) a b = repeated_members r n m a b

@@ -2,24 +2,24 @@
 //!
 //! A path is worked out between two scopes, and each part of it between those that its place leaves: the first part of a
 //! sequence ends where the second starts. So each relation that is made on the way is that of a worked member.
-ghost use Rattle.std.specs.Prelude.{◌≡◌, false, IsSome, IsTrue, IfOk, IsErrOf};
+ghost use Rattle.std.specs.Prelude.{◌≡◌, IsSome, IsTrue, IfOk, IsErrOf};
 ghost use Rattle.relation_rows.specs.Rows.{NormalRows};
 ghost use Rattle.relation_rows.specs.Relations.{Rise};
-ghost use Rattle.path_ast.specs.Terms.{path_term, test_term, OfTest, Sequence, Choice};
-ghost use Rattle.path_ast.specs.Sizes.{IsPathInRange};
+ghost use Rattle.path_ast.specs.Terms.{path_term, test_term, OfTest, Sequence, Choice, Repetition};
+ghost use Rattle.path_ast.specs.Sizes.{IsPathInRange, IsTestInRange, AreInRange};
 ghost use Rattle.path_ast.specs.Meaning.{keeps_object};
 ghost use Rattle.label_scope.specs.Narrowing.{Cut};
-ghost use Rattle.label_scope.specs.Members.{worked, worked_conditions};
+ghost use Rattle.label_scope.specs.Members.{worked, worked_conditions, passed as passed_scope};
 ghost use Rattle.condition_eval.specs.Marking.{AreMarks};
 ghost use Rattle.condition_eval.specs.Tested.{HoldsAt, Stand};
 ghost use Rattle.condition_eval.specs.Within.{AreWithin};
 ghost use Rattle.path_eval.specs.Evaluated.{AllFit, SomeIsWide};
-ghost use Rattle.path_eval.specs.Repeats.{path_repeats, test_repeats};
 ghost use Rattle.path_eval.specs.Axes.{axis_of};
-ghost use Rattle.path_eval.specs.Working.{evaluated_as, IsGround, IsLeaf, WorksOut, MarksOut, axis_members, test_members, sequence_members, choice_members, members_between};
+ghost use Rattle.path_eval.specs.Working.{evaluated_as, IsGround, IsLeaf, WorksOut, MarksOut, axis_members, test_members, sequence_members, choice_members, repeated_members, members_between};
 
 use crate::axes::{Direction, along_edges, in_time};
-use crate::middle::middle;
+use crate::middle::{middle, passed};
+use crate::powers::Powers;
 use condition_eval::{
     Marks, before, by_kind, by_label, by_value, exists, objects_within, starts_of,
 };
@@ -74,9 +74,16 @@ struct Ground<'a> {
     max_rows: u32,
 }
 
+/// How often a path is repeated: at least `least` times and, if there is a `most`, at most that.
+#[derive(Clone, Copy)]
+struct Times {
+    least: u64,
+    most: Option<u64>,
+}
+
 /// The relation of the path, cut to sources within `a` and targets within `b`, as its normal rows.
 ///
-/// The graph is begun, the path is in range, and no repetition stands in it.
+/// The graph is begun, and the path is in range.
 ///
 /// # Errors
 ///
@@ -92,7 +99,6 @@ pub fn relation_of(
 ) -> Result<Relation, EvalFault>
     requires begun { IsSome graph.now.begun }
     requires in_range { IsPathInRange (path_term path.now) }
-    requires unrepeated { path_repeats (path_term path.now) ≡ false }
     ensures rows { IfOk result (λ rows. NormalRows (Cut graph.now (path_term path.now) a.now b.now) rows) }
     ensures fits { IfOk result (λ rows. AllFit graph.now max_rows (worked (path_term path.now) a.now b.now)) }
     ensures wide { IsErrOf result EvalFault.Wide → SomeIsWide graph.now max_rows (worked (path_term path.now) a.now b.now) }
@@ -117,7 +123,7 @@ fn evaluated(given: Result<Relation, RelFault>) -> Result<Relation, EvalFault>
 #[cycle(evaluation)]
 fn worked_out(ground: &Ground<'_>, path: &Path, a: &Scope, b: &Scope) -> Result<Relation, EvalFault>
     requires ground { IsGround ground.now }
-    requires unrepeated { path_repeats (path_term path.now) ≡ false }
+    requires in_range { IsPathInRange (path_term path.now) }
     ensures { WorksOut ground.now result (path_term path.now) a.now b.now (worked (path_term path.now) a.now b.now) }
 {
     let (sources, targets) = narrow(ground.alloc, path, a, b)?;
@@ -128,7 +134,7 @@ fn worked_out(ground: &Ground<'_>, path: &Path, a: &Scope, b: &Scope) -> Result<
 #[cycle(evaluation)]
 fn between(ground: &Ground<'_>, path: &Path, a: &Scope, b: &Scope) -> Result<Relation, EvalFault>
     requires ground { IsGround ground.now }
-    requires unrepeated { path_repeats (path_term path.now) ≡ false }
+    requires in_range { IsPathInRange (path_term path.now) }
     requires kept { IsTrue (keeps_object (path_term path.now)) → a.now ≡ b.now }
     ensures { WorksOut ground.now result (path_term path.now) a.now b.now (members_between (path_term path.now) a.now b.now) }
 {
@@ -140,8 +146,45 @@ fn between(ground: &Ground<'_>, path: &Path, a: &Scope, b: &Scope) -> Result<Rel
         Path::P => evaluated(in_time(ground.alloc, ground.graph, &-1, a, ground.max_rows)),
         Path::Seq(first, second) => sequence(ground, first, second, a, b),
         Path::Alt(one, other) => choice(ground, one, other, a, b),
-        Path::Repeat { .. } => unreachable!(),
+        Path::Repeat { body, least, most } => repetition(
+            ground,
+            body,
+            &Times {
+                least: *least,
+                most: *most,
+            },
+            a,
+            b,
+        ),
     }
+}
+
+// The relation of a body from a least to a most number of times, from its own within the scope of all that it passes.
+fn repeated(
+    ground: &Ground<'_>,
+    body: &Path,
+    times: &Times,
+    once: &Relation,
+    within: &Scope,
+    a: &Scope,
+    b: &Scope,
+) -> Result<Relation, EvalFault>
+    requires ground { IsGround ground.now }
+    requires times { AreInRange times.now.least times.now.most }
+    requires within { within.now ≡ passed_scope (path_term body.now) (record { sources = a.now; targets = b.now }) }
+    requires once { NormalRows (Cut ground.now.graph.now (path_term body.now) within.now within.now) once.now }
+    requires fits { AllFit ground.now.graph.now ground.now.max_rows (worked (path_term body.now) within.now within.now) }
+    ensures { WorksOut ground.now result (Repetition (path_term body.now) times.now.least times.now.most) a.now b.now (repeated_members (path_term body.now) times.now.least times.now.most a.now b.now) }
+{
+    let powers = Powers {
+        alloc: ground.alloc,
+        graph: ground.graph,
+        body,
+        relation: once,
+        passed: within,
+        max_rows: ground.max_rows,
+    };
+    evaluated(powers.between(a, b, times.least, times.most))
 }
 
 // The relation of an axis along edges.
@@ -167,8 +210,8 @@ fn sequence(
     b: &Scope,
 ) -> Result<Relation, EvalFault>
     requires ground { IsGround ground.now }
-    requires first_unrepeated { path_repeats (path_term first.now) ≡ false }
-    requires second_unrepeated { path_repeats (path_term second.now) ≡ false }
+    requires first_in_range { IsPathInRange (path_term first.now) }
+    requires second_in_range { IsPathInRange (path_term second.now) }
     ensures { WorksOut ground.now result (Sequence (path_term first.now) (path_term second.now)) a.now b.now (sequence_members (path_term first.now) (path_term second.now) a.now b.now) }
 {
     let meeting = middle(ground.alloc, first, second, a, b)?;
@@ -187,8 +230,8 @@ fn choice(
     b: &Scope,
 ) -> Result<Relation, EvalFault>
     requires ground { IsGround ground.now }
-    requires one_unrepeated { path_repeats (path_term one.now) ≡ false }
-    requires other_unrepeated { path_repeats (path_term other.now) ≡ false }
+    requires one_in_range { IsPathInRange (path_term one.now) }
+    requires other_in_range { IsPathInRange (path_term other.now) }
     ensures { WorksOut ground.now result (Choice (path_term one.now) (path_term other.now)) a.now b.now (choice_members (path_term one.now) (path_term other.now) a.now b.now) }
 {
     let by_one = worked_out(ground, one, a, b)?;
@@ -196,11 +239,32 @@ fn choice(
     evaluated(by_one.union(&by_other, ground.max_rows))
 }
 
+// The relation of a body from a least to a most number of times.
+//
+// The body's own relation is worked out between the objects that the repetition passes, and the powers from it.
+#[cycle(evaluation)]
+fn repetition(
+    ground: &Ground<'_>,
+    body: &Path,
+    times: &Times,
+    a: &Scope,
+    b: &Scope,
+) -> Result<Relation, EvalFault>
+    requires ground { IsGround ground.now }
+    requires in_range { IsPathInRange (path_term body.now) }
+    requires times { AreInRange times.now.least times.now.most }
+    ensures { WorksOut ground.now result (Repetition (path_term body.now) times.now.least times.now.most) a.now b.now (repeated_members (path_term body.now) times.now.least times.now.most a.now b.now) }
+{
+    let within = passed(ground.alloc, body, a, b)?;
+    let once = worked_out(ground, body, &within, &within)?;
+    repeated(ground, body, times, &once, &within, a, b)
+}
+
 // The relation of a test: each point of the scope at which it holds leads to itself.
 #[cycle(evaluation)]
 fn test_relation(ground: &Ground<'_>, test: &Test, scope: &Scope) -> Result<Relation, EvalFault>
     requires ground { IsGround ground.now }
-    requires unrepeated { test_repeats (test_term test.now) ≡ false }
+    requires in_range { IsTestInRange (test_term test.now) }
     ensures { WorksOut ground.now result (OfTest (test_term test.now)) scope.now scope.now (test_members (test_term test.now) scope.now) }
 {
     let objects = objects_within(ground.alloc, ground.graph, scope)?;
@@ -217,7 +281,7 @@ fn marks_of(
     objects: &[ObjNo],
 ) -> Result<Marks, EvalFault>
     requires ground { IsGround ground.now }
-    requires unrepeated { test_repeats (test_term test.now) ≡ false }
+    requires in_range { IsTestInRange (test_term test.now) }
     requires within { AreWithin scope.now ground.now.graph.now objects.now }
     ensures { MarksOut ground.now result (test_term test.now) objects.now (worked_conditions (test_term test.now) scope.now) }
 {

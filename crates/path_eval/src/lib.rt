@@ -11,9 +11,13 @@ mod axes;
 mod evaluation;
 mod laws;
 mod middle;
-mod repeating;
+mod passing;
+mod powers;
+mod repeated;
+#[cfg(test)]
+mod tests;
 
 pub use answering::answer;
 pub use evaluation::{EvalFault, relation_of};
 pub use laws::{law_of_cuts, law_of_members, law_of_times};
-pub use repeating::repeats;
+pub use passing::law_of_passing;

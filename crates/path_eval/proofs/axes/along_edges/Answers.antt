@@ -1,5 +1,4 @@
-use Rattle.std.proofs.Common.{◌≡◌, ◌↔◌, Some, SFits, w64, to_z-of_z, rules, sym, ◌∙◌}
-use Rattle.itpg_base.specs.Points.{Point}
+use Rattle.std.proofs.Common.{SFits, w64, to_z-of_z, rules, sym, ◌∙◌}
 use Rattle.relation_rows.specs.Relations.{ItemsHold}
 use Rattle.relation_rows.proofs.Identity.{zone_there}
 use Rattle.label_scope.specs.Narrowing.{Cut}

@@ -1,5 +1,4 @@
-use Rattle.std.proofs.Common.{◌≡◌, ◌↔◌, Some, None, SFits, w64, to_z-of_z, rules, refl, sym, ◌∙◌, subst}
-use Rattle.itpg_base.specs.Points.{Point}
+use Rattle.std.proofs.Common.{SFits, w64, to_z-of_z, rules, sym, ◌∙◌}
 use Rattle.relation_rows.specs.Relations.{ItemsHold}
 use Rattle.label_scope.specs.Narrowing.{Cut}
 use Rattle.condition_eval.specs.Tested.{HasHorizon}

@@ -1,6 +1,3 @@
-use Rattle.std.proofs.Common.{◌≡◌, Option, Some, None, subst}
-use Rattle.itpg_base.specs.Graphs.{ObjectIs}
-use Rattle.itpg_graph.specs.Kinds.{ends_of}
 use Rattle.path_eval.specs.Axes.{StepTo, StepToOne, StepsFrom, far_end}
 use Rattle.path_eval.proofs.Adding.{adds_as}
 use Rattle.path_eval.proofs.Leading.{edges_stand, edge_steps, node_steps, end_stands}

@@ -1,8 +1,9 @@
-use Rattle.std.proofs.Common.{refl, sym}
+use Rattle.std.proofs.Common.{◌++◌, refl, sym}
+use Rattle.itpg_base.specs.Chains.{chain}
 use Rattle.std.proofs.lemmas.Result.{err_from_is_err_and}
-use Rattle.path_ast.specs.Terms.{path_term, test_term, Next, Previous, Sequence, Choice, OfTest, Conjunction, Disjunction}
+use Rattle.path_ast.specs.Terms.{path_term, test_term, Next, Previous, Sequence, Choice, Repetition, Conjunction, Disjunction}
 use Rattle.label_scope.specs.Narrowing.{Cut}
-use Rattle.label_scope.specs.Members.{worked, worked_conditions, middle}
+use Rattle.label_scope.specs.Members.{worked, worked_conditions, middle, passed, powers_within, unions_within, further}
 use Rattle.path_eval.specs.Working.{member}
 use Rattle.path_eval.proofs.Working.{unnarrowed, time_out, test_out, sequence_out, choice_out, first_fault, second_fault, first_marks, second_marks, both_marked, either_marked, condition_marked, negation_marked}
 use Rattle.path_eval.proofs.evaluation.+evaluation.Goals as goal
@@ -81,4 +82,9 @@ pub marks_of-returns-in_ok-not-in-Not : goal.marks_of-returns-in_ok-not-in-Not
 marks_of-returns-in_ok-not-in-Not t c = rw c.in-Not.is (negation_marked c.args.ground.now.graph.now c.args.ground.now.max_rows c.args.objects.now (test_term c.in-Not.negated.value) c.args.scope.now c.args.ground.now.horizon c.requires.ground.horizon c.requires.within.stand c.in_ok-own-in-Not.own c.in_ok-not-in-Not.field-0 (rw c.deref-in-Not.ensures at c.in_ok-own-in-Not.ensures) c.in_ok-not-in-Not.ensures)
 
 pub worked_out-returns : goal.worked_out-returns
-worked_out-returns t c = unnarrowed c.args.ground.now.graph.now c.args.ground.now.max_rows c.requires.ground.good (path_term c.args.path.now) c.args.a.now c.args.b.now c.in_ok-sources.sources c.in_ok-sources.targets c.in_ok-sources.ensures.sources c.in_ok-sources.ensures.targets c.requires.unrepeated c.between.result c.between.ensures
+worked_out-returns t c = unnarrowed c.args.ground.now.graph.now c.args.ground.now.max_rows c.requires.ground.good (path_term c.args.path.now) c.args.a.now c.args.b.now c.in_ok-sources.sources c.in_ok-sources.targets c.in_ok-sources.ensures.sources c.in_ok-sources.ensures.targets c.between.result c.between.ensures
+
+pub repetition-returns-in_err-once : goal.repetition-returns-in_err-once
+repetition-returns-in_err-once t c =
+    let p = err_from_is_err_and c.from_residual-in_err-once.result c.from_residual-in_err-once.ensures.1 in
+    rw (p.1, p.2) (first_fault c.args.ground.now.graph.now c.args.ground.now.max_rows (Cut c.args.ground.now.graph.now (path_term c.args.body.now) (passed (path_term c.args.body.now) (record { sources = c.args.a.now; targets = c.args.b.now })) (passed (path_term c.args.body.now) (record { sources = c.args.a.now; targets = c.args.b.now }))) (Cut c.args.ground.now.graph.now (Repetition (path_term c.args.body.now) c.args.times.now.least c.args.times.now.most) c.args.a.now c.args.b.now) (member (Repetition (path_term c.args.body.now) c.args.times.now.least c.args.times.now.most) c.args.a.now c.args.b.now) (worked (path_term c.args.body.now) (passed (path_term c.args.body.now) (record { sources = c.args.a.now; targets = c.args.b.now })) (passed (path_term c.args.body.now) (record { sources = c.args.a.now; targets = c.args.b.now }))) (powers_within (path_term c.args.body.now) (passed (path_term c.args.body.now) (record { sources = c.args.a.now; targets = c.args.b.now })) (chain c.args.times.now.least) ++ unions_within (path_term c.args.body.now) (passed (path_term c.args.body.now) (record { sources = c.args.a.now; targets = c.args.b.now })) (further c.args.times.now.least c.args.times.now.most)) c.in_err-once.field-0.0 (rw c.in_ok-within.ensures at c.in_err-once.ensures))

@@ -20,3 +20,6 @@ decreases-marks_of l = 4 * test_size (test_term l.test.now)
 
 abbrev pub decreases-between : goal.decreases-between
 decreases-between l = 4 * path_size (path_term l.path.now) + 2
+
+abbrev pub decreases-repetition : goal.decreases-repetition
+decreases-repetition l = 4 * path_size (path_term l.body.now) + 5

@@ -1,0 +1,117 @@
+-- What the operations on rows say of relations that are written down.
+use Rattle.std.proofs.Common.{◌≡◌, ◌≤◌, ℕ, List, length, Result, Ok, Err, IfOk, refl, subst, arith}
+use Rattle.itpg_base.specs.declared.object_number.ObjNo.{ObjNo}
+use Rattle.itpg_base.specs.Spans.{Span}
+use Rattle.itpg_base.specs.Graphs.{Graph, Good}
+use Rattle.itpg_base.specs.Points.{Point, IsAt}
+use Rattle.band_normal.specs.Lists.{Among}
+use Rattle.relation_rows.specs.declared.rows.Row.{Row}
+use Rattle.relation_rows.specs.declared.rows.RelFault.{RelFault}
+use Rattle.relation_rows.specs.declared.rows.RelFault.TheVariants.{Memory, Wide}
+use Rattle.relation_rows.specs.Rows.{between, RowsHold, RowBefore, NormalRows, Fits, IsRelation}
+use Rattle.relation_rows.specs.Answers.{Gives}
+use Rattle.relation_rows.specs.Relations.{IsOneOf, IsBetween, IsItself}
+use Rattle.relation_rows.proofs.Giving.{gives_alike}
+use Rattle.relation_rows.proofs.Alike.{rows_alike, row_alike, hold_only, in_relation, row_start, wide_apart}
+use Rattle.relation_rows.proofs.Listed.{Listed, listed_of, carried, ordered_fewer, row_apart, rows_unique}
+use Rattle.band_normal.specs.Bands.{end_at}
+use Rattle.condition_eval.specs.Within.{AreWithin}
+use Rattle.condition_eval.specs.Tested.{HasHorizon}
+use Rattle.condition_eval.proofs.Points.{in_horizon}
+use Rattle.label_scope.specs.declared.scope.Scope.{Scope}
+use Rattle.repeat_engine.specs.Composed.{IsOkWhere}
+use Rattle.repeat_engine.specs.Relations.{Given}
+use Rattle.path_eval.specs.Powers.{SamePoint, Written, Leads, LeadAlike, FitsInside, HeldBetween}
+
+-- the fault is want of memory
+abbrev pub WantsMemory : RelFault → Type 0
+WantsMemory fault = fault ≡ Memory
+
+module _ (g : Graph) (u : Scope) (w : Written) (limit : ℕ) where
+  -- what an answer with a limit says where the relation is what is written down
+  pub value_of : (result : Result (List Row) RelFault) → Gives result (Leads g u w) limit → IfOk result (λ v. LeadAlike g u (Given v) w)
+  value_of (Ok rows) h = record { there = hold_only (Leads g u w) rows h.0; back = (h.0).whole }
+  value_of (Err fault) h = tt
+
+  pub exact_of : (result : Result (List Row) RelFault) → Gives result (Leads g u w) limit → IsOkWhere WantsMemory result (FitsInside g u limit w)
+  exact_of (Ok rows) h = (rows, h.0, h.1)
+  exact_of (Err Memory) h = λ other fits. other refl
+  exact_of (Err Wide) h = λ other fits. wide_apart (Leads g u w) limit fits h
+
+-- relations that lead alike have the same rows
+pub same_rows : (g : Graph) (u : Scope) (xs ys : List Row) → IsRelation xs → IsRelation ys → LeadAlike g u (Given xs) (Given ys) → xs ≡ ys
+same_rows g u xs ys a b alike = rows_unique (RowsHold xs) xs ys a.normal (rows_alike (RowsHold ys) (RowsHold xs) alike.back alike.there ys b.normal)
+
+pub alike_rows : (g : Graph) (u : Scope) (xs ys : List Row) → xs ≡ ys → LeadAlike g u (Given xs) (Given ys)
+alike_rows g u xs ys e = subst (λ (v : List Row). LeadAlike g u (Given xs) (Given v)) e (record { there = λ x y h. h; back = λ x y h. h })
+
+-- the rows that are kept between two scopes
+module _ (g : Graph) (rows : List Row) (a b : Scope) (sources targets : List ObjNo) (at_source : AreWithin a g sources) (at_target : AreWithin b g targets) where
+  in_scopes : (x y : Point) → IsBetween rows sources targets x y → HeldBetween g rows a b x y
+  in_scopes x y h = record {
+    held = h.held;
+    source = (at_source.stand x.object h.source, at_source.within x.object h.source);
+    target = (at_target.stand y.object h.target, at_target.within y.object h.target);
+  }
+
+  in_lists : (x y : Point) → HeldBetween g rows a b x y → IsBetween rows sources targets x y
+  in_lists x y h =
+      let source = h.source in let target = h.target in
+      record { held = h.held; source = at_source.whole x.object source.0 source.1; target = at_target.whole y.object target.0 target.1 }
+
+  pub cut_normal : {E : Type 0} (result : Result (List Row) E) → IfOk result (λ kept. NormalRows (IsBetween rows sources targets) kept) → IfOk result (λ kept. NormalRows (HeldBetween g rows a b) kept)
+  cut_normal (Ok kept) n = rows_alike (IsBetween rows sources targets) (HeldBetween g rows a b) in_scopes in_lists kept n
+  cut_normal (Err e) n = tt
+
+-- there are no more of them
+module _ (rows : List Row) (sources targets : List ObjNo) (kept : List Row) (n : NormalRows (IsBetween rows sources targets) kept) where
+  abbrev Kept : ℕ → ℕ → Type 0
+  Kept o p = IsOneOf sources o × IsOneOf targets p
+
+  key_kept : (r : Row) → Among kept r → Kept r.source.0 r.target.0
+  key_kept r i =
+      let row = n.each r i in
+      let x : Point = record { object = r.source.0; moment = r.band.from } in
+      let y : Point = record { object = r.target.0; moment = end_at r.band.low r.band.from } in
+      let h = in_relation (IsBetween rows sources targets) r x y row (record { source = refl; target = refl; pair = row_start (between (IsBetween rows sources targets) r.source.0 r.target.0) r.band row }) in
+      (h.source, h.target)
+
+  kept_listed : Listed (RowsHold rows) Kept kept
+  kept_listed = record {
+    whole = λ x y k h. n.whole x y (record { held = h; source = k.0; target = k.1 });
+    keys = key_kept;
+    once = n.once;
+    each = λ r i.
+        let k = key_kept r i in
+        row_alike (between (IsBetween rows sources targets) r.source.0 r.target.0) (between (RowsHold rows) r.source.0 r.target.0)
+        (λ t v h. h.held) (λ t v h. record { held = h; source = k.0; target = k.1 }) r.band (n.each r i);
+    order = n.order;
+  }
+
+  kept_fewer : (limit : ℕ) → Fits (RowsHold rows) limit → length kept ≤ limit
+  kept_fewer limit fits =
+      let whole = fits.1 in
+      let fewer = ordered_fewer RowBefore row_apart kept fits.0 n.order whole.order (λ r i. carried (RowsHold rows) Kept (λ o p. Unit {0}) kept fits.0 kept_listed (listed_of (RowsHold rows) fits.0 whole) r i tt) in
+      let few = fits.2 in
+      omega (arith, fewer, few)
+
+pub cut_few : {E : Type 0} (rows : List Row) (sources targets : List ObjNo) (result : Result (List Row) E) → IfOk result (λ kept. NormalRows (IsBetween rows sources targets) kept)
+    → IfOk result (λ kept. (limit : ℕ) → Fits (RowsHold rows) limit → length kept ≤ limit)
+cut_few rows sources targets (Ok kept) n = kept_fewer rows sources targets kept n
+cut_few rows sources targets (Err e) n = tt
+
+-- the identity on the objects within a scope, over the horizon
+module _ (g : Graph) (good : Good g) (scope : Scope) (objects : List ObjNo) (are : AreWithin scope g objects) (horizon : Span) (begun : HasHorizon g horizon) where
+  itself_inside : (x y : Point) → IsItself objects horizon x y → SamePoint g scope x y
+  itself_inside x y h =
+      let at : IsAt g x = record { stands = are.stand x.object h.object; within = (in_horizon g horizon begun x.moment).0 h.moment } in
+      (record { good = good; at = at; within = are.within x.object h.object }, h.same)
+
+  inside_itself : (x y : Point) → SamePoint g scope x y → IsItself objects horizon x y
+  inside_itself x y h =
+      let i = h.0 in
+      let at = i.at in
+      record { same = h.1; object = are.whole x.object at.stands i.within; moment = (in_horizon g horizon begun x.moment).1 at.within }
+
+  pub identity_gives : (limit : ℕ) (result : Result (List Row) RelFault) → Gives result (IsItself objects horizon) limit → Gives result (SamePoint g scope) limit
+  identity_gives limit result given = gives_alike (IsItself objects horizon) (SamePoint g scope) itself_inside inside_itself limit result given

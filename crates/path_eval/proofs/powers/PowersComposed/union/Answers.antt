@@ -1,0 +1,13 @@
+use Rattle.repeat_engine.specs.Relations.{Given, Union}
+use Rattle.path_eval.proofs.Composing.{value_of, exact_of}
+use Rattle.path_eval.proofs.powers.PowersComposed.union.Goals as goal
+
+pub returns-clause-value : goal.returns-clause-value
+returns-clause-value c =
+    let s = c.args.self.now in
+    value_of s.graph.now s.passed.now (Union (Given c.args.x.now) (Given c.args.y.now)) s.max_rows c.union.result c.union.ensures
+
+pub returns-clause-exact : goal.returns-clause-exact
+returns-clause-exact c =
+    let s = c.args.self.now in
+    exact_of s.graph.now s.passed.now (Union (Given c.args.x.now) (Given c.args.y.now)) s.max_rows c.union.result c.union.ensures

@@ -1,0 +1,114 @@
+//! The relation of a repetition.
+//!
+//! ```text
+//!     path[0,0]    the identity, on the objects within both scopes alone
+//!     path[n,n]    the n-th power, cut to both scopes
+//!     path[0,m]    the powers 0 to m united, cut to both scopes
+//!     path[n,m]    the n-th power from the one scope, then the powers 0 to m - n united, to the other
+//!     path[n,_]    the same with all powers united
+//! ```
+//!
+//! The powers and their unions are those of the body's relation within the scope of all that the repetition passes. Two
+//! relations between these objects are no worked members and so are never made: the identity where nothing is united, and the
+//! n-th power composed with a union. Either could have too many rows where no member has.
+ghost use Rattle.std.specs.Prelude.{◌≡◌, ◌<◌, ◌≤◌, ◌∷◌, Some, None, length, IfOk, IsErrOf};
+ghost use Rattle.relation_rows.specs.Rows.{NormalRows};
+ghost use Rattle.path_ast.specs.Terms.{path_term, Repetition};
+ghost use Rattle.path_ast.specs.Sizes.{AreInRange};
+ghost use Rattle.label_scope.specs.Narrowing.{Cut};
+ghost use Rattle.label_scope.specs.Members.{passed as passed_scope, unions_within, further};
+ghost use Rattle.path_eval.specs.Evaluated.{AllFit, SomeIsWide};
+ghost use Rattle.path_eval.specs.Ready.{IsReady};
+ghost use Rattle.path_eval.specs.Powers.{GivesPairs, GivesMember, HoldsFitting, IsRest, left_over, repetition_member, repetition_members};
+
+use crate::powers::{Powers, cut};
+use label_scope::Scope;
+use relation_rows::{RelFault, Relation};
+
+impl Powers<'_> {
+    /// The path from `least` to `most` times, or any greater number of times, between two scopes.
+    ///
+    /// # Errors
+    ///
+    /// `Wide` exactly where the repetition between the two scopes has more than `max_rows` normal rows, or within `passed` some
+    /// power in the chain of `least` has, or some union of powers that goes on from there; `Memory` for want of memory.
+    pub(crate) fn between(
+        &self,
+        a: &Scope,
+        b: &Scope,
+        least: u64,
+        most: Option<u64>,
+    ) -> Result<Relation, RelFault>
+        requires ready { IsReady self.now }
+        requires in_range { AreInRange least most }
+        requires passed { self.now.passed.now ≡ passed_scope (path_term self.now.body.now) (record { sources = a.now; targets = b.now }) }
+        ensures { let r = path_term self.now.body.now in
+            GivesMember self.now.graph.now self.now.max_rows (repetition_member r least most a.now b.now) (repetition_members r self.now.passed.now least most) result }
+    {
+        if most == Some(least) {
+            self.exactly_between(a, b, least)
+        } else {
+            let rest = self.rest(least, most)?;
+            self.with_rest(a, b, least, most, &rest)
+        }
+    }
+
+    /// The path n times between two scopes.
+    fn exactly_between(&self, a: &Scope, b: &Scope, n: u64) -> Result<Relation, RelFault>
+        requires ready { IsReady self.now }
+        requires small { n ≤ 1000000000000 }
+        requires passed { self.now.passed.now ≡ passed_scope (path_term self.now.body.now) (record { sources = a.now; targets = b.now }) }
+        ensures { let r = path_term self.now.body.now in
+            GivesMember self.now.graph.now self.now.max_rows (repetition_member r n (Some n) a.now b.now) (repetition_members r self.now.passed.now n (Some n)) result }
+    {
+        if n == 0 {
+            let both = a.meet(self.alloc, b)?;
+            return self.identity_within(&both);
+        }
+        let power = self.exactly(n)?;
+        let rows = cut(self.alloc, self.graph, &power, a, b)?;
+        Ok(rows)
+    }
+
+    /// What may follow after `least` times: as many times as are left up to `most`, or any number.
+    fn rest(&self, least: u64, most: Option<u64>) -> Result<Relation, RelFault>
+        requires ready { IsReady self.now }
+        requires in_range { AreInRange least most }
+        requires more { IsRest least most }
+        ensures { let r = path_term self.now.body.now in let u = self.now.passed.now in
+            GivesPairs self.now.graph.now self.now.max_rows (Cut self.now.graph.now (Repetition r 0 (left_over least most)) u u) (unions_within r u (further least most)) result }
+    {
+        match most {
+            Some(most) => self.at_most(most - least),
+            None => self.any_number(),
+        }
+    }
+
+    /// The path `least` times, and then what may follow, between two scopes.
+    fn with_rest(
+        &self,
+        a: &Scope,
+        b: &Scope,
+        least: u64,
+        most: Option<u64>,
+        rest: &Relation,
+    ) -> Result<Relation, RelFault>
+        requires ready { IsReady self.now }
+        requires in_range { AreInRange least most }
+        requires passed { self.now.passed.now ≡ passed_scope (path_term self.now.body.now) (record { sources = a.now; targets = b.now }) }
+        requires rest { let r = path_term self.now.body.now in let u = self.now.passed.now in
+            HoldsFitting (Cut self.now.graph.now (Repetition r 0 (left_over least most)) u u) self.now.max_rows rest.now }
+        requires fits { AllFit self.now.graph.now self.now.max_rows (unions_within (path_term self.now.body.now) self.now.passed.now (further least most)) }
+        ensures { let r = path_term self.now.body.now in
+            GivesMember self.now.graph.now self.now.max_rows (repetition_member r least most a.now b.now) (repetition_members r self.now.passed.now least most) result }
+    {
+        if least == 0 {
+            let rows = cut(self.alloc, self.graph, rest, a, b)?;
+            return Ok(rows);
+        }
+        let power = self.exactly(least)?;
+        let first = cut(self.alloc, self.graph, &power, a, self.passed)?;
+        let second = cut(self.alloc, self.graph, rest, self.passed, b)?;
+        first.compose(&second, self.max_rows)
+    }
+}
