@@ -10,7 +10,7 @@ use Rattle.itpg_base.specs.declared.rule_code.RuleCode.TheVariants.{NoGraph, Gra
 use Rattle.itpg_base.proofs.Objects.{word_same, word_refl}
 use Rattle.itpg_edit.specs.Rules.{FirstOf, NoneOf}
 use Rattle.path_ast.specs.Terms.{QueryTerm}
-use Rattle.itpg_session.specs.Rules.{QueryBreaks, WatchBreaks, CommandBreaks, watch_rules, ask_rules, command_rules}
+use Rattle.itpg_session.specs.Rules.{QueryBreaks, WatchBreaks, CommandBreaks, watch_rules, command_rules}
 
 decide_same : (a b : Word) → Decided (a ≡ b)
 decide_same a b = by_test (pointwise nat_eq a b) refl

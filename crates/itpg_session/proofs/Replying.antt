@@ -1,5 +1,5 @@
 -- On each graph a query text has exactly one reply, and each object of its rows was declared.
-use Rattle.std.proofs.Common.{◌≡◌, ◌≢◌, ◌⊎◌, inl, inr, ◌||◌, ℕ, ◌<◌, List, Bool, true, false, length, refl, sym, ap, ◌∙◌, subst, arith}
+use Rattle.std.proofs.Common.{◌≡◌, ◌⊎◌, inl, inr, ◌||◌, ℕ, ◌<◌, List, Bool, true, false, length, refl, sym, ap, ◌∙◌, subst, arith}
 use Rattle.std.specs.Prelude.{IsTrue}
 use Rattle.std.proofs.lemmas.Int.{ints}
 use Rattle.std.proofs.lemmas.Option.{slice_get_within}
@@ -31,7 +31,6 @@ use Rattle.path_eval.proofs.Finite.{cut_rows, departures, arrivals, fit_or_wide,
 use Rattle.row_printer.specs.Texts.{AreDeclared}
 use Rattle.itpg_session.specs.Rules.{QueryBreaks, ask_rules}
 use Rattle.itpg_session.specs.Replies.{Reply, Bad, Refused, Wide, Rows, IsReply, IsReplyTo, NamesDeclared}
-use Rattle.itpg_session.specs.MachineLaws.{OneAsked, SomeAsked, DeclaredAsked}
 use Rattle.itpg_session.proofs.Decided.{first_or_none, decide_ask}
 
 -- ---- what answers a query

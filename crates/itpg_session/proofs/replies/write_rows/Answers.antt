@@ -1,4 +1,4 @@
-use Rattle.std.proofs.Common.{◌≡◌, ap, ◌∙◌, sym, subst, []}
+use Rattle.std.proofs.Common.{◌≡◌, ap, ◌∙◌, subst, []}
 use Rattle.std.specs.Io.KnownBytes.{Appends}
 use Rattle.itpg_base.specs.Outside.{AppendsSome}
 use Rattle.relation_rows.specs.Answered.{answered, row_number}

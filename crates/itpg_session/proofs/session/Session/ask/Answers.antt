@@ -1,4 +1,4 @@
-use Rattle.std.proofs.Common.{ap, subst}
+use Rattle.std.proofs.Common.{subst}
 use Rattle.std.specs.Prelude.{IfOk}
 use Rattle.itpg_session.specs.Replies.{reply_of, IsReply}
 use Rattle.itpg_session.specs.Machine.{Standing}
