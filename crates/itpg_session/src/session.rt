@@ -87,9 +87,10 @@ impl Session {
     /// The reply to a question with this query text, as a value. The session stays as it is.
     ///
     /// ```text
-    ///     MATCH (x:Person)         Rows: the moments at which each of them exists
-    ///     MATCH (x)-/N*/-(y)       Refused(Later): a repetition stands in it
-    ///     MATCH (x                 Bad(Text)
+    ///     MATCH (x:Person)              Rows: the moments at which each of them exists
+    ///     MATCH (x)-/N*/-(y)            Rows: from where and when to where and when
+    ///     MATCH (x) ON another          Refused(GraphName)
+    ///     MATCH (x                      Bad(Text)
     /// ```
     ///
     /// `Bad` comes exactly with the first fault of the text; the faults of a script line have no part in it. Of a text that

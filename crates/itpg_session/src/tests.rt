@@ -55,7 +55,7 @@ const SEEN: [Seen; 15] = [
 
 const WRITTEN: &[u8] =
     b"line 4 rows 1\na 0..9\nline 7 wide\nline 8 rows 0\nline 9 refused graphname\n\
-line 10 refused later\nline 11 bad text\nline 12 refused later\nline 13 refused backwards\nline 14 bad text\n\
+line 10 wide\nline 11 bad text\nline 12 refused later\nline 13 refused backwards\nline 14 bad text\n\
 line 15 wide\n";
 
 #[test]
@@ -115,7 +115,7 @@ fn a_question_has_no_faults_of_a_line(rt: HostRuntime) -> Result<(), Fail> {
     let mut text = vec![in alloc; b'('; 65]?;
     text.push(b'\'')?;
     assert!(rt; matches!(&session.ask(&text)?, Asked::Bad(TextCode::Deep)));
-    let repeated = session.ask(b"MATCH (x)-/N*/-(y)")?;
-    assert!(rt; matches!(&repeated, Asked::Refused(RuleCode::Later)));
+    let another = session.ask(b"MATCH (x)-/N*/-(y) ON h")?;
+    assert!(rt; matches!(&another, Asked::Refused(RuleCode::GraphName)));
     Ok(())
 }
