@@ -5,10 +5,10 @@
     model.py                    tries each script of this folder against its NAME.out and NAME.status, and the files
                                 of the folder examples/ at the top, which are copies of files here
 
-It shares nothing with itpg. A relation is a set of quadruples, made by the meaning of its path at every moment of the
-horizon; rows are made from it and then tried against the five conditions of a normal list; wide is told by the rows of each
-worked member. So it says nothing of horizons longer than MOST_MOMENTS. Scripts with words are left out. A question with a
-repetition, and each command on watches, is `later`, as long as the program answers so.
+It shares nothing with itpg. A relation says of each object at each moment of the horizon which objects at which moments it
+leads to, by the meaning of its path, and a repetition is walked step by step; rows are made from it and then tried against
+the five conditions of a normal list; wide is told by the rows of each worked member. So it says nothing of horizons longer
+than MOST_MOMENTS. Scripts with words are left out. Each command on watches is `later`, as long as the program answers so.
 """
 import functools
 import itertools
@@ -16,7 +16,7 @@ import pathlib
 import re
 import sys
 
-MOST_MOMENTS = 20_000
+MOST_MOMENTS = 2_000
 BOUND = 10**12
 ALL = None  # the scope of all objects; another scope is a set of labels
 
@@ -140,14 +140,15 @@ class Reader:
     def rep(self):
         path = self.atom()
         if self.mark("*"):
-            return ("repeat", path)
+            return ("repeat", path, 0, None)
         if self.mark("["):
-            least = self.count()
+            least, most = self.count(), None
             self.take("mark", ",")
             if not self.mark("_"):
-                self.ranges.append((least, self.count()))
+                most = self.count()
+                self.ranges.append((least, most))
             self.take("mark", "]")
-            return ("repeat", path)
+            return ("repeat", path, least, most)
         return path
 
     def count(self):
@@ -226,10 +227,6 @@ class Reader:
 def terms(term):
     inner = sum(terms(part) for part in term[1:] if isinstance(part, tuple))
     return inner + (term[0] != "test")
-
-
-def repeats(term):
-    return term[0] == "repeat" or any(repeats(part) for part in term[1:] if isinstance(part, tuple))
 
 
 def read_query(tokens):
@@ -371,15 +368,19 @@ class Graph:
         it.stands, it.lives, it.values = False, set(), {}
 
 
-# What a path means: a set of quadruples (object, moment, object, moment)
+# What a path means: for each point the points that it leads to, as a number with a bit for each
 
 class Meaning:
     def __init__(self, graph):
         self.graph, self.known = graph, {}
-        self.points = [(o, t) for o in graph.standing() for t in graph.moments()]
+        self.moments, self.numbers = graph.moments(), graph.standing()
+        self.width = len(self.moments) + 1  # the bit between two objects is no point, so no run goes over it
+        self.places = {o: place * self.width for place, o in enumerate(self.numbers)}
+        self.points = {self.places[o] + i: (o, t) for o in self.numbers for i, t in enumerate(self.moments)}
 
-    def holds(self, test, o, t):
-        it, kind = self.graph.objects[o], test[0]
+    def holds(self, test, x):
+        (o, t), kind = self.points[x], test[0]
+        it = self.graph.objects[o]
         if kind == "node" or kind == "edge":
             return (it.ends is None) == (kind == "node")
         if kind == "label":
@@ -391,42 +392,100 @@ class Meaning:
         if kind == "exists":
             return t in it.lives
         if kind == "cond":
-            return (o, t) in self.starts(test[1])
+            return x in self.of(test[1])
         if kind == "not":
-            return not self.holds(test[1], o, t)
-        both = [self.holds(part, o, t) for part in test[1:]]
+            return not self.holds(test[1], x)
+        both = [self.holds(part, x) for part in test[1:]]
         return all(both) if kind == "and" else any(both)
 
-    def starts(self, path):
-        return self.kept(("starts", path), lambda: {(o, t) for o, t, _, _ in self.of(path)})
-
-    def kept(self, key, work):
-        if key not in self.known:
-            self.known[key] = work()
-        return self.known[key]
-
     def of(self, path):
-        return self.kept(path, lambda: self.worked(path))
+        path = self.shortest(path)
+        if path not in self.known:
+            self.known[path] = {x: ends for x, ends in self.worked(path) if ends}
+        return self.known[path]
+
+    def shortest(self, path):
+        """A path of the same meaning: who gets there by a walk that passes a point twice gets there by a shorter one."""
+        if path[0] == "repeat" and path[2] == 0 and path[3] is not None and path[3] >= len(self.points):
+            return (*path[:3], None)
+        return path
 
     def worked(self, path):
         kind = path[0]
         if kind == "test":
-            return {(o, t, o, t) for o, t in self.points if self.holds(path[1], o, t)}
+            return ((x, 1 << x) for x in self.points if self.holds(path[1], x))
         if kind in "FB":
-            ends = [(o, self.graph.objects[o].ends) for o in self.graph.standing() if self.graph.objects[o].ends]
-            steps = [step for edge, (source, target) in ends for step in ((source, edge), (edge, target))]
-            steps = [(x, y) if kind == "F" else (y, x) for x, y in steps]
-            return {(x, t, y, t) for x, y in steps for t in self.graph.moments()}
+            return self.along_edges(kind)
         if kind in "NP":
-            later = {(o, t, o, t + 1) for o, t in self.points if t + 1 in self.graph.moments()}
-            return later if kind == "N" else {(o, u, p, t) for o, t, p, u in later}
+            by = 1 if kind == "N" else -1
+            return ((x, 1 << x + by) for x in self.points if x + by in self.points)
+        if kind == "repeat":
+            return self.repeated(*path[1:])
         first, second = self.of(path[1]), self.of(path[2])
         if kind == "alt":
-            return first | second
+            return ((x, first.get(x, 0) | second.get(x, 0)) for x in first | second)
+        step = Step(second)
+        return ((x, step(ends)) for x, ends in first.items())
+
+    def along_edges(self, axis):
         led = {}
-        for o, t, p, u in second:
-            led.setdefault((o, t), []).append((p, u))
-        return {(o, t, *end) for o, t, *middle in first for end in led.get(tuple(middle), ())}
+        for edge in self.numbers:
+            source, target = self.graph.objects[edge].ends or (None, None)
+            steps = [(source, edge), (edge, target)] if source is not None else []
+            for o, p in steps if axis == "F" else [(p, o) for o, p in steps]:
+                led.setdefault(o, set()).add(p)
+        for x, (o, _) in self.points.items():
+            yield x, sum(1 << x - self.places[o] + self.places[p] for p in led.get(o, ()))
+
+    def repeated(self, body, least, most):
+        """Where walks of at least `least` steps lead, and of at most `most` where that is a number."""
+        step = Step(self.of(body))
+        more = None if most is None else most - least
+        return ((x, reached(after_steps(1 << x, step, least), step, more)) for x in self.points)
+
+
+def bits(number):
+    while number:
+        yield (number & -number).bit_length() - 1
+        number &= number - 1
+
+
+class Step:
+    """Leads from some points to all that one step leads to; both are numbers with a bit for each point."""
+
+    def __init__(self, relation):
+        self.relation, self.known = relation, {}
+
+    def __call__(self, front):
+        if front not in self.known:
+            ends = 0
+            for x in bits(front):
+                ends |= self.relation.get(x, 0)
+            self.known[front] = ends
+        return self.known[front]
+
+
+def after_steps(front, step, count):
+    """The points at which walks of so many steps from some points end."""
+    seen, fronts = {}, []
+    while len(fronts) < count and front not in seen:
+        seen[front] = len(fronts)
+        fronts.append(front)
+        front = step(front)
+    if len(fronts) == count:
+        return front
+    first = seen[front]  # from here on the same points come round
+    return fronts[first + (count - first) % (len(fronts) - first)]
+
+
+def reached(front, step, most):
+    """The points at which walks of at most so many steps from some points end, or of any number of steps."""
+    found, steps = front, 0
+    while front and (most is None or steps < most):
+        front = step(front) & ~found
+        found |= front
+        steps += 1
+    return found
 
 
 # Normal rows: (source, target, from, to, low, high), where an end is ('fixed', n) or ('moving', k)
@@ -439,54 +498,67 @@ def continues(run, after):
     return after[0] - run[0] in (0, 1) and after[1] - run[1] in (0, 1)
 
 
-def runs_by_departure(relation):
-    arrivals = {}
-    for o, t, p, u in relation:
-        arrivals.setdefault((o, p), {}).setdefault(t, set()).add(u)
-    return {pair: {t: runs(us) for t, us in at.items()} for pair, at in arrivals.items()}
+def runs_by_departure(meaning, relation):
+    """For each source and target the runs of arrivals at each departure."""
+    found = {}
+    for x, ends in relation.items():
+        o, t = meaning.points[x]
+        while ends:
+            low = (ends & -ends).bit_length() - 1
+            above = ends + (1 << low)
+            high = (above & -above).bit_length() - 2
+            ends &= above
+            (p, first), (_, last) = meaning.points[low], meaning.points[high]
+            found.setdefault((o, p), {}).setdefault(t, []).append((first, last))
+    return found
 
 
-def normal_rows(relation):
-    rows = []
-    for (o, p), at in runs_by_departure(relation).items():
-        left = {(t, run) for t in at for run in at[t]}
-        while left:
-            start = t, run = min(left)
-            left.remove(start)
-            moves = None
+def count_of_runs(relation):
+    return sum((ends & ~(ends << 1)).bit_count() for ends in relation.values())
+
+
+def normal_rows(meaning, relation):
+    rows, found = [], runs_by_departure(meaning, relation)
+    for (o, p), at in found.items():
+        rest = {(t, run) for t in at for run in at[t]}
+        for start in sorted(rest):
+            if start not in rest:
+                continue
+            rest.remove(start)
+            (t, run), moves = start, None
             while True:
                 after = next((r for r in at.get(t + 1, ()) if continues(run, r)), None)
                 move = after and (after[0] - run[0], after[1] - run[1])
                 if after is None or moves not in (None, move):
                     break
                 t, run, moves = t + 1, after, move
-                left.remove((t, run))
+                rest.remove((t, run))
             ends = [("moving", edge - start[0]) if moves and moves[i] else ("fixed", edge)
                     for i, edge in enumerate(start[1])]
             rows.append((o, p, start[0], t, *ends))
     rows.sort(key=lambda row: (*row[:3], end_at(row[4], row[2])))
-    assert_normal(relation, rows)
+    assert_normal(found, rows)
     return rows
 
 
-def assert_normal(relation, rows):
-    """The five conditions of a normal list."""
-    held, at = set(), runs_by_departure(relation)
+def assert_normal(found, rows):
+    """The five conditions of a normal list, for the runs of a relation by source, target and departure."""
+    held = set()
     for o, p, first, last, low, high in rows:
         for t in range(first, last + 1):
             run = (end_at(low, t), end_at(high, t))
-            assert run in at[o, p].get(t, ()), "a row's arrivals are one run"
-            quadruples = {(o, t, p, u) for u in range(run[0], run[1] + 1)}
-            assert not held & quadruples, "each quadruple is in one row"
-            held |= quadruples
+            assert run in found[o, p].get(t, ()), "a row's arrivals are one run"
+            assert (o, p, t, run) not in held, "each quadruple is in one row"
+            held.add((o, p, t, run))
         run = (end_at(low, last), end_at(high, last))
-        after = next((r for r in at[o, p].get(last + 1, ()) if continues(run, r)), None)
+        after = next((r for r in found[o, p].get(last + 1, ()) if continues(run, r)), None)
         moves = tuple(int(end[0] == "moving") for end in (low, high))
         assert first < last or moves == (0, 0), "a row of one moment has fixed ends"
         if after:
             assert first < last, "a row with a next run has two moments"
             assert (after[0] - run[0], after[1] - run[1]) != moves, "the next run moves otherwise"
-    assert held == relation, "the rows hold the relation"
+    every = {(o, p, t, run) for (o, p), at in found.items() for t in at for run in at[t]}
+    assert held == every, "the rows hold the relation"
     keys = [(*row[:3], end_at(row[4], row[2])) for row in rows]
     assert keys == sorted(set(keys)), "rows are in order"
 
@@ -503,6 +575,8 @@ def join(a, b):
 
 @functools.cache
 def keeps(path):
+    if path[0] == "repeat":
+        return keeps(path[1])
     return path[0] in ("test", "N", "P") or path[0] in ("seq", "alt") and keeps(path[1]) and keeps(path[2])
 
 
@@ -527,6 +601,8 @@ def scope(path, side):
     if path[0] == "seq":
         near, far = path[1 + side], path[2 - side]
         return meet(scope(near, side), scope(far, side)) if keeps(near) else scope(near, side)
+    if path[0] == "repeat" and path[2] > 0:
+        return scope(path[1], side)
     return ALL
 
 
@@ -536,7 +612,13 @@ def conditions(test):
     return [c for part in test[1:] if isinstance(part, tuple) for c in conditions(part)]
 
 
+def chain(k):
+    """The numbers on the way to k by doubling, and by one more where that is needed."""
+    return [] if k == 0 else [1] if k == 1 else [*chain(k // 2), k // 2 * 2, k]
+
+
 def members(path, a, b):
+    """The worked members of a path between two scopes: paths, each between two scopes."""
     a, b = meet(a, scope(path, 0)), meet(b, scope(path, 1))
     if keeps(path):
         a = b = meet(a, b)
@@ -555,6 +637,14 @@ def members(path, a, b):
             middle = meet(middle, b)
         yield from members(path[1], a, middle)
         yield from members(path[2], middle, b)
+    elif path[0] == "repeat":
+        body, least, most = path[1:]
+        passed = a if keeps(body) else join(join(a, b), meet(scope(body, 1), scope(body, 0)))
+        yield from members(body, passed, passed)
+        for k in chain(least):
+            yield ("repeat", body, k, k), passed, passed
+        for k in [2**j for j in range(61)] if most is None else chain(most - least):
+            yield ("repeat", body, 0, k), passed, passed
 
 
 # Lines and replies
@@ -610,23 +700,33 @@ class Machine:
 
     def answer(self, query):
         first, last, path, _ = query
-        refuse("later", repeats(path))
         meaning = Meaning(self.graph)
-        if any(len(self.cut(meaning, *member)) > self.limit for member in members(path, ALL, ALL)):
+        worked = {(meaning.shortest(member), *between) for member, *between in members(path, ALL, ALL)}
+        if any(self.is_wide(meaning, *member) for member in worked):
             return ["wide"]
         relation = meaning.of(path)
         if first and last:
-            texts = [self.row(*row) for row in normal_rows(relation)]
+            texts = [self.row(*row) for row in normal_rows(meaning, relation)]
         else:
-            ends = {(o, t) for o, t, _, _ in relation} if first else {(p, u) for _, _, p, u in relation}
-            texts = [f"{self.graph.objects[o].name} {low}..{high}" for o in sorted({o for o, _ in ends})
-                     for low, high in runs(t for p, t in ends if p == o)]
+            ends = relation if first else {x for ends in relation.values() for x in bits(ends)}
+            times = {}
+            for o, t in map(meaning.points.get, ends):
+                times.setdefault(o, set()).add(t)
+            texts = [f"{self.graph.objects[o].name} {low}..{high}" for o in sorted(times) for low, high in runs(times[o])]
         return [f"rows {len(texts)}"] + texts
 
-    def cut(self, meaning, path, a, b):
+    def is_wide(self, meaning, path, a, b):
+        """Whether the relation of a path between two scopes has more normal rows than the limit."""
         def within(o, labels):
             return labels is ALL or self.graph.objects[o].label in labels
-        return normal_rows({q for q in meaning.of(path) if within(q[0], a) and within(q[2], b)})
+        relation = meaning.of(path)
+        if a is not ALL:
+            relation = {x: ends for x, ends in relation.items() if within(meaning.points[x][0], a)}
+        if b is not ALL:
+            targets = sum(1 << x for x, (o, _) in meaning.points.items() if within(o, b))
+            relation = {x: ends & targets for x, ends in relation.items()}
+        # A row has one run at each of its departures, so there are no more rows than runs.
+        return count_of_runs(relation) > self.limit and len(normal_rows(meaning, relation)) > self.limit
 
     def row(self, o, p, low, high, *ends):
         names = [self.graph.objects[number].name for number in (o, p)]
