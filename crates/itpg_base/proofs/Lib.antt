@@ -4,3 +4,4 @@ pub mod PointSearch
 pub mod Labels
 pub mod Padding
 pub mod Pieces
+pub mod ShortWalks

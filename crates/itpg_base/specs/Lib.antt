@@ -8,5 +8,6 @@ pub mod Decided
 pub mod Spans
 pub mod Graphs
 pub mod Points
+pub mod Walks
 pub mod Outside
 pub mod Devices

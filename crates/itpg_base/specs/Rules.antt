@@ -1,7 +1,7 @@
 -- The rules that a line can break: their words and their order.
 use Rattle.std.specs.Prelude.{ℕ, List, codes}
 use Rattle.itpg_base.specs.declared.rule_code.RuleCode.{RuleCode}
-use Rattle.itpg_base.specs.declared.rule_code.RuleCode.TheVariants.{NoGraph, Again, Taken, Unknown, Kind, Backwards, Horizon, Ends, Absent, Held, Incident, Full, GraphName, Later}
+use Rattle.itpg_base.specs.declared.rule_code.RuleCode.TheVariants.{NoGraph, Again, Taken, Unknown, Kind, Backwards, Horizon, Ends, Absent, Held, Incident, Full, GraphName}
 
 -- the word of each rule
 abbrev pub rule_word : RuleCode → List ℕ
@@ -18,7 +18,6 @@ rule_word Held = codes "held"
 rule_word Incident = codes "incident"
 rule_word Full = codes "full"
 rule_word GraphName = codes "graphname"
-rule_word Later = codes "later"
 
 -- the place of each rule in the order in which they are tried
 abbrev pub rule_place : RuleCode → ℕ
@@ -35,4 +34,3 @@ rule_place Held = 10
 rule_place Incident = 11
 rule_place Full = 12
 rule_place GraphName = 13
-rule_place Later = 14

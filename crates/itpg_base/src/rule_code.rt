@@ -31,8 +31,6 @@ pub enum RuleCode {
     Full,
     /// `ON` names another graph.
     GraphName,
-    /// The form of line isn't built yet. It stands last, and goes when every form is.
-    Later,
 }
 
 impl RuleCode {
@@ -55,7 +53,6 @@ impl RuleCode {
             RuleCode::Incident => "incident",
             RuleCode::Full => "full",
             RuleCode::GraphName => "graphname",
-            RuleCode::Later => "later",
         }
     }
 }

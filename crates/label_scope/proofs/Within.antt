@@ -8,7 +8,7 @@ use Rattle.itpg_base.specs.Points.{Point, Relation, IsAt}
 use Rattle.itpg_base.proofs.Objects.{there, here, same_some}
 use Rattle.itpg_base.proofs.Searches.{if_some}
 use Rattle.path_ast.specs.Terms.{PathTerm, OfTest, Forward, Backward, Next, Previous, Sequence, Choice, Repetition, TestTerm, IsNode, IsEdge, HasLabel, HasValue, IsBelow, DoesExist, Condition, Conjunction, Disjunction, Negation}
-use Rattle.path_ast.specs.Walks.{IsWalk}
+use Rattle.itpg_base.specs.Walks.{IsWalk}
 use Rattle.path_ast.specs.Meaning.{Rel, Sat, keeps_object}
 use Rattle.path_ast.proofs.Pairs.{keeps, starts_at, ends_at}
 use Rattle.label_scope.specs.declared.scope.Scope.{Scope}

@@ -14,7 +14,8 @@ use Rattle.path_ast.specs.Walks.{IsFromTo, Repeated, Power}
 use Rattle.path_ast.specs.Meaning.{HasSource, HasTarget, BetweenPoints, Rel, Sat}
 use Rattle.path_ast.proofs.Pairs.{starts_at, ends_at}
 use Rattle.path_ast.proofs.Powers.{power_starts, power_ends, walk_power, power_walk, power_join, power_split, repeated_power, power_repeated}
-use Rattle.path_ast.proofs.ShortWalks.{AreFewer, short_walk}
+use Rattle.itpg_base.specs.Walks.{AreFewer}
+use Rattle.itpg_base.proofs.ShortWalks.{short_walk}
 
 few_points : (g : Graph) (b : Begun) → g.begun ≡ Some b → AreFewer (most_points g b) (IsAt g) (point_number b.horizon)
 few_points g b begun = record {

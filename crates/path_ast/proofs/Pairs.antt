@@ -4,7 +4,7 @@ use Rattle.std.specs.Prelude.{IsTrue}
 use Rattle.itpg_base.specs.Graphs.{Graph}
 use Rattle.itpg_base.specs.Points.{Point, Relation, IsAt}
 use Rattle.path_ast.specs.Terms.{PathTerm, OfTest, Forward, Backward, Next, Previous, Sequence, Choice, Repetition}
-use Rattle.path_ast.specs.Walks.{IsWalk}
+use Rattle.itpg_base.specs.Walks.{IsWalk}
 use Rattle.path_ast.specs.Meaning.{Rel, keeps_object}
 
 and_left : (a b : Bool) → IsTrue (a && b) → IsTrue a

@@ -2,7 +2,8 @@
 use Rattle.std.proofs.Common.{◌≡◌, ℕ, zero, suc, ◌+◌, List, [], ◌∷◌, length, Option, Some, refl, sym, ap, subst, arith}
 use Rattle.itpg_base.specs.Graphs.{Graph}
 use Rattle.itpg_base.specs.Points.{Point, Relation, IsAt}
-use Rattle.path_ast.specs.Walks.{IsWalk, IsFromTo, Repeated, Power}
+use Rattle.itpg_base.specs.Walks.{IsWalk}
+use Rattle.path_ast.specs.Walks.{IsFromTo, Repeated, Power}
 
 module _ (g : Graph) (R : Relation) (starts : (x y : Point) → R x y → IsAt g x) (ends : (x y : Point) → R x y → IsAt g y) where
   pub power_starts : (k : ℕ) (x y : Point) → Power g R k x y → IsAt g x

@@ -1,13 +1,8 @@
--- Walks along a relation, and its powers.
-use Rattle.std.specs.Prelude.{◌≡◌, ℕ, zero, suc, ◌≤◌, List, [], ◌∷◌, length, Option, IfSome}
+-- A relation repeated along walks, and its powers.
+use Rattle.std.specs.Prelude.{◌≡◌, ℕ, zero, suc, ◌≤◌, List, length, Option, IfSome}
 use Rattle.itpg_base.specs.Graphs.{Graph}
 use Rattle.itpg_base.specs.Points.{Point, Relation, IsAt}
-
--- a walk of k steps from x to y is k + 1 points, namely x and the k that are listed: R leads from each to the next, and
--- the last is y. So a walk of no steps is one point
-abbrev pub IsWalk : Relation → Point → List Point → Point → Type 0
-IsWalk R x [] y = x ≡ y
-IsWalk R x (z ∷ zs) y = R x z × IsWalk R z zs y
+use Rattle.itpg_base.specs.Walks.{IsWalk}
 
 -- the number is at least n and, if there is an m, at most m
 abbrev pub IsFromTo : ℕ → Option ℕ → ℕ → Type 0

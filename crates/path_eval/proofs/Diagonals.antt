@@ -15,7 +15,7 @@ use Rattle.relation_rows.specs.Rows.{between, InRow, RowBefore, NormalRows, Fits
 use Rattle.relation_rows.proofs.Listed.{ordered_fewer, row_apart}
 use Rattle.relation_rows.proofs.Alike.{rows_alike}
 use Rattle.path_ast.specs.Terms.{PathTerm, Repetition}
-use Rattle.path_ast.specs.Walks.{IsWalk}
+use Rattle.itpg_base.specs.Walks.{IsWalk}
 use Rattle.path_ast.specs.Meaning.{Rel}
 use Rattle.label_scope.specs.declared.scope.Scope.{Scope}
 use Rattle.label_scope.specs.Scopes.{IsWithin}

@@ -12,7 +12,8 @@ use Rattle.relation_rows.specs.Relations.{HasMiddlePoint}
 use Rattle.relation_rows.proofs.Alike.{rows_alike, fits_alike, hold_only, wide_alike}
 use Rattle.path_ast.specs.Terms.{PathTerm, Repetition}
 use Rattle.path_ast.specs.Sizes.{AreInRange}
-use Rattle.path_ast.specs.Walks.{IsFromTo, IsWalk}
+use Rattle.itpg_base.specs.Walks.{IsWalk}
+use Rattle.path_ast.specs.Walks.{IsFromTo}
 use Rattle.path_ast.specs.Meaning.{Rel}
 use Rattle.path_ast.proofs.Pairs.{starts_at, ends_at}
 use Rattle.label_scope.specs.declared.scope.Scope.{Scope}

@@ -4,7 +4,7 @@ use Rattle.std.specs.Prelude.{ℕ, Option, IsTrue}
 use Rattle.itpg_base.specs.Graphs.{Graph, Good}
 use Rattle.itpg_base.specs.Points.{Point}
 use Rattle.path_ast.specs.Terms.{PathTerm, Repetition}
-use Rattle.path_ast.specs.Walks.{IsWalk}
+use Rattle.itpg_base.specs.Walks.{IsWalk}
 use Rattle.path_ast.specs.Meaning.{Rel, keeps_object}
 use Rattle.path_ast.proofs.Pairs.{keeps, starts_at}
 use Rattle.label_scope.specs.Scopes.{IsWithin, met, joined, source_scope, target_scope}

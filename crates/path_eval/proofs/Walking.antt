@@ -2,12 +2,13 @@
 use Rattle.std.proofs.Common.{◌≡◌, inl, inr, ℕ, zero, suc, ◌+◌, ◌≤◌, ◌^◌, List, [], ◌∷◌, ◌++◌, length, Option, Some, None, refl, sym, ap, subst, arith, length-append}
 use Rattle.itpg_base.specs.Graphs.{Graph, Good}
 use Rattle.itpg_base.specs.Points.{Point, Relation}
+use Rattle.itpg_base.specs.Walks.{IsWalk}
 use Rattle.itpg_base.proofs.Searches.{at_most}
 use Rattle.relation_rows.specs.declared.rows.Row.{Row}
 use Rattle.relation_rows.specs.Rows.{RowsHold, NormalRows}
 use Rattle.relation_rows.proofs.Alike.{hold_only}
 use Rattle.path_ast.specs.Terms.{PathTerm, Repetition}
-use Rattle.path_ast.specs.Walks.{IsWalk as IsPathWalk, IsFromTo}
+use Rattle.path_ast.specs.Walks.{IsFromTo}
 use Rattle.path_ast.specs.Meaning.{Rel}
 use Rattle.path_ast.proofs.Pairs.{starts_at, ends_at}
 use Rattle.label_scope.specs.declared.scope.Scope.{Scope}
@@ -15,7 +16,6 @@ use Rattle.label_scope.specs.Scopes.{IsWithin}
 use Rattle.label_scope.specs.Narrowing.{Cut}
 use Rattle.repeat_engine.specs.Powers.{nth_power, union_of_powers}
 use Rattle.repeat_engine.specs.Relations.{Given, relations}
-use Rattle.repeat_engine.specs.Relations.Walks.{IsWalk}
 use Rattle.repeat_engine.specs.Relations.Laws.{power_walk, walk_power, power_in_union, union_power}
 use Rattle.path_eval.specs.Powers.{IsInside, Leads, StaysInside, left_over}
 use Rattle.path_eval.specs.Powers.Lawful.{powers_lawful}
@@ -75,7 +75,7 @@ module _ (g : Graph) (good : Good g) (r : PathTerm) (u : Scope) (rows : List Row
       let c = step_cut x y h in
       (record { good = good; at = starts_at r g x y c.leads; within = c.source }, record { good = good; at = ends_at r g x y c.leads; within = c.target })
 
-  walk_out : (x : Point) (zs : List Point) (y : Point) → IsWalk (RowsHold rows) x zs y → IsPathWalk (Rel r g) x zs y
+  walk_out : (x : Point) (zs : List Point) (y : Point) → IsWalk (RowsHold rows) x zs y → IsWalk (Rel r g) x zs y
   walk_out x [] y w = w
   walk_out x (z ∷ zs) y w = ((step_cut x z w.0).leads, walk_out z zs y w.1)
 
@@ -159,7 +159,7 @@ module _ (g : Graph) (good : Good g) (r : PathTerm) (u : Scope) (rows : List Row
   }
 
   module _ (pass : (x z y : Point) → IsWithin u g x.object → Rel r g x z → Rel r g z y → IsWithin u g z.object) where
-    walk_in : (x : Point) (zs : List Point) (y : Point) → IsWithin u g x.object → IsWithin u g y.object → IsPathWalk (Rel r g) x zs y → IsWalk (RowsHold rows) x zs y
+    walk_in : (x : Point) (zs : List Point) (y : Point) → IsWithin u g x.object → IsWithin u g y.object → IsWalk (Rel r g) x zs y → IsWalk (RowsHold rows) x zs y
     walk_in x [] y a b w = w
     walk_in x (z ∷ []) y a b w = (normal.whole x z (record { leads = w.0; source = a; target = subst (λ (v : Point). IsWithin u g v.object) (sym w.1) b }), w.1)
     walk_in x (z ∷ v ∷ zs) y a b w =

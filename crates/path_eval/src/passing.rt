@@ -3,7 +3,7 @@ ghost use Rattle.std.specs.Prelude.{List, ◌∷◌};
 ghost use Rattle.itpg_base.specs.Graphs.{Graph, Good};
 ghost use Rattle.itpg_base.specs.Points.{Point};
 ghost use Rattle.path_ast.specs.Terms.{PathTerm};
-ghost use Rattle.path_ast.specs.Walks.{IsWalk};
+ghost use Rattle.itpg_base.specs.Walks.{IsWalk};
 ghost use Rattle.path_ast.specs.Meaning.{Rel};
 ghost use Rattle.label_scope.specs.declared.scope.Scope.{Scope};
 ghost use Rattle.label_scope.specs.Scopes.{IsWithin};

@@ -1,7 +1,7 @@
 -- Relations as they are written down, and between which points they lead.
-use Rattle.std.specs.Prelude.{◌≡◌, ℕ, ◌<◌, ◌^◌, ◌⊎◌}
+use Rattle.std.specs.Prelude.{◌≡◌, ℕ, ◌^◌, ◌⊎◌}
+use Rattle.itpg_base.specs.Walks.{AreFewer}
 use Rattle.repeat_engine.specs.Powers.{Algebra}
-pub mod Walks
 pub mod Laws
 
 -- a relation that is given, the identity, or what is made of others
@@ -31,7 +31,6 @@ pub record RelatesAlike {P G : Type 0} (Inside : P → Type 0) (Leads : G → P 
 abbrev pub IsBetween : {P G : Type 0} → (P → Type 0) → (G → P → P → Type 0) → RelationTerm G → Type 0
 IsBetween {P} Inside Leads a = (x y : P) → Relates Inside Leads a x y → Inside x × Inside y
 
--- fewer than 2 ^ 60 points are inside: they are numbered below that, no two alike
-pub record AreFew {P : Type 0} (Inside : P → Type 0) (number : P → ℕ) : Type 0 where
-  pub below : (x : P) → Inside x → number x < 2 ^ 60
-  pub apart : (x y : P) → Inside x → Inside y → number x ≡ number y → x ≡ y
+-- fewer than 2 ^ 60 points are inside
+abbrev pub AreFew : {P : Type 0} → (P → Type 0) → (P → ℕ) → Type 0
+AreFew Inside number = AreFewer (2 ^ 60) Inside number

@@ -8,15 +8,15 @@ use itoa::Buffer;
 use itpg_base::{Failed, Sink};
 use std::marker::Model;
 
-/// How many bytes a page holds.
-pub(crate) const PAGE: usize = 4_096;
+/// How many bytes a page holds: more than any line of a reply has.
+pub const PAGE: usize = 4_096;
 
 // How many bytes a number is written with at most.
 const MAX_NUMBER: usize = 20;
 
 /// Up to `PAGE` bytes of text that are to be written in one piece. A contract sees it as these bytes.
 #[derive(Drop)]
-pub(crate) struct Page {
+pub struct Page {
     bytes: [u8; PAGE],
     size: usize,
 }
@@ -33,7 +33,7 @@ impl Model for Page {
 
 impl Page {
     /// A page without text.
-    pub(crate) fn new() -> Page
+    pub fn new() -> Page
         ensures { result ≡ [] }
     {
         Page {
@@ -43,7 +43,7 @@ impl Page {
     }
 
     /// How many bytes it has.
-    pub(crate) fn len(&self) -> usize
+    pub fn len(&self) -> usize
         ensures count { result ≡ length self.now }
         ensures fits { result ≤ PAGE }
     {
@@ -51,7 +51,7 @@ impl Page {
     }
 
     /// Puts text behind what the page has.
-    pub(crate) fn add(&mut self, text: &[u8])
+    pub fn add(&mut self, text: &[u8])
         requires { length self.old + length text.now ≤ PAGE }
         ensures added { self.new ≡ self.old ++ text.now }
         ensures size { length self.new ≡ length self.old + length text.now }
@@ -61,7 +61,7 @@ impl Page {
     }
 
     /// Puts an unsigned number behind what the page has.
-    pub(crate) fn add_number(&mut self, number: u64)
+    pub fn add_number(&mut self, number: u64)
         requires { length self.old + MAX_NUMBER ≤ PAGE }
         ensures added { self.new ≡ self.old ++ decimal number }
         ensures size { length self.new ≤ length self.old + MAX_NUMBER }
@@ -71,7 +71,7 @@ impl Page {
     }
 
     /// Puts a moment behind what the page has.
-    pub(crate) fn add_moment(&mut self, moment: i64)
+    pub fn add_moment(&mut self, moment: i64)
         requires { length self.old + MAX_NUMBER ≤ PAGE }
         ensures added { self.new ≡ self.old ++ signed_decimal moment }
         ensures size { length self.new ≤ length self.old + MAX_NUMBER }
@@ -81,7 +81,7 @@ impl Page {
     }
 
     /// Writes the text of the page, which then has none.
-    pub(crate) fn write<K: Sink>(&mut self, out: &mut K) -> Result<(), Failed>
+    pub fn write<K: Sink>(&mut self, out: &mut K) -> Result<(), Failed>
         ensures written { OnOk result (Appends (K.held out.old) (K.held out.new) self.old) }
         ensures none { OnOk result (self.new ≡ []) }
         ensures some { OnErr result (AppendsSome (K.held out.old) (K.held out.new) self.old) }

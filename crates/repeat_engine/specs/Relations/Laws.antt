@@ -1,9 +1,10 @@
 -- Relations between fewer than 2 ^ 60 points are lawful.
 use Rattle.std.proofs.Common.{◌≡◌, ℕ, zero, suc, ◌≤◌, ◌^◌, List, [], ◌∷◌, ◌++◌, length, ◌⊎◌, inl, inr, refl, sym, ap, subst, ◌∙◌, arith}
+use Rattle.itpg_base.specs.Walks.{IsWalk}
+use Rattle.itpg_base.proofs.ShortWalks.{short_walk}
 use Rattle.repeat_engine.specs.Powers.{nth_power, union_of_powers}
 use Rattle.repeat_engine.specs.Composed.{IsLawful}
 use Rattle.repeat_engine.specs.Relations.{RelationTerm, relations, Identity, Composition, Union, Relates, RelatesAlike, IsBetween, AreFew}
-use Rattle.repeat_engine.specs.Relations.Walks.{IsWalk, walk_more, short_walk}
 
 swapped : {A B : Type 0} → A ⊎ B → B ⊎ A
 swapped (inl a) = inr a
@@ -30,6 +31,10 @@ left_of (inr (inr c)) = inr c
 length_more : {P : Type 0} (zs : List P) (z : P) → length (zs ++ z ∷ []) ≡ suc (length zs)
 length_more [] z = refl
 length_more (v ∷ zs) z = ap suc (length_more zs z)
+
+walk_more : {P : Type 0} (R : P → P → Type 0) (zs : List P) (u v y : P) → IsWalk R u zs v → R v y → IsWalk R u (zs ++ y ∷ []) y
+walk_more {P} R [] u v y walk step = (subst (λ (p : P). R p y) (sym walk) step, refl)
+walk_more R (z ∷ zs) u v y walk step = (walk.0, walk_more R zs z v y walk.1 step)
 
 up_to_or_last : (k n : ℕ) → k ≤ suc n → (k ≤ n) ⊎ (k ≡ suc n)
 up_to_or_last k n h = grind arith
@@ -94,7 +99,7 @@ module _ {P G : Type 0} (Inside : P → Type 0) (Leads : G → P → P → Type 
     power_bounded a between n x y h =
         let inside : Inside x = power_inside a between n x y h in
         let walk = power_walk a n x y h in
-        let short = short_walk few (Rel a) between x walk.0 y inside walk.2 in
+        let short = short_walk few (Rel a) (λ u v h. (between u v h).1) x walk.0 y inside walk.2 in
         power_in_union a (length short.0) (2 ^ 60) x y (omega (arith, short.1)) (walk_power a between short.0 x y inside short.2)
 
     abbrev Alike : RelationTerm G → RelationTerm G → Type 0
