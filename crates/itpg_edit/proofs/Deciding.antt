@@ -1,30 +1,35 @@
 -- Whether an edit breaks a rule is decided on a good graph.
-use Rattle.std.proofs.Common.{◌≡◌, ℕ, zero, suc, ◌<◌, ◌≤◌, ℤ, List, [], ◌∷◌, ◌⊎◌, inl, inr, ⊎_elim, length, Option, Some, None, refl, sym, subst, arith}
+use Rattle.std.proofs.Common.{◌≡◌, ℕ, ◌<◌, ◌≤◌, ℤ, List, [], ◌∷◌, ◌⊎◌, inl, inr, ⊎_elim, length, Option, Some, None, refl, sym, ap, subst, arith}
 use Rattle.std.specs.Prelude.{IsSome, IsNone, IsSomeAnd, IsTrue, slice_get}
 use Rattle.std.proofs.lemmas.Int.{ints}
 use Rattle.std.proofs.lemmas.Bool.{cases_lt}
+use Rattle.std.proofs.lemmas.Option.{slice_get_within}
 use Rattle.itpg_base.specs.Words.{Word, IsBefore, IsRising}
 use Rattle.itpg_base.specs.Spans.{Span, Within, Covers}
 use Rattle.itpg_base.specs.Decided.{Decided}
 use Rattle.itpg_base.specs.Graphs.{Graph, Object, Property, Valued, Good, Named, Exists, Val, HasEnd, InHorizon, ObjectIs, AreFamilies, PropertiesHave, property_names}
 use Rattle.itpg_base.specs.declared.rule_code.RuleCode.{RuleCode}
-use Rattle.itpg_base.specs.declared.rule_code.RuleCode.TheVariants.{NoGraph, Again, Taken, Unknown, Kind, Backwards, Horizon, Ends as EndsRule, Absent, Held, Incident, Full, GraphName, Later}
+use Rattle.itpg_base.specs.declared.rule_code.RuleCode.TheVariants.{NoGraph, Again, Taken, Unknown, Kind, Backwards, Horizon, Ends as EndsRule, Absent, Held, Incident, Full, GraphName}
 use Rattle.itpg_base.proofs.Searches.{both, either, fails, as_well, at_most, before, is_true, if_some, same_word, same_number, some_below}
 use Rattle.itpg_base.proofs.Objects.{there, here}
-use Rattle.interval_set.specs.Runs.{AreRuns, AreRunsOf, HasPut, HasCleared}
+use Rattle.interval_set.specs.Runs.{AreRuns, AreRunsOf}
 use Rattle.interval_set.proofs.Unique.{runs_unique, runs_alike}
 use Rattle.interval_set.proofs.UniqueValues.{runs_of_unique}
 use Rattle.interval_set.proofs.Changed.{joined_exists, cut_exists, put_exists, clear_exists}
 use Rattle.interval_set.proofs.Coalesced.{decide_within}
 use Rattle.itpg_graph.specs.Families.{ExistsOutside, ValOutside, ValPut, HasProperty}
 use Rattle.itpg_graph.proofs.Names.{not_before_itself, has_after, after_first}
+use Rattle.itpg_graph.proofs.Parts.{some_value}
+use Rattle.itpg_graph.proofs.Cutting.{values_alike}
+use Rattle.itpg_graph.proofs.Families.{InNames, has_name}
+use Rattle.itpg_graph.proofs.Kept.{exists_at, at_exists, val_at, at_val}
+use Rattle.itpg_graph.proofs.Asked.{alike_put, alike_clear}
 use Rattle.itpg_edit.specs.declared.edit.Edit.{Edit}
 use Rattle.itpg_edit.specs.declared.edit.Edit.TheVariants.{Begin, AddNode, AddEdge, Live, Gone, Put, Clear, Remove}
 use Rattle.itpg_edit.specs.Facts.{span_of, IsTaken, IsUnknown, IsEdge, LeavesHorizon, LacksEnd, IsAbsent, IsHeld, IsIncident, AreManySpans, AreManyRuns, HasNoPlace}
 use Rattle.itpg_edit.specs.Rules.{Breaks, rules_of, Broken, Unbroken}
 use Rattle.itpg_edit.proofs.FirstOf.{first_or_none}
-use Rattle.itpg_edit.proofs.Moments.{some_moment, decide_exists}
-use Rattle.itpg_edit.proofs.Families.{runs_of_alike}
+use Rattle.itpg_edit.proofs.Moments.{some_moment, decide_exists, alike_joined}
 
 decide_some : {X : Type 0} (o : Option X) → Decided (IsSome o)
 decide_some None = inr (λ e. let none : ⊥ = cc in none)
@@ -36,9 +41,7 @@ decide_none (Some x) = inr (λ e. let none : ⊥ = cc in none)
 
 -- what is so of a number that has an object is found among the numbers of the objects
 below : {X : Type 0} (xs : List X) (o : ℕ) (P : X → Type 0) → IsSomeAnd (slice_get xs o) P → o < length xs
-below [] o P h = absurd h
-below (x ∷ xs) zero P h = omega arith
-below (x ∷ xs) (suc o) P h = let later = below xs o P h in omega arith
+below xs o P h = let t = there xs o P h in slice_get_within xs o t.0 t.1
 
 some_object : (g : Graph) (P : ℕ → Type 0) → ((o : ℕ) → P o → o < length g.objects) → ((o : ℕ) → Decided (P o)) → Decided ((o : ℕ) × P o)
 some_object g P inside each = as_well (λ h. (h.0, h.2)) (λ h. (h.0, inside h.0 h.1, h.1)) (some_below (length g.objects) P each)
@@ -125,19 +128,8 @@ many_runs H runs are = elim (cases_lt 4096 (length runs)) [
   | inr few ↦ inr (λ m. let same : m.runs ≡ runs = runs_of_unique H m.runs runs m.are are in let many = subst (λ xs. 4096 < length xs) same m.many in omega arith)
 ]
 
--- a name is one of a list
-Among : List Word → Word → Type 0
-Among [] n = ⊥
-Among (x ∷ xs) n = (x ≡ n) ⊎ Among xs n
-
-name_among : (ps : List Property) (n : Word) (t : ℤ) (v : Word) → PropertiesHave ps n t v → Among (property_names ps) n
-unfolding Among
-name_among [] n t v h = h
-name_among (p ∷ ps) n t v (inl h) = inl h.0
-name_among (p ∷ ps) n t v (inr h) = inr (name_among ps n t v h)
-
-some_name : (names : List Word) (P : Word → Type 0) → ((n : Word) → Decided (P n)) → Decided ((n : Word) × (Among names n × P n))
-unfolding Among
+-- what is decided of each name is decided of those of a list
+some_name : (names : List Word) (P : Word → Type 0) → ((n : Word) → Decided (P n)) → Decided ((n : Word) × (InNames names n × P n))
 some_name [] P each = inr (λ h. h.1.0)
 some_name (x ∷ xs) P each = elim (each x) [
   | inl p ↦ inl (x, (inl refl, p))
@@ -170,59 +162,40 @@ family (p ∷ ps) are rising n = elim (same_word p.name n) [
 ]
 
 module _ (g : Graph) (good : Good g) (o : ℕ) (x : Object) (at : slice_get g.objects o ≡ Some x) where
-  val_there : (prop : Word) (t : ℤ) (v : Word) → Val g o prop t v → PropertiesHave x.properties prop t v
-  val_there prop t v h = subst (λ n. IsSomeAnd n (λ x. PropertiesHave x.properties prop t v)) at h
-
-  there_val : (prop : Word) (t : ℤ) (v : Word) → PropertiesHave x.properties prop t v → Val g o prop t v
-  there_val prop t v h = here g.objects o _ x at h
-
   values : (prop : Word) → (runs : List Valued) × AreRunsOf (Val g o prop) runs
   values prop =
       let is = good.objects o x at in
       let f = family x.properties is.properties is.differ prop in
-      (f.0, runs_of_alike (λ t v. PropertiesHave x.properties prop t v) (Val g o prop) f.0 (there_val prop) (val_there prop) f.1)
-
-  existing : (t : ℤ) → Covers x.live t → Exists g o t
-  existing t c = here g.objects o _ x at c
-
-  covered : (t : ℤ) → Exists g o t → Covers x.live t
-  covered t h = subst (λ n. IsSomeAnd n (λ x. Covers x.live t)) at h
+      (f.0, values_alike (PropertiesHave x.properties prop) (Val g o prop) f.0 (at_val g o x at prop) (val_at g o x at prop) f.1)
 
   decide_joined : (s : Span) → Decided (AreManySpans (λ t. Exists g o t ⊎ Within t s))
   decide_joined s =
       let r = joined_exists x.live s in
-      many_spans (λ t. Exists g o t ⊎ Within t s) r.0
-      (runs_alike (λ t. Covers x.live t ⊎ Within t s) (λ t. Exists g o t ⊎ Within t s) r.0 (λ t h. ⊎_elim (λ c. inl (existing t c)) (λ w. inr w) h) (λ t h. ⊎_elim (λ c. inl (covered t c)) (λ w. inr w) h) r.1)
+      many_spans (λ t. Exists g o t ⊎ Within t s) r.0 (alike_joined g o x.live (here g.objects o _ x at refl) s r.0 r.1)
 
   decide_cut : (s : Span) → Decided (AreManySpans (ExistsOutside g o s))
   decide_cut s =
       let r = cut_exists x.live s in
       many_spans (ExistsOutside g o s) r.0
-      (runs_alike (λ t. Covers x.live t × (Within t s → ⊥)) (ExistsOutside g o s) r.0 (λ t h. (existing t h.0, h.1)) (λ t h. (covered t h.0, h.1)) r.1)
+      (runs_alike (λ t. Covers x.live t × (Within t s → ⊥)) (ExistsOutside g o s) r.0 (λ t h. (at_exists g o x at t h.0, h.1)) (λ t h. (exists_at g o x at t h.0, h.1)) r.1)
 
   decide_cleared : (s : Span) (prop : Word) → Decided (AreManyRuns (ValOutside g o s prop))
   decide_cleared s prop =
       let v = values prop in
       let r = clear_exists v.0 s v.1.coalesced in
-      many_runs (ValOutside g o s prop) r.0
-      (runs_of_alike (HasCleared v.0 s) (ValOutside g o s prop) r.0 (λ t w h. (v.1.only t w h.0, h.1)) (λ t w h. (v.1.whole t w h.0, h.1)) r.1)
+      many_runs (ValOutside g o s prop) r.0 (alike_clear g o prop v.0 v.1 s r.0 r.1)
 
   decide_put : (s : Span) (prop new : Word) → Decided (AreManyRuns (ValPut g o s new prop))
   decide_put s prop new =
       let v = values prop in
       let r = put_exists v.0 s new v.1.coalesced in
-      many_runs (ValPut g o s new prop) r.0
-      (runs_of_alike (HasPut v.0 s new) (ValPut g o s new prop) r.0 (λ t w h. ⊎_elim (λ k. inl k) (λ k. inr (v.1.only t w k.0, k.1)) h) (λ t w h. ⊎_elim (λ k. inl k) (λ k. inr (v.1.whole t w k.0, k.1)) h) r.1)
+      many_runs (ValPut g o s new prop) r.0 (alike_put g o prop v.0 v.1 s new r.0 r.1)
 
   -- a property with too many runs has a value
-  many_named : (s : Span) (prop : Word) → AreManyRuns (ValOutside g o s prop) → Among (property_names x.properties) prop
-  many_named s prop m = by_runs m.runs m.are m.many
-    where
-      by_runs : (runs : List Valued) → AreRunsOf (ValOutside g o s prop) runs → 4096 < length runs → Among (property_names x.properties) prop
-      by_runs [] are many = absurd (omega (arith, many))
-      by_runs (r ∷ rest) are many =
-          let first = are.only r.span.from r.value (inl (record { begun = omega (arith, ints); going = are.coalesced.0 }, refl)) in
-          name_among x.properties prop r.span.from r.value (val_there prop r.span.from r.value first.0)
+  many_named : (s : Span) (prop : Word) → AreManyRuns (ValOutside g o s prop) → InNames (property_names x.properties) prop
+  many_named s prop m =
+      let first = some_value m.runs m.are.coalesced (λ e. let more = m.many in let none : length m.runs ≡ 0 = ap length e in omega arith) in
+      has_name x.properties prop first.0 first.1 (val_at g o x at prop first.0 first.1 (m.are.only first.0 first.1 first.2).0)
 
   decide_cut_values : (s : Span) → Decided ((prop : Word) × AreManyRuns (ValOutside g o s prop))
   decide_cut_values s = as_well (λ h. (h.0, h.1.1)) (λ h. (h.0, (many_named s h.0 h.1, h.1))) (some_name (property_names x.properties) (λ prop. AreManyRuns (ValOutside g o s prop)) (decide_cleared s))
@@ -318,7 +291,6 @@ decide_breaks g good edit Incident = by_edit edit
     by_edit edit = inr (λ b. b)
 decide_breaks g good edit Full = decide_full g good edit
 decide_breaks g good edit GraphName = inr (λ b. b)
-decide_breaks g good edit Later = inr (λ b. b)
 
 -- an edit breaks a rule first, or none
 pub broken_or_none : (g : Graph) (edit : Edit) → Good g → ((rule : RuleCode) × Broken g edit rule) ⊎ Unbroken g edit

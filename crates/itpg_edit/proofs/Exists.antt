@@ -2,17 +2,17 @@
 use Rattle.std.proofs.Common.{◌≡◌, ◌≢◌, ℕ, suc, ℤ, List, [], ◌∷◌, ◌++◌, ◌⊎◌, inl, inr, ⊎_elim, Some, refl, sym, subst, arith, append_assoc}
 use Rattle.std.specs.Prelude.{slice_get}
 use Rattle.std.proofs.lemmas.List.{append-nil}
-use Rattle.itpg_base.specs.Words.{Word, IsBefore}
+use Rattle.itpg_base.specs.Words.{Word}
 use Rattle.itpg_base.specs.Spans.{Span, IsSpan, Within, Covers}
 use Rattle.itpg_base.specs.Decided.{Decided}
-use Rattle.itpg_base.specs.Graphs.{Graph, Object, Property, Good, Named, Exists, PropertiesHave}
-use Rattle.itpg_base.proofs.Objects.{there}
+use Rattle.itpg_base.specs.Graphs.{Graph, Object, Property, Good, Named, PropertiesHave}
+use Rattle.itpg_base.proofs.Objects.{there, here}
 use Rattle.interval_set.proofs.Unique.{runs_alike}
 use Rattle.interval_set.proofs.Changed.{joined_exists, cut_exists, put_exists, clear_exists}
 use Rattle.itpg_graph.specs.Changes.{begun_as, with_node, with_edge, with_live, with_object, with_properties, without, JoinsLive, CutsLive, PutsValue, ClearsValue, ValCleared, ValChanged}
 use Rattle.itpg_graph.specs.Families.{IsOrderly, AreProperties, ExistsOutside, ValOutside}
-use Rattle.itpg_graph.specs.Tables.{AreAfter, IsGap, HasLess, HasMore}
-use Rattle.itpg_graph.proofs.Names.{compare, before_then, after_first, rising_rest, before_middle}
+use Rattle.itpg_graph.specs.Tables.{IsGap, HasLess, HasMore}
+use Rattle.itpg_graph.proofs.Names.{compare, after_first, rising_rest, before_middle}
 use Rattle.itpg_graph.proofs.Parts.{some_value, valued_back, put_replaced, clear_replaced, clear_removed, missing_put}
 use Rattle.itpg_graph.proofs.Families.{properties_alike, named_split}
 use Rattle.itpg_graph.proofs.Cutting.{Outside, cut_none, cut_gone, cut_kept}
@@ -22,6 +22,7 @@ use Rattle.itpg_edit.specs.declared.edit.Edit.TheVariants.{Begin, AddNode, AddEd
 use Rattle.itpg_edit.specs.Facts.{span_of, IsUnknown}
 use Rattle.itpg_edit.specs.Rules.{Unbroken}
 use Rattle.itpg_edit.specs.Next.{Next}
+use Rattle.itpg_edit.proofs.Moments.{alike_joined}
 use Rattle.itpg_edit.proofs.Deciding.{decide_taken, decide_property}
 use Rattle.itpg_edit.proofs.Unbroken.{not_after}
 
@@ -33,17 +34,13 @@ empty_or_not (x ∷ xs) = inr (λ e. let none : ⊥ = cc in none)
 abbrev HasValues : List Property → Word → Type 0
 HasValues ps name = (t : ℤ) × (value : Word) × PropertiesHave ps name t value
 
-after_both : (a b : Word) (ps : List Property) → IsBefore a b → AreAfter b ps → AreAfter a ps
-after_both a b [] first after = tt
-after_both a b (p ∷ ps) first after = (before_then a b p.name first after.0, after_both a b ps first after.1)
-
 -- the place that a new name has among those that rise
 gap_there : (ps : List Property) (name : Word) → IsOrderly ps → (HasValues ps name → ⊥) → (place : ℕ) × IsGap ps name place
 gap_there [] name is none = (0, record { within = omega arith; before = tt; after = tt })
 gap_there (p ∷ ps) name is none = elim (compare name p.name) [
   | inl same ↦ let some = some_value p.runs is.valued.0.runs is.valued.0.some in absurd (none (some.0, some.1, inl (sym same, some.2)))
   | inr apart ↦ elim apart [
-    | inl first ↦ (0, record { within = omega arith; before = tt; after = (first, after_both name p.name ps first (after_first p ps is.rising)) })
+    | inl first ↦ (0, record { within = omega arith; before = tt; after = after_first (record p { name = name }) (p ∷ ps) (first, is.rising) })
     | inr later ↦
         let rest = gap_there ps name (record { rising = rising_rest p ps is.rising; valued = is.valued.1 }) (λ h. none (h.0, h.1, inr h.2)) in
         let short = rest.1.within in
@@ -117,8 +114,7 @@ module _ (g : Graph) (good : Good g) (o : ℕ) (x : Object) (at : slice_get g.ob
   joins_there : (new : Graph) × JoinsLive g o s new
   joins_there =
       let r = joined_exists x.live s in
-      let runs = runs_alike (λ t. Covers x.live t ⊎ Within t s) (λ t. Exists g o t ⊎ Within t s) r.0 (λ t h. ⊎_elim (λ c. inl (at_exists g o x at t c)) (λ w. inr w) h) (λ t h. ⊎_elim (λ c. inl (exists_at g o x at t c)) (λ w. inr w) h) r.1 in
-      (with_live g o r.0, record { live = r.0; runs = runs; is = refl })
+      (with_live g o r.0, record { live = r.0; runs = alike_joined g o x.live (here g.objects o _ x at refl) s r.0 r.1; is = refl })
 
   cuts_there : (new : Graph) × CutsLive g o s new
   cuts_there =

@@ -1,14 +1,17 @@
 -- What is so, or isn't, at some moment of a span.
-use Rattle.std.proofs.Common.{◌≡◌, ℕ, suc, ◌+◌, ℤ, List, Option, Some, None, refl, sym, ap, ◌∙◌, subst, arith}
+use Rattle.std.proofs.Common.{◌≡◌, ℕ, suc, ◌+◌, ℤ, List, ◌⊎◌, inl, inr, ⊎_elim, Option, Some, None, refl, sym, subst, arith}
 use Rattle.std.specs.Prelude.{IsSome, slice_get, option_map}
 use Rattle.std.proofs.lemmas.Int.{ints}
 use borrow.Author.Differences.{up, down}
 use Rattle.itpg_base.specs.Spans.{Span, Within, Covers}
 use Rattle.itpg_base.specs.Decided.{Decided}
-use Rattle.itpg_base.specs.Graphs.{Graph, Begun, Object, Exists, ObjectIs}
+use Rattle.itpg_base.specs.Graphs.{Graph, Begun, Exists, ObjectIs}
 use Rattle.itpg_base.proofs.Searches.{both, as_well, some_from, if_some}
-use Rattle.itpg_base.proofs.Objects.{there, here, same_some}
+use Rattle.itpg_base.proofs.Objects.{there}
+use Rattle.interval_set.specs.Runs.{AreRuns}
+use Rattle.interval_set.proofs.Unique.{runs_alike}
 use Rattle.interval_set.proofs.Coalesced.{decide_within, decide_covers}
+use Rattle.itpg_graph.proofs.Kept.{exists_at, at_exists}
 
 -- it is decided whether something that is decided of each moment is so at a moment of a span
 pub some_moment : (s : Span) (P : ℤ → Type 0) → ((t : ℤ) → Decided (P t)) → Decided ((t : ℤ) × Within t s × P t)
@@ -23,13 +26,17 @@ decide_exists g o t = if_some (slice_get g.objects o) (λ x. Covers x.live t) (�
 -- an object's moments, and the list that it keeps
 module _ (g : Graph) (o : ℕ) (live : List Span) (is : ObjectIs g o (λ x. live ≡ x.live)) where
   pub covered : (t : ℤ) → Exists g o t → Covers live t
-  covered t h =
-      let a = there g.objects o _ is in
-      let b = there g.objects o _ h in
-      subst (λ l. Covers l t) (ap (λ (x : Object). x.live) (same_some _ _ _ b.1 a.1) ∙ sym a.2) b.2
+  covered t h = let a = there g.objects o _ is in subst (λ l. Covers l t) (sym a.2) (exists_at g o a.0 a.1 t h)
 
   pub existing : (t : ℤ) → Covers live t → Exists g o t
-  existing t h = let a = there g.objects o _ is in here g.objects o _ a.0 a.1 (subst (λ l. Covers l t) a.2 h)
+  existing t h = let a = there g.objects o _ is in at_exists g o a.0 a.1 t (subst (λ l. Covers l t) a.2 h)
+
+  module _ (s : Span) (spans : List Span) where
+    pub alike_joined : AreRuns (λ t. Covers live t ⊎ Within t s) spans → AreRuns (λ t. Exists g o t ⊎ Within t s) spans
+    alike_joined = runs_alike (λ t. Covers live t ⊎ Within t s) (λ t. Exists g o t ⊎ Within t s) spans (λ t h. ⊎_elim (λ k. inl (existing t k)) (λ w. inr w) h) (λ t h. ⊎_elim (λ k. inl (covered t k)) (λ w. inr w) h)
+
+    pub joined_alike : AreRuns (λ t. Exists g o t ⊎ Within t s) spans → AreRuns (λ t. Covers live t ⊎ Within t s) spans
+    joined_alike = runs_alike (λ t. Exists g o t ⊎ Within t s) (λ t. Covers live t ⊎ Within t s) spans (λ t h. ⊎_elim (λ k. inl (covered t k)) (λ w. inr w) h) (λ t h. ⊎_elim (λ k. inl (existing t k)) (λ w. inr w) h)
 
 -- a graph with a horizon is begun
 pub begun_some : (b : Option Begun) (h : Span) → Some h ≡ option_map (λ b. b.horizon) b → IsSome b

@@ -1,5 +1,5 @@
 -- An edit that breaks no rule leads from a good graph to a good one.
-use Rattle.std.proofs.Common.{◌≡◌, ℕ, ◌<◌, ◌≤◌, ℤ, ◌≤ℤ◌, ◌<ℤ◌, inl, inr, length, Option, Some, None, refl, sym, subst, arith}
+use Rattle.std.proofs.Common.{◌≡◌, ℕ, ◌<◌, ◌≤◌, ℤ, ◌≤ℤ◌, ◌<ℤ◌, inl, inr, length, Option, Some, None, refl, sym, subst}
 use Rattle.std.specs.Prelude.{IsSome, IsNone}
 use Rattle.std.proofs.lemmas.Int.{by_lt_z}
 use Rattle.std.proofs.lemmas.Bool.{cases_lt}
@@ -18,6 +18,7 @@ use Rattle.itpg_edit.specs.Rules.{Unbroken}
 use Rattle.itpg_edit.specs.Next.{Next}
 use Rattle.itpg_edit.specs.Places.{HasMoments, HasLabels, EndsExist, IsFree, IsThere}
 use Rattle.itpg_edit.proofs.Moments.{decide_exists}
+use Rattle.itpg_edit.proofs.Families.{cuts_many}
 use Rattle.itpg_edit.proofs.Deciding.{decide_in_horizon, decide_property}
 
 none_of : {X : Type 0} (o : Option X) → (IsSome o → ⊥) → IsNone o
@@ -92,14 +93,7 @@ next_good g new (Gone id from to) good moments labels u next =
     let s = span_of from to in
     let j = next.2 in
     subst Good (sym j.is) (good_cut g next.0 s j.live j.properties j.runs j.values good (named_stands g next.0 id next.1) (is_free g next.0 id s next.1 u.1.1.1.1.0)
-    (λ n family. at_most n 4096 (λ many. u.1.1.1.1.1.0 (
-      next.0,
-      next.1,
-      elim family [
-        | inl live ↦ inl (record { spans = live.0; are = live.1; many = (let e = live.2 in omega arith) })
-        | inr prop ↦ inr (prop.0, record { runs = prop.1; are = prop.2; many = (let e = prop.3 in omega arith) })
-      ],
-    ))))
+    (λ n family. at_most n 4096 (λ many. u.1.1.1.1.1.0 (next.0, next.1, cuts_many g next.0 s n family many))))
 next_good g new (Put id prop value from to) good moments labels u next =
     let s = span_of from to in
     let j = next.2 in

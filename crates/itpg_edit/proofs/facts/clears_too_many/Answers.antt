@@ -1,11 +1,12 @@
 use Rattle.std.proofs.Common.{arith, refl}
 use Rattle.std.proofs.lemmas.Grind.{common_steps}
-use Rattle.itpg_edit.proofs.Families.{clears_few, clears_many, clears_none}
+use Rattle.itpg_graph.proofs.Asked.{clear_fits}
+use Rattle.itpg_edit.proofs.Families.{clears_many, clears_none}
 use Rattle.itpg_edit.proofs.facts.clears_too_many.Goals as goal
 
 pub returns-in-Some-clause-few : goal.returns-in-Some-clause-few
 returns-in-Some-clause-few c = λ is.
-    clears_few c.args.graph.now c.args.object.0 c.args.prop.now c.in-Some.values.now c.args.span c.in-Some.ensures.some c.count_clear.result c.count_clear.ensures (grind (arith, common_steps))
+    clear_fits c.args.graph.now c.args.object.0 c.args.prop.now c.in-Some.values.now c.in-Some.ensures.some c.args.span c.count_clear.result c.count_clear.ensures (grind (arith, common_steps))
 
 pub returns-in-Some-clause-many : goal.returns-in-Some-clause-many
 returns-in-Some-clause-many c = λ is.

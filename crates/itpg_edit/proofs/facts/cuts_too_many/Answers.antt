@@ -1,8 +1,8 @@
 use Rattle.std.proofs.Common.{arith}
 use Rattle.std.proofs.lemmas.Grind.{common_steps}
-use Rattle.itpg_edit.proofs.Families.{cuts_few}
+use Rattle.itpg_graph.proofs.Asked.{cut_fits}
 use Rattle.itpg_edit.proofs.facts.cuts_too_many.Goals as goal
 
 pub returns-clause-few : goal.returns-clause-few
 returns-clause-few c = λ is.
-    cuts_few c.args.graph.now c.args.object.0 c.args.span c.widest_cut.result c.widest_cut.ensures.some c.widest_cut.ensures.most (grind (arith, common_steps))
+    cut_fits c.args.graph.now c.args.object.0 c.args.span c.widest_cut.result c.widest_cut.ensures.most (grind (arith, common_steps))

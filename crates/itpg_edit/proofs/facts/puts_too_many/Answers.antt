@@ -1,12 +1,13 @@
 use Rattle.std.proofs.Common.{◌<◌, inl, inr, length, refl, arith, true≢false}
 use Rattle.std.proofs.lemmas.Grind.{common_steps}
 use Rattle.itpg_base.proofs.Objects.{there, here}
-use Rattle.itpg_edit.proofs.Families.{puts_few, puts_many, puts_first, has_property}
+use Rattle.itpg_graph.proofs.Asked.{put_fits}
+use Rattle.itpg_edit.proofs.Families.{puts_many, puts_first, has_property}
 use Rattle.itpg_edit.proofs.facts.puts_too_many.Goals as goal
 
 pub returns-in-Some-clause-few : goal.returns-in-Some-clause-few
 returns-in-Some-clause-few c = λ is. (
-  puts_few c.args.graph.now c.args.object.0 c.args.prop.now c.in-Some.values.now c.args.span c.in-Some.ensures.some c.args.value c.count_put.result c.count_put.ensures (grind (arith, common_steps)),
+  put_fits c.args.graph.now c.args.object.0 c.args.prop.now c.in-Some.values.now c.in-Some.ensures.some c.args.span c.args.value c.count_put.result c.count_put.ensures (grind (arith, common_steps)),
   inl (has_property c.args.graph.now c.args.object.0 c.args.prop.now c.in-Some.values.now c.args.span c.in-Some.ensures.some (λ never. absurd (true≢false (c.in-Some.ensures.none.1 never)))),
 )
 
