@@ -1,0 +1,4 @@
+pub mod Watches
+pub mod Changes
+pub mod Codes
+pub mod Stores

@@ -1,0 +1,16 @@
+//! Standing queries: the list of watches, and what changed between two answers.
+//!
+//! Stands on `path_ast`, which has the queries, and on `relation_rows`, which has the answers. It promises that the watches
+//! are the list that the calls so far have left, and that a change has exactly the rows of what one answer has and the
+//! other hasn't.
+#![tactic(auto)]
+
+mod gain_loss;
+mod laws;
+#[cfg(test)]
+mod tests;
+mod watches;
+
+pub use gain_loss::{GainLoss, changes};
+pub use laws::law_of_changes;
+pub use watches::{MAX_WATCHES, Unknown, WatchFault, Watches};
