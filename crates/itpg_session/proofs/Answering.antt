@@ -1,20 +1,22 @@
 -- The turns of lines, and the rules of queries, from their parts.
-use Rattle.std.proofs.Common.{◌≡◌, ℕ, List, inl, inr, refl}
+use Rattle.std.proofs.Common.{◌≡◌, ◌⊎◌, ℕ, ◌≤◌, length, List, [], ◌∷◌, ◌++◌, inl, inr, refl, ap}
 use Rattle.std.specs.Prelude.{Ok, Err}
 use Rattle.itpg_base.specs.Words.{Word}
 use Rattle.itpg_base.specs.Graphs.{Graph}
 use Rattle.itpg_base.specs.declared.rule_code.RuleCode.{RuleCode}
+use Rattle.itpg_base.specs.declared.rule_code.RuleCode.TheVariants.{Taken, Unknown, Full}
 use Rattle.itpg_base.specs.declared.text_code.TextCode.{TextCode}
 use Rattle.itpg_edit.specs.declared.edit.Edit.{Edit}
-use Rattle.itpg_edit.specs.Rules.{FirstOf, Broken, Unbroken}
+use Rattle.itpg_edit.specs.Rules.{FirstOf, NoneOf, Broken, Unbroken}
 use Rattle.itpg_edit.specs.Next.{Next}
 use Rattle.edit_reader.specs.Readings.{Reading, Nothing, Changes, Asks, Watches, Shows, Unwatches, Ticks}
 use Rattle.edit_reader.specs.Lines.{LineOf}
 use Rattle.path_ast.specs.Terms.{QueryTerm}
 use Rattle.match_parser.specs.Reading.{Reads, FaultOf}
-use Rattle.itpg_session.specs.Rules.{WatchBreaks, CommandBreaks, watch_rules, command_rules}
+use Rattle.standing_queries.specs.Watches.{Watch, IsWatched, most_watches, new_watch, without}
+use Rattle.itpg_session.specs.Rules.{QueryBreaks, WatchBreaks, NameBreaks, TickBreaks, ask_rules, watch_rules, name_rules, tick_rules}
 use Rattle.itpg_session.specs.Replies.{Reply, IsReply}
-use Rattle.itpg_session.specs.Machine.{Machine, Turn, Refuses, AsksText, WatchesText, Answers, TurnOf, Replies, quiet_turn, bad_turn, refused_turn, asked_turn}
+use Rattle.itpg_session.specs.Machine.{Machine, Turn, Refuses, AsksText, WatchesText, AddsWatch, ShowsWatch, DropsWatch, TicksAll, Answers, TurnOf, Replies, quiet_turn, bad_turn, refused_turn, asked_turn}
 
 module _ (limit : ℕ) (m : Machine) (number : ℕ) where
   pub replies_read : (line : List ℕ) (reading : Reading) → LineOf line (Ok reading) → (t : Turn) → Answers limit m number reading t → Replies limit m number line t
@@ -36,19 +38,19 @@ module _ (limit : ℕ) (m : Machine) (number : ℕ) where
   pub asked_asks : (text : List ℕ) (reply : Reply) → IsReply m.graph limit text reply → (t : Turn) → t ≡ asked_turn m number reply → AsksText limit m number text t
   asked_asks text reply replies t is = record { reply = reply; replies = replies; is = is }
 
-  pub watches_answers : (name : Word) (text : List ℕ) (t : Turn) → WatchesText m number text t → Answers limit m number (Watches name text) t
+  pub watches_answers : (name : Word) (text : List ℕ) (t : Turn) → WatchesText m number name text t → Answers limit m number (Watches name text) t
   unfolding Answers
   watches_answers name text t a = a
 
-  pub shows_answers : (name : Word) (t : Turn) → Refuses m number (CommandBreaks m.graph) command_rules t → Answers limit m number (Shows name) t
+  pub shows_answers : (name : Word) (t : Turn) → Refuses m number (NameBreaks m.graph m.watches name) name_rules t ⊎ ShowsWatch limit m number name t → Answers limit m number (Shows name) t
   unfolding Answers
   shows_answers name t a = a
 
-  pub unwatches_answers : (name : Word) (t : Turn) → Refuses m number (CommandBreaks m.graph) command_rules t → Answers limit m number (Unwatches name) t
+  pub unwatches_answers : (name : Word) (t : Turn) → Refuses m number (NameBreaks m.graph m.watches name) name_rules t ⊎ DropsWatch m name t → Answers limit m number (Unwatches name) t
   unfolding Answers
   unwatches_answers name t a = a
 
-  pub ticks_answers : (t : Turn) → Refuses m number (CommandBreaks m.graph) command_rules t → Answers limit m number Ticks t
+  pub ticks_answers : (t : Turn) → Refuses m number (TickBreaks m.graph) tick_rules t ⊎ TicksAll limit m t → Answers limit m number Ticks t
   unfolding Answers
   ticks_answers t a = a
 
@@ -56,16 +58,46 @@ module _ (limit : ℕ) (m : Machine) (number : ℕ) where
   unfolding Answers
   edit_refused edit rule first t is = inl (record { rule = rule; first = first; is = is })
 
-  pub edit_made : (edit : Edit) (g : Graph) → Unbroken m.graph edit → Next m.graph edit g → Answers limit m number (Changes edit) (quiet_turn (record { graph = g }))
+  pub edit_made : (edit : Edit) (g : Graph) → Unbroken m.graph edit → Next m.graph edit g → Answers limit m number (Changes edit) (quiet_turn (record { graph = g; watches = m.watches }))
   unfolding Answers
   edit_made edit g unbroken next = inr (record { unbroken = unbroken; graph = g; next = next; is = refl })
 
 pub refuses : (m : Machine) (number : ℕ) (broken : RuleCode → Type 0) (rules : List RuleCode) (rule : RuleCode) → FirstOf broken rules rule → (t : Turn) → t ≡ refused_turn m number rule → Refuses m number broken rules t
 refuses m number broken rules rule first t is = record { rule = rule; first = first; is = is }
 
-module _ (m : Machine) (number : ℕ) (text : List ℕ) where
-  pub watch_bad : (code : TextCode) → FaultOf text code → (t : Turn) → t ≡ bad_turn m number code → WatchesText m number text t
+module _ (m : Machine) (number : ℕ) (name : Word) (text : List ℕ) where
+  pub watch_bad : (code : TextCode) → FaultOf text code → (t : Turn) → t ≡ bad_turn m number code → WatchesText m number name text t
   watch_bad code fault t is = inl (code, fault, is)
 
-  pub watch_refused : (q : QueryTerm) → Reads text q → (rule : RuleCode) → FirstOf (WatchBreaks m.graph q) watch_rules rule → (t : Turn) → t ≡ refused_turn m number rule → WatchesText m number text t
-  watch_refused q reads rule first t is = inr (q, reads, record { rule = rule; first = first; is = is })
+  pub watch_read : (q : QueryTerm) → Reads text q → (t : Turn) → Refuses m number (WatchBreaks m.graph m.watches name q) watch_rules t ⊎ AddsWatch m name q t → WatchesText m number name text t
+  watch_read q reads t a = inr (q, reads, a)
+
+-- a refusal among the ways of a turn
+pub refusal : (m : Machine) (number : ℕ) (broken : RuleCode → Type 0) (rules : List RuleCode) (Other : Turn → Type 0) (rule : RuleCode) → FirstOf broken rules rule → (t : Turn) → t ≡ refused_turn m number rule → Refuses m number broken rules t ⊎ Other t
+refusal m number broken rules Other rule first t is = inl (refuses m number broken rules rule first t is)
+
+module _ (m : Machine) (name : Word) where
+  pub added : (q : QueryTerm) → NoneOf (WatchBreaks m.graph m.watches name q) watch_rules → (ws : List Watch) → ws ≡ m.watches ++ new_watch name q ∷ [] → AddsWatch m name q (quiet_turn (record { graph = m.graph; watches = ws }))
+  added q unbroken ws is = record { unbroken = unbroken; is = ap (λ (vs : List Watch). quiet_turn (record { graph = m.graph; watches = vs })) is }
+
+  pub dropped : NoneOf (NameBreaks m.graph m.watches name) name_rules → (ws : List Watch) → ws ≡ without name m.watches → DropsWatch m name (quiet_turn (record { graph = m.graph; watches = ws }))
+  dropped unbroken ws is = record { unbroken = unbroken; is = ap (λ (vs : List Watch). quiet_turn (record { graph = m.graph; watches = vs })) is }
+
+-- the rules of a query that is to be watched, where asking it breaks none
+module _ (m : Machine) (name : Word) (q : QueryTerm) (asked : NoneOf (QueryBreaks m.graph q) ask_rules) where
+  pub may_watch : (IsWatched m.watches name → ⊥) → (most_watches ≤ length m.watches → ⊥) → NoneOf (WatchBreaks m.graph m.watches name q) watch_rules
+  may_watch free few = (asked.0, (asked.1.0, (free, (few, tt))))
+
+  pub is_taken : IsWatched m.watches name → FirstOf (WatchBreaks m.graph m.watches name q) watch_rules Taken
+  is_taken taken = inr (asked.0, inr (asked.1.0, inl (taken, refl)))
+
+  pub is_full : (IsWatched m.watches name → ⊥) → most_watches ≤ length m.watches → FirstOf (WatchBreaks m.graph m.watches name q) watch_rules Full
+  is_full free full = inr (asked.0, inr (asked.1.0, inr (free, inl (full, refl))))
+
+-- the rules of a watch's name, where a graph is begun
+module _ (m : Machine) (name : Word) (begun : NoneOf (TickBreaks m.graph) tick_rules) where
+  pub may_name : ((IsWatched m.watches name → ⊥) → ⊥) → NoneOf (NameBreaks m.graph m.watches name) name_rules
+  may_name known = (begun.0, (known, tt))
+
+  pub is_unknown : (IsWatched m.watches name → ⊥) → FirstOf (NameBreaks m.graph m.watches name) name_rules Unknown
+  is_unknown unknown = inr (begun.0, inl (unknown, refl))

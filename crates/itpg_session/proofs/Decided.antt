@@ -1,16 +1,18 @@
--- It is decided which rule a query or a command breaks first.
-use Rattle.std.proofs.Common.{◌≡◌, ◌≢◌, List, [], ◌∷◌, ◌⊎◌, inl, inr, Option, Some, None, Bool, true, false, refl, sym, ap, ◌∙◌}
+-- It is decided which rule a query, the name of a watch or a tick breaks first.
+use Rattle.std.proofs.Common.{◌≡◌, ◌≢◌, List, [], ◌∷◌, ◌⊎◌, inl, inr, ⊎_elim, length, Option, Some, None, Bool, true, false, refl, sym, ap, ◌∙◌}
 use Rattle.std.specs.Prelude.{IsNone, IsSomeAnd, nat_eq}
 use Rattle.std.specs.Cmp.Lexicographic.{pointwise}
 use Rattle.itpg_base.specs.Words.{Word}
 use Rattle.itpg_base.specs.Decided.{Decided}
 use Rattle.itpg_base.specs.Graphs.{Graph, Begun}
 use Rattle.itpg_base.specs.declared.rule_code.RuleCode.{RuleCode}
-use Rattle.itpg_base.specs.declared.rule_code.RuleCode.TheVariants.{NoGraph, GraphName, Later}
+use Rattle.itpg_base.specs.declared.rule_code.RuleCode.TheVariants.{NoGraph, Again, Taken, Unknown, Kind, Backwards, Horizon, Ends, Absent, Held, Incident, Full, GraphName}
 use Rattle.itpg_base.proofs.Objects.{word_same, word_refl}
+use Rattle.itpg_base.proofs.Searches.{at_most}
 use Rattle.itpg_edit.specs.Rules.{FirstOf, NoneOf}
 use Rattle.path_ast.specs.Terms.{QueryTerm}
-use Rattle.itpg_session.specs.Rules.{QueryBreaks, WatchBreaks, CommandBreaks, watch_rules, command_rules}
+use Rattle.standing_queries.specs.Watches.{Watch, IsWatched, most_watches}
+use Rattle.itpg_session.specs.Rules.{QueryBreaks, WatchBreaks, NameBreaks, TickBreaks}
 
 decide_same : (a b : Word) → Decided (a ≡ b)
 decide_same a b = by_test (pointwise nat_eq a b) refl
@@ -41,15 +43,45 @@ decide_ask g q NoGraph = decide_begun g.begun
 decide_ask g q GraphName = decide_name q.graph_name g.begun
 decide_ask g q _ = inr (λ no. no)
 
--- the first rule that a watch, or another command on watches, breaks: `later` at the last
-pub watch_breaks : (g : Graph) (q : QueryTerm) → (rule : RuleCode) × FirstOf (WatchBreaks g q) watch_rules rule
-watch_breaks g q = elim (decide_begun g.begun) [
-  | inl b ↦ (NoGraph, inl (b, refl))
-  | inr n ↦ elim (decide_name q.graph_name g.begun) [
-    | inl b ↦ (GraphName, inr (n, inl (b, refl)))
-    | inr k ↦ (Later, inr (n, inr (k, inl (tt, refl))))
+-- of lists of watches it is decided whether a name is one of theirs
+pub decide_watched : (ws : List Watch) (name : Word) → Decided (IsWatched ws name)
+decide_watched [] name = inr (λ h. absurd h.1)
+decide_watched (w ∷ ws) name = elim (decide_same w.name name) [
+  | inl e ↦ inl (w, inl refl, e)
+  | inr n ↦ elim (decide_watched ws name) [
+    | inl h ↦ inl (h.0, inr h.1, h.2)
+    | inr k ↦ inr (λ h. ⊎_elim (λ e. n (ap (λ (v : Watch). v.name) e ∙ h.2)) (λ a. k (h.0, a, h.2)) h.1)
   ]
 ]
 
-pub command_breaks : (g : Graph) → (rule : RuleCode) × FirstOf (CommandBreaks g) command_rules rule
-command_breaks g = elim (decide_begun g.begun) [ inl b ↦ (NoGraph, inl (b, refl)) | inr n ↦ (Later, inr (n, inl (tt, refl))) ]
+decide_not : {P : Type 0} → Decided P → Decided (P → ⊥)
+decide_not (inl p) = inr (λ n. n p)
+decide_not (inr n) = inl n
+
+pub decide_watch : (g : Graph) (ws : List Watch) (name : Word) (q : QueryTerm) (rule : RuleCode) → Decided (WatchBreaks g ws name q rule)
+decide_watch g ws name q NoGraph = decide_begun g.begun
+decide_watch g ws name q GraphName = decide_name q.graph_name g.begun
+decide_watch g ws name q Taken = decide_watched ws name
+decide_watch g ws name q Full = at_most most_watches (length ws)
+decide_watch g ws name q Again = inr (λ no. no)
+decide_watch g ws name q Unknown = inr (λ no. no)
+decide_watch g ws name q Kind = inr (λ no. no)
+decide_watch g ws name q Backwards = inr (λ no. no)
+decide_watch g ws name q Horizon = inr (λ no. no)
+decide_watch g ws name q Ends = inr (λ no. no)
+decide_watch g ws name q Absent = inr (λ no. no)
+decide_watch g ws name q Held = inr (λ no. no)
+decide_watch g ws name q Incident = inr (λ no. no)
+
+pub decide_named : (g : Graph) (ws : List Watch) (name : Word) (rule : RuleCode) → Decided (NameBreaks g ws name rule)
+decide_named g ws name NoGraph = decide_begun g.begun
+decide_named g ws name Unknown = decide_not (decide_watched ws name)
+decide_named g ws name _ = inr (λ no. no)
+
+pub decide_tick : (g : Graph) (rule : RuleCode) → Decided (TickBreaks g rule)
+decide_tick g NoGraph = decide_begun g.begun
+decide_tick g _ = inr (λ no. no)
+
+-- where it isn't so that no watch has the name, one has it
+pub some_watch : (ws : List Watch) (name : Word) → ((IsWatched ws name → ⊥) → ⊥) → IsWatched ws name
+some_watch ws name not_none = elim (decide_watched ws name) [ inl h ↦ h | inr n ↦ absurd (not_none n) ]

@@ -1,6 +1,10 @@
 pub mod Written
 pub mod Taken
 pub mod Decided
+pub mod Numbers
+pub mod Watching
+pub mod TickSteps
 pub mod Replying
+pub mod Changing
 pub mod Answering
 pub mod OneTurn

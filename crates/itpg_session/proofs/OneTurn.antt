@@ -1,30 +1,40 @@
--- On a good graph a line has exactly one turn, and it leaves a good graph.
+-- From a good machine a line has exactly one turn, and it leaves a good machine.
 use Rattle.std.proofs.Common.{◌≡◌, ℕ, ◌≤◌, List, ◌⊎◌, inl, inr, refl, sym, ap, ◌∙◌, subst}
 use Rattle.std.specs.Prelude.{◌↔◌, Result, Ok, Err, take}
+use Rattle.itpg_base.specs.Words.{Word}
 use Rattle.itpg_base.specs.Graphs.{Graph, Good}
 use Rattle.itpg_base.specs.declared.rule_code.RuleCode.{RuleCode}
 use Rattle.itpg_base.specs.declared.text_code.TextCode.{TextCode}
 use Rattle.itpg_edit.specs.declared.edit.Edit.{Edit}
-use Rattle.itpg_edit.specs.Rules.{Breaks, Broken, Unbroken, rules_of}
+use Rattle.itpg_edit.specs.Rules.{FirstOf, Breaks, Broken, NoneOf, Unbroken, rules_of}
 use Rattle.itpg_edit.specs.Next.{Next}
 use Rattle.itpg_edit.specs.Places.{HasMoments, HasLabels}
 use Rattle.itpg_edit.proofs.FirstOf.{first_unique, first_or_unbroken}
 use Rattle.edit_reader.specs.Readings.{Reading, Nothing, Changes, Asks, Watches, Shows, Unwatches, Ticks}
 use Rattle.edit_reader.specs.Lines.{LineOf}
 use Rattle.edit_reader.specs.Moments.{AsksOfMoments, AsksForLabels}
+use Rattle.match_parser.specs.Reading.{Reads}
+use Rattle.match_parser.proofs.InRange.{asks_for_one}
 use Rattle.path_ast.specs.Terms.{QueryTerm}
-use Rattle.itpg_session.specs.Rules.{WatchBreaks, CommandBreaks, watch_rules, command_rules}
+use Rattle.standing_queries.specs.Watches.{Watch, IsWatched, IsOfKind, new_watch}
+use Rattle.standing_queries.specs.Changes.{OneRest, SomeRest}
+use Rattle.itpg_session.specs.Rules.{WatchBreaks, NameBreaks, TickBreaks, watch_rules, name_rules, tick_rules}
+use Rattle.itpg_session.specs.Questions.{Found, TooWide, Answer}
+use Rattle.itpg_session.specs.Watching.{AsksForOne}
 use Rattle.itpg_session.specs.Replies.{Reply, Bad, Refused, Wide, Rows}
-use Rattle.itpg_session.specs.Machine.{Machine, Turn, Refuses, AsksText, WatchesText, Answers, TurnOf, Replies, quiet_turn, bad_turn, refused_turn, asked_turn}
+use Rattle.itpg_session.specs.Machine.{Machine, IsGood, Turn, Refuses, AsksText, WatchesText, AddsWatch, TellsFound, ShowsWatch, DropsWatch, TicksAll, Answers, TurnOf, Replies, quiet_turn, bad_turn, refused_turn, asked_turn, found_turn, tick_turn}
 use Rattle.itpg_session.specs.MachineLaws.{OneReply, SomeReply, GoodReply, FrontReplies}
-use Rattle.itpg_session.proofs.Decided.{watch_breaks, command_breaks}
-use Rattle.itpg_session.proofs.Replying.{TextLaws, one_asked, some_asked}
-use Rattle.itpg_session.proofs.Answering.{replies_read, replies_bad, blank_answers, asks_answers, asked_asks, watches_answers, watch_bad, watch_refused, shows_answers, unwatches_answers, ticks_answers, edit_refused, edit_made, refuses}
+use Rattle.itpg_session.proofs.Decided.{first_or_none, decide_watch, decide_named, decide_tick, some_watch}
+use Rattle.itpg_session.proofs.Replying.{TextLaws, one_asked, some_asked, one_found, some_found}
+use Rattle.itpg_session.proofs.Watching.{one_named, differ_added, differ_without, among_without, kind_at_first, each_added}
+use Rattle.itpg_session.proofs.TickSteps.{among_moved, differ_moved}
+use Rattle.itpg_session.proofs.Changing.{kinds_moved, one_tick, some_tick}
+use Rattle.itpg_session.proofs.Answering.{replies_read, replies_bad, blank_answers, asks_answers, asked_asks, watches_answers, watch_bad, watch_read, shows_answers, unwatches_answers, ticks_answers, edit_refused, edit_made, refusal}
 
 one_refusal : (m : Machine) (number : ℕ) (broken : RuleCode → Type 0) (rules : List RuleCode) (x y : Turn) → Refuses m number broken rules x → Refuses m number broken rules y → x ≡ y
 one_refusal m number broken rules x y a b = a.is ∙ ap (refused_turn m number) (first_unique broken rules a.rule b.rule a.first b.first) ∙ sym b.is
 
--- the laws of lines, of query texts and of edits
+-- the laws of lines, of query texts, of edits and of what changes
 pub record Below : Type 0 where
   pub some_line : (line : List ℕ) → (result : Result Reading TextCode) × LineOf line result
   pub one_line : (line : List ℕ) (a b : Result Reading TextCode) → LineOf line a → LineOf line b → a ≡ b
@@ -35,33 +45,58 @@ pub record Below : Type 0 where
   pub one_next : (g x y : Graph) (edit : Edit) → Good g → Next g edit x → Next g edit y → x ≡ y
   pub some_next : (g : Graph) (edit : Edit) → Good g → Unbroken g edit → (new : Graph) × Next g edit new
   pub texts : TextLaws
+  pub one_rest : OneRest
+  pub some_rest : SomeRest
 
-module _ (below : Below) (limit : ℕ) (m : Machine) (number : ℕ) (good : Good m.graph) where
+module _ (below : Below) (limit : ℕ) (m : Machine) (number : ℕ) (good : IsGood m) where
   one_ask : (text : List ℕ) (x y : Turn) → AsksText limit m number text x → AsksText limit m number text y → x ≡ y
   one_ask text x y a b = a.is ∙ ap (asked_turn m number) (one_asked below.texts m.graph limit text a.reply b.reply a.replies b.replies) ∙ sym b.is
 
-  one_watch : (text : List ℕ) (x y : Turn) → WatchesText m number text x → WatchesText m number text y → x ≡ y
-  one_watch text x y (inl (c, f, e)) (inl (d, h, k)) = e ∙ ap (bad_turn m number) (below.texts.one_fault text c d f h) ∙ sym k
-  one_watch text x y (inl (c, f, e)) (inr (q, s, b)) = absurd (below.texts.apart text q c s f)
-  one_watch text x y (inr (p, r, a)) (inl (d, h, k)) = absurd (below.texts.apart text p d r h)
-  one_watch text x y (inr (p, r, a)) (inr (q, s, b)) = one_refusal m number (WatchBreaks m.graph q) watch_rules x y (subst (λ (q : QueryTerm). Refuses m number (WatchBreaks m.graph q) watch_rules x) (below.texts.one_query text p q r s) a) b
+  -- a turn is a refusal or another, and not both
+  one_of : (broken : RuleCode → Type 0) (rules : List RuleCode) (Other : Turn → Type 0) → ((t : Turn) → Other t → NoneOf broken rules) → ((x y : Turn) → Other x → Other y → x ≡ y)
+      → (x y : Turn) → Refuses m number broken rules x ⊎ Other x → Refuses m number broken rules y ⊎ Other y → x ≡ y
+  one_of broken rules Other none one x y (inl a) (inl b) = one_refusal m number broken rules x y a b
+  one_of broken rules Other none one x y (inl a) (inr b) = absurd (first_or_unbroken broken rules a.rule a.first (none y b))
+  one_of broken rules Other none one x y (inr a) (inl b) = absurd (first_or_unbroken broken rules b.rule b.first (none x a))
+  one_of broken rules Other none one x y (inr a) (inr b) = one x y a b
+
+  abbrev IsWatchTurn : Word → QueryTerm → Turn → Type 0
+  IsWatchTurn name q t = Refuses m number (WatchBreaks m.graph m.watches name q) watch_rules t ⊎ AddsWatch m name q t
+
+  one_watched : (name : Word) (q : QueryTerm) (x y : Turn) → IsWatchTurn name q x → IsWatchTurn name q y → x ≡ y
+  one_watched name q x y a b = one_of (WatchBreaks m.graph m.watches name q) watch_rules (AddsWatch m name q) (λ t h. h.unbroken) (λ v w h k. h.is ∙ sym k.is) x y a b
+
+  one_watch : (name : Word) (text : List ℕ) (x y : Turn) → WatchesText m number name text x → WatchesText m number name text y → x ≡ y
+  one_watch name text x y (inl (c, f, e)) (inl (d, h, k)) = e ∙ ap (bad_turn m number) (below.texts.one_fault text c d f h) ∙ sym k
+  one_watch name text x y (inl (c, f, e)) (inr (q, s, b)) = absurd (below.texts.apart text q c s f)
+  one_watch name text x y (inr (p, r, a)) (inl (d, h, k)) = absurd (below.texts.apart text p d r h)
+  one_watch name text x y (inr (p, r, a)) (inr (q, s, b)) = one_watched name q x y (subst (λ (q : QueryTerm). IsWatchTurn name q x) (below.texts.one_query text p q r s) a) b
+
+  one_shown : (name : Word) (x y : Turn) → ShowsWatch limit m number name x → ShowsWatch limit m number name y → x ≡ y
+  one_shown name x y a b =
+      let v : a.watch ≡ b.watch = one_named m.watches good.differ a.watch b.watch a.among b.among (a.named ∙ sym b.named) in
+      let told = subst (λ (w : Watch). TellsFound limit m number w.query x) v a.tells in
+      told.is ∙ ap (found_turn m number) (one_found m.graph limit (b.watch).query told.found (b.tells).found told.finds (b.tells).finds) ∙ sym (b.tells).is
+
+  one_ticked : (x y : Turn) → TicksAll limit m x → TicksAll limit m y → x ≡ y
+  one_ticked x y a b = a.is ∙ ap (tick_turn m) (one_tick m.graph limit below.one_rest m.watches a.found b.found a.finds b.finds) ∙ sym b.is
 
   one_change : (edit : Edit) (x y : Turn) → Answers limit m number (Changes edit) x → Answers limit m number (Changes edit) y → x ≡ y
   unfolding Answers
   one_change edit x y (inl a) (inl b) = one_refusal m number (Breaks m.graph edit) (rules_of edit) x y a b
   one_change edit x y (inl a) (inr b) = absurd (first_or_unbroken (Breaks m.graph edit) (rules_of edit) a.rule a.first b.unbroken)
   one_change edit x y (inr a) (inl b) = absurd (first_or_unbroken (Breaks m.graph edit) (rules_of edit) b.rule b.first a.unbroken)
-  one_change edit x y (inr a) (inr b) = a.is ∙ ap (λ (g : Graph). let n : Machine = record { graph = g } in quiet_turn n) (below.one_next m.graph a.graph b.graph edit good a.next b.next) ∙ sym b.is
+  one_change edit x y (inr a) (inr b) = a.is ∙ ap (λ (g : Graph). let n : Machine = record { graph = g; watches = m.watches } in quiet_turn n) (below.one_next m.graph a.graph b.graph edit good.graph a.next b.next) ∙ sym b.is
 
   one_answer : (reading : Reading) (x y : Turn) → Answers limit m number reading x → Answers limit m number reading y → x ≡ y
   unfolding Answers
   one_answer Nothing x y a b = a ∙ sym b
   one_answer (Changes edit) x y a b = one_change edit x y a b
   one_answer (Asks text) x y a b = one_ask text x y a b
-  one_answer (Watches name text) x y a b = one_watch text x y a b
-  one_answer (Shows name) x y a b = one_refusal m number (CommandBreaks m.graph) command_rules x y a b
-  one_answer (Unwatches name) x y a b = one_refusal m number (CommandBreaks m.graph) command_rules x y a b
-  one_answer Ticks x y a b = one_refusal m number (CommandBreaks m.graph) command_rules x y a b
+  one_answer (Watches name text) x y a b = one_watch name text x y a b
+  one_answer (Shows name) x y a b = one_of (NameBreaks m.graph m.watches name) name_rules (ShowsWatch limit m number name) (λ t h. h.unbroken) (one_shown name) x y a b
+  one_answer (Unwatches name) x y a b = one_of (NameBreaks m.graph m.watches name) name_rules (DropsWatch m name) (λ t h. h.unbroken) (λ v w h k. h.is ∙ sym k.is) x y a b
+  one_answer Ticks x y a b = one_of (TickBreaks m.graph) tick_rules (TicksAll limit m) (λ t h. h.unbroken) one_ticked x y a b
 
   one_turn : (what : Result Reading TextCode) (x y : Turn) → TurnOf limit m number what x → TurnOf limit m number what y → x ≡ y
   unfolding TurnOf
@@ -72,8 +107,11 @@ module _ (below : Below) (limit : ℕ) (m : Machine) (number : ℕ) (good : Good
   one_reply_of line x y a b = one_turn b.what x y (subst (λ w. TurnOf limit m number w x) (below.one_line line a.what b.what a.line_of b.line_of) a.turn) b.turn
 
   -- a refusal, and the line of a fault, leave the machine
-  good_refusal : (broken : RuleCode → Type 0) (rules : List RuleCode) (t : Turn) → Refuses m number broken rules t → Good t.next.graph
-  good_refusal broken rules t a = subst (λ (u : Turn). Good u.next.graph) (sym a.is) good
+  same_good : (t : Turn) → m ≡ t.next → IsGood t.next
+  same_good t is = subst IsGood is good
+
+  good_refusal : (broken : RuleCode → Type 0) (rules : List RuleCode) (t : Turn) → Refuses m number broken rules t → IsGood t.next
+  good_refusal broken rules t a = same_good t (sym (ap (λ (u : Turn). u.next) a.is))
 
   same_machine : (reply : Reply) → m ≡ (asked_turn m number reply).next
   same_machine (Bad code) = refl
@@ -81,62 +119,126 @@ module _ (below : Below) (limit : ℕ) (m : Machine) (number : ℕ) (good : Good
   same_machine Wide = refl
   same_machine (Rows answer) = refl
 
-  good_ask : (text : List ℕ) (t : Turn) → AsksText limit m number text t → Good t.next.graph
-  good_ask text t a = subst (λ (u : Turn). Good u.next.graph) (sym a.is) (subst (λ (n : Machine). Good n.graph) (same_machine a.reply) good)
+  same_found : (found : Found) → m ≡ (found_turn m number found).next
+  same_found TooWide = refl
+  same_found (Answer answer) = refl
 
-  good_watch : (text : List ℕ) (t : Turn) → WatchesText m number text t → Good t.next.graph
-  good_watch text t (inl (c, f, e)) = subst (λ (u : Turn). Good u.next.graph) (sym e) good
-  good_watch text t (inr (q, s, b)) = good_refusal (WatchBreaks m.graph q) watch_rules t b
+  good_ask : (text : List ℕ) (t : Turn) → AsksText limit m number text t → IsGood t.next
+  good_ask text t a = same_good t (same_machine a.reply ∙ sym (ap (λ (u : Turn). u.next) a.is))
 
-  good_change : (edit : Edit) (t : Turn) → HasMoments edit → HasLabels edit → Answers limit m number (Changes edit) t → Good t.next.graph
+  -- another watch
+  good_added : (name : Word) (text : List ℕ) (q : QueryTerm) (t : Turn) → Reads text q → AddsWatch m name q t → IsGood t.next
+  good_added name text q t reads a =
+      let free : IsWatched m.watches name → ⊥ = a.unbroken.1.1.0 in
+      subst (λ (u : Turn). IsGood u.next) (sym a.is) (record {
+        graph = good.graph;
+        differ = differ_added m.watches (new_watch name q) good.differ free;
+        asks = each_added (λ (w : Watch). AsksForOne w.query) m.watches (new_watch name q) good.asks (asks_for_one text q reads);
+        kinds = each_added (λ (w : Watch). IsOfKind w.query w.base) m.watches (new_watch name q) good.kinds (kind_at_first q);
+      })
+
+  good_watch : (name : Word) (text : List ℕ) (t : Turn) → WatchesText m number name text t → IsGood t.next
+  good_watch name text t (inl (c, f, e)) = same_good t (sym (ap (λ (u : Turn). u.next) e))
+  good_watch name text t (inr (q, s, inl b)) = good_refusal (WatchBreaks m.graph m.watches name q) watch_rules t b
+  good_watch name text t (inr (q, s, inr b)) = good_added name text q t s b
+
+  good_change : (edit : Edit) (t : Turn) → HasMoments edit → HasLabels edit → Answers limit m number (Changes edit) t → IsGood t.next
   unfolding Answers
   good_change edit t moments labels (inl a) = good_refusal (Breaks m.graph edit) (rules_of edit) t a
-  good_change edit t moments labels (inr a) = subst (λ (u : Turn). Good u.next.graph) (sym a.is) (below.good_next m.graph a.graph edit good moments labels a.unbroken a.next)
+  good_change edit t moments labels (inr a) = subst (λ (u : Turn). IsGood u.next) (sym a.is) (record {
+    graph = below.good_next m.graph a.graph edit good.graph moments labels a.unbroken a.next;
+    differ = good.differ;
+    asks = good.asks;
+    kinds = good.kinds;
+  })
 
-  good_answer : (reading : Reading) (t : Turn) → AsksOfMoments reading → AsksForLabels reading → Answers limit m number reading t → Good t.next.graph
+  good_shown : (name : Word) (t : Turn) → ShowsWatch limit m number name t → IsGood t.next
+  good_shown name t a = same_good t (same_found (a.tells).found ∙ sym (ap (λ (u : Turn). u.next) (a.tells).is))
+
+  -- a watch less
+  good_dropped : (name : Word) (t : Turn) → DropsWatch m name t → IsGood t.next
+  good_dropped name t a = subst (λ (u : Turn). IsGood u.next) (sym a.is) (record {
+    graph = good.graph;
+    differ = differ_without name m.watches good.differ;
+    asks = λ w h. good.asks w (among_without name m.watches w h);
+    kinds = λ w h. good.kinds w (among_without name m.watches w h);
+  })
+
+  -- other bases
+  good_ticked : (t : Turn) → TicksAll limit m t → IsGood t.next
+  good_ticked t a = subst (λ (u : Turn). IsGood u.next) (sym a.is) (record {
+    graph = good.graph;
+    differ = differ_moved m.watches a.found good.differ;
+    asks = λ w h. let v = among_moved m.watches a.found w h in subst AsksForOne v.3 (good.asks v.0 v.1);
+    kinds = kinds_moved m.graph limit m.watches a.found a.finds good.kinds;
+  })
+
+  good_of : (broken : RuleCode → Type 0) (rules : List RuleCode) (Other : Turn → Type 0) → ((t : Turn) → Other t → IsGood t.next) → (t : Turn) → Refuses m number broken rules t ⊎ Other t → IsGood t.next
+  good_of broken rules Other other t (inl a) = good_refusal broken rules t a
+  good_of broken rules Other other t (inr b) = other t b
+
+  good_answer : (reading : Reading) (t : Turn) → AsksOfMoments reading → AsksForLabels reading → Answers limit m number reading t → IsGood t.next
   unfolding Answers
-  good_answer Nothing t moments labels a = subst (λ (u : Turn). Good u.next.graph) (sym a) good
+  good_answer Nothing t moments labels a = same_good t (sym (ap (λ (u : Turn). u.next) a))
   good_answer (Changes edit) t moments labels a = good_change edit t moments labels a
   good_answer (Asks text) t moments labels a = good_ask text t a
-  good_answer (Watches name text) t moments labels a = good_watch text t a
-  good_answer (Shows name) t moments labels a = good_refusal (CommandBreaks m.graph) command_rules t a
-  good_answer (Unwatches name) t moments labels a = good_refusal (CommandBreaks m.graph) command_rules t a
-  good_answer Ticks t moments labels a = good_refusal (CommandBreaks m.graph) command_rules t a
+  good_answer (Watches name text) t moments labels a = good_watch name text t a
+  good_answer (Shows name) t moments labels a = good_of (NameBreaks m.graph m.watches name) name_rules (ShowsWatch limit m number name) (good_shown name) t a
+  good_answer (Unwatches name) t moments labels a = good_of (NameBreaks m.graph m.watches name) name_rules (DropsWatch m name) (good_dropped name) t a
+  good_answer Ticks t moments labels a = good_of (TickBreaks m.graph) tick_rules (TicksAll limit m) good_ticked t a
 
-  good_turn : (line : List ℕ) (what : Result Reading TextCode) (t : Turn) → LineOf line what → TurnOf limit m number what t → Good t.next.graph
+  good_turn : (line : List ℕ) (what : Result Reading TextCode) (t : Turn) → LineOf line what → TurnOf limit m number what t → IsGood t.next
   unfolding TurnOf
   good_turn line (Ok reading) t is a = good_answer reading t (below.moments line reading is) (below.labels line reading is) a
-  good_turn line (Err code) t is a = subst (λ (u : Turn). Good u.next.graph) (sym a) good
+  good_turn line (Err code) t is a = same_good t (sym (ap (λ (u : Turn). u.next) a))
 
-  pub good_reply_of : (line : List ℕ) (t : Turn) → Replies limit m number line t → Good t.next.graph
+  pub good_reply_of : (line : List ℕ) (t : Turn) → Replies limit m number line t → IsGood t.next
   good_reply_of line t a = good_turn line a.what t a.line_of a.turn
-
-  some_command : (t : Turn) × Refuses m number (CommandBreaks m.graph) command_rules t
-  some_command = let f = command_breaks m.graph in (refused_turn m number f.0, refuses m number (CommandBreaks m.graph) command_rules f.0 f.1 _ refl)
 
   some_ask : (text : List ℕ) → (t : Turn) × AsksText limit m number text t
   some_ask text = let r = some_asked below.texts m.graph limit text in (asked_turn m number r.0, asked_asks limit m number text r.0 r.1 _ refl)
 
-  some_watch : (text : List ℕ) → (t : Turn) × WatchesText m number text t
-  some_watch text = elim (below.texts.some_query text) [
-    | inl s ↦ let f = watch_breaks m.graph s.0 in (refused_turn m number f.0, watch_refused m number text s.0 s.1 f.0 f.1 _ refl)
-    | inr f ↦ (bad_turn m number f.0, watch_bad m number text f.0 f.1 _ refl)
+  -- the first rule that is broken, or another turn where none is
+  some_of : (broken : RuleCode → Type 0) (rules : List RuleCode) (Other : Turn → Type 0) → ((rule : RuleCode) × FirstOf broken rules rule) ⊎ NoneOf broken rules → (NoneOf broken rules → (t : Turn) × Other t) → (t : Turn) × (Refuses m number broken rules t ⊎ Other t)
+  some_of broken rules Other (inl f) other = (refused_turn m number f.0, refusal m number broken rules Other f.0 f.1 _ refl)
+  some_of broken rules Other (inr none) other = let t = other none in (t.0, inr t.1)
+
+  some_watched : (name : Word) (text : List ℕ) → (t : Turn) × WatchesText m number name text t
+  some_watched name text = elim (below.texts.some_query text) [
+    | inl s ↦ let t = some_of (WatchBreaks m.graph m.watches name s.0) watch_rules (AddsWatch m name s.0) (first_or_none (WatchBreaks m.graph m.watches name s.0) (decide_watch m.graph m.watches name s.0) watch_rules)
+        (λ none. (_, record { unbroken = none; is = refl })) in (t.0, watch_read m number name text s.0 s.1 t.0 t.1)
+    | inr f ↦ (bad_turn m number f.0, watch_bad m number name text f.0 f.1 _ refl)
   ]
 
+  some_shown : (name : Word) → NoneOf (NameBreaks m.graph m.watches name) name_rules → (t : Turn) × ShowsWatch limit m number name t
+  some_shown name none =
+      let w = some_watch m.watches name none.1.0 in
+      let f = some_found m.graph limit (w.0).query (good.asks w.0 w.1) in
+      (found_turn m number f.0, record { unbroken = none; watch = w.0; among = w.1; named = w.2; tells = record { found = f.0; finds = f.1; is = refl } })
+
+  some_ticked : NoneOf (TickBreaks m.graph) tick_rules → (t : Turn) × TicksAll limit m t
+  some_ticked none = let f = some_tick m.graph limit below.some_rest m.watches good.asks good.kinds in (tick_turn m f.0, record { unbroken = none; found = f.0; finds = f.1; is = refl })
+
   some_change : (edit : Edit) → (t : Turn) × Answers limit m number (Changes edit) t
-  some_change edit = elim (below.rules m.graph edit good) [
+  some_change edit = elim (below.rules m.graph edit good.graph) [
     | inl f ↦ (refused_turn m number f.0, edit_refused limit m number edit f.0 f.1 _ refl)
-    | inr u ↦ let n = below.some_next m.graph edit good u in (_, edit_made limit m number edit n.0 u n.1)
+    | inr u ↦ let n = below.some_next m.graph edit good.graph u in (_, edit_made limit m number edit n.0 u n.1)
   ]
 
   some_answer : (reading : Reading) → (t : Turn) × Answers limit m number reading t
   some_answer Nothing = (quiet_turn m, blank_answers limit m number)
   some_answer (Changes edit) = some_change edit
   some_answer (Asks text) = let t = some_ask text in (t.0, asks_answers limit m number text t.0 t.1)
-  some_answer (Watches name text) = let t = some_watch text in (t.0, watches_answers limit m number name text t.0 t.1)
-  some_answer (Shows name) = let t = some_command in (t.0, shows_answers limit m number name t.0 t.1)
-  some_answer (Unwatches name) = let t = some_command in (t.0, unwatches_answers limit m number name t.0 t.1)
-  some_answer Ticks = let t = some_command in (t.0, ticks_answers limit m number t.0 t.1)
+  some_answer (Watches name text) = let t = some_watched name text in (t.0, watches_answers limit m number name text t.0 t.1)
+  some_answer (Shows name) =
+      let t = some_of (NameBreaks m.graph m.watches name) name_rules (ShowsWatch limit m number name) (first_or_none (NameBreaks m.graph m.watches name) (decide_named m.graph m.watches name) name_rules) (some_shown name) in
+      (t.0, shows_answers limit m number name t.0 t.1)
+  some_answer (Unwatches name) =
+      let t = some_of (NameBreaks m.graph m.watches name) name_rules (DropsWatch m name) (first_or_none (NameBreaks m.graph m.watches name) (decide_named m.graph m.watches name) name_rules) (λ none. (_, record { unbroken = none; is = refl })) in
+      (t.0, unwatches_answers limit m number name t.0 t.1)
+  some_answer Ticks =
+      let t = some_of (TickBreaks m.graph) tick_rules (TicksAll limit m) (first_or_none (TickBreaks m.graph) (decide_tick m.graph) tick_rules) some_ticked in
+      (t.0, ticks_answers limit m number t.0 t.1)
 
   pub some_reply_of : (line : List ℕ) → (t : Turn) × Replies limit m number line t
   some_reply_of line = by_line (below.some_line line)

@@ -29,13 +29,15 @@ use Rattle.path_eval.specs.Evaluated.{AllFit}
 use Rattle.path_eval.proofs.Answers.{answer_from}
 use Rattle.path_eval.proofs.Finite.{cut_rows, departures, arrivals, fit_or_wide, fit_apart}
 use Rattle.row_printer.specs.Texts.{AreDeclared}
+use Rattle.itpg_session.specs.Questions.{Found, TooWide, Answer, IsFound}
+use Rattle.itpg_session.specs.Watching.{IsFoundDeclared}
 use Rattle.itpg_session.specs.Rules.{QueryBreaks, ask_rules}
 use Rattle.itpg_session.specs.Replies.{Reply, Bad, Refused, Wide, Rows, IsReply, IsReplyTo, NamesDeclared}
 use Rattle.itpg_session.proofs.Decided.{first_or_none, decide_ask}
 
 -- ---- what answers a query
 
-one_answer : (first last : Bool) (R : Relation) (x y : Answered) → IsAnswer first last R x → IsAnswer first last R y → x ≡ y
+pub one_answer : (first last : Bool) (R : Relation) (x y : Answered) → IsAnswer first last R x → IsAnswer first last R y → x ≡ y
 one_answer true true R (pairs x) (pairs y) a b = ap pairs (rows_unique R x y a b)
 one_answer true true R (pairs x) (times y) a b = absurd b
 one_answer true true R (times x) y a b = absurd a
@@ -64,7 +66,7 @@ module _ (g : Graph) (p : PathTerm) where
   few : (x : Point) → IsAt g x → x.object < length g.objects
   few x at = let s = there g.objects x.object _ at.stands in slice_get_within g.objects x.object s.0 s.1
 
-  declared : (first last : Bool) (answer : Answered) → IsAnswer first last (Rel p g) answer → AreDeclared (length g.objects) answer
+  pub declared : (first last : Bool) (answer : Answered) → IsAnswer first last (Rel p g) answer → AreDeclared (length g.objects) answer
   declared true true (pairs rows) n = λ r among.
       let row = n.each r among in
       let pair = in_relation (Rel p g) r (record { object = r.source.0; moment = _ }) (record { object = r.target.0; moment = _ }) row
@@ -84,6 +86,30 @@ module _ (g : Graph) (p : PathTerm) where
   declared false false (pairs rows) n = absurd n
   declared false false (times rows) n = absurd n
 
+-- ---- what is found for a query
+
+module _ (g : Graph) (limit : ℕ) (q : QueryTerm) where
+  pub one_found : (x y : Found) → IsFound g limit q x → IsFound g limit q y → x ≡ y
+  one_found TooWide TooWide a b = refl
+  one_found TooWide (Answer y) a b = absurd (b.0 a)
+  one_found (Answer x) TooWide a b = absurd (a.0 b)
+  one_found (Answer x) (Answer y) a b = ap Answer (one_answer q.first q.last (Rel q.path g) x y a.1 b.1)
+
+  pub some_found : IsTrue (q.first || q.last) → (found : Found) × IsFound g limit q found
+  some_found ends = elim (fit_or_wide g limit (worked q.path All All)) [
+    | inl fits ↦ let a = some_answer q.first q.last g q.path ends in (Answer a.0, (fit_apart g limit (worked q.path All All) fits, a.1))
+    | inr wide ↦ (TooWide, wide)
+  ]
+
+  pub found_declared : (found : Found) → IsFound g limit q found → IsFoundDeclared g found
+  found_declared TooWide a = tt
+  found_declared (Answer x) a = declared g q.path q.first q.last x a.1
+
+-- the rows of the path's relation, where all its members fit, give the answer
+pub rows_found : (g : Graph) (limit : ℕ) (q : QueryTerm) (rows : List Row) (answer : Answered) → AllFit g limit (worked q.path All All)
+    → NormalRows (Cut g q.path All All) rows → IsAnswerFrom q.first q.last rows answer → IsFound g limit q (Answer answer)
+rows_found g limit q rows answer fits n from = (fit_apart g limit (worked q.path All All) fits, answer_of_rows g q rows answer n from)
+
 -- ---- the reply to a query
 
 module _ (g : Graph) (limit : ℕ) (q : QueryTerm) where
@@ -96,25 +122,22 @@ module _ (g : Graph) (limit : ℕ) (q : QueryTerm) where
   one_reply_to Wide (Bad c) a b = absurd b
   one_reply_to Wide (Refused s) a b = absurd (first_or_unbroken (QueryBreaks g q) ask_rules s b a.0)
   one_reply_to Wide Wide a b = refl
-  one_reply_to Wide (Rows y) a b = absurd (b.1 a.1)
+  one_reply_to Wide (Rows y) a b = absurd (b.1.0 a.1)
   one_reply_to (Rows x) (Bad c) a b = absurd b
   one_reply_to (Rows x) (Refused s) a b = absurd (first_or_unbroken (QueryBreaks g q) ask_rules s b a.0)
-  one_reply_to (Rows x) Wide a b = absurd (a.1 b.1)
-  one_reply_to (Rows x) (Rows y) a b = ap Rows (one_answer q.first q.last (Rel q.path g) x y a.2 b.2)
+  one_reply_to (Rows x) Wide a b = absurd (a.1.0 b.1)
+  one_reply_to (Rows x) (Rows y) a b = ap Rows (one_answer q.first q.last (Rel q.path g) x y a.1.1 b.1.1)
+
+  -- what is found is the reply, where no rule is broken
+  told : NoneOf (QueryBreaks g q) ask_rules → (found : Found) → IsFound g limit q found → (reply : Reply) × IsReplyTo g limit q reply
+  told unbroken TooWide is = (Wide, (unbroken, is))
+  told unbroken (Answer x) is = (Rows x, (unbroken, is))
 
   some_reply_to : IsTrue (q.first || q.last) → (reply : Reply) × IsReplyTo g limit q reply
   some_reply_to ends = elim (first_or_none (QueryBreaks g q) (decide_ask g q) ask_rules) [
     | inl f ↦ (Refused f.0, f.1)
-    | inr unbroken ↦ elim (fit_or_wide g limit (worked q.path All All)) [
-      | inl fits ↦ let a = some_answer q.first q.last g q.path ends in (Rows a.0, (unbroken, fit_apart g limit (worked q.path All All) fits, a.1))
-      | inr wide ↦ (Wide, (unbroken, wide))
-    ]
+    | inr unbroken ↦ let f = some_found g limit q ends in told unbroken f.0 f.1
   ]
-
--- the rows of the path's relation, where all its members fit, give the reply
-pub rows_reply : (g : Graph) (limit : ℕ) (q : QueryTerm) (rows : List Row) (answer : Answered) → NoneOf (QueryBreaks g q) ask_rules → AllFit g limit (worked q.path All All)
-    → NormalRows (Cut g q.path All All) rows → IsAnswerFrom q.first q.last rows answer → IsReplyTo g limit q (Rows answer)
-rows_reply g limit q rows answer unbroken fits n from = (unbroken, fit_apart g limit (worked q.path All All) fits, answer_of_rows g q rows answer n from)
 
 -- ---- the reply to a query text
 
@@ -135,7 +158,7 @@ module _ (g : Graph) (limit : ℕ) (text : List ℕ) where
   declared_asked (Bad c) a = tt
   declared_asked (Refused r) a = tt
   declared_asked Wide a = tt
-  declared_asked (Rows x) (q, reads, a) = declared g q.path q.first q.last x a.2
+  declared_asked (Rows x) (q, reads, a) = declared g q.path q.first q.last x a.1.1
 
 -- the laws of query texts
 pub record TextLaws : Type 0 where

@@ -101,3 +101,11 @@ module _ (self : Standing) (number : ℕ) (answer : Answer) {held now : Option (
 
   pub rows_front : AppendsSome held now (rows_text self.machine.graph number answer) → Rose before after → before ≤ after → IsTaken (λ turn. turn ≡ rows_turn self.machine number answer) ⊥ held now before after self self (Err Write)
   rows_front some rose later = record { ends = (refl, rose, record { turn = rows_turn self.machine number answer; replies = refl; some = some }); later = later }
+
+module _ (old new : Standing) (turn : Turn) {held now : Option (List ℕ)} {before after : ℕ} where
+  -- the text of a turn was written whole, and the machine went on; or a front part of it was written
+  pub turn_taken : (seen : Seen) → Appends held now turn.text → new ≡ record { machine = turn.next; limit = old.limit } → Sees seen turn.text turn.failing → before ≤ after → IsTaken (λ t. t ≡ turn) ⊥ held now before after old new (Ok seen)
+  turn_taken seen written next sees later = record { ends = record { turn = turn; replies = refl; written = written; next = next; sees = sees }; later = later }
+
+  pub turn_front : new ≡ old → AppendsSome held now turn.text → Rose before after → before ≤ after → IsTaken (λ t. t ≡ turn) ⊥ held now before after old new (Err Write)
+  turn_front same some rose later = record { ends = (same, rose, record { turn = turn; replies = refl; some = some }); later = later }

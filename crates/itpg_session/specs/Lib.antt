@@ -1,7 +1,9 @@
-pub mod Questions
 pub mod Rules
+pub mod Questions
 pub mod Replies
 pub mod Texts
+pub mod Ticks
+pub mod Watching
 pub mod Machine
 pub mod MachineLaws
 pub mod Steps

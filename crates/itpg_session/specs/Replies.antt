@@ -8,10 +8,9 @@ use Rattle.path_ast.specs.Terms.{QueryTerm}
 use Rattle.match_parser.specs.Reading.{Reads, FaultOf}
 use Rattle.relation_rows.specs.Answered.{Answered, answered}
 use Rattle.row_printer.specs.Texts.{AreDeclared}
-use Rattle.path_eval.specs.Answering.{AnswersQuery}
 use Rattle.itpg_session.specs.declared.asking.Asked.{Asked}
 use Rattle.itpg_session.specs.declared.asking.Asked.TheVariants as asked
-use Rattle.itpg_session.specs.Questions.{IsTooWide}
+use Rattle.itpg_session.specs.Questions.{TooWide, Answer, IsFound}
 use Rattle.itpg_session.specs.Rules.{QueryBreaks, ask_rules}
 
 -- a fault of the text, a refusal, the word that the query is too wide, or the rows of its answer
@@ -28,13 +27,13 @@ reply_of (asked.Refused rule) = Refused rule
 reply_of asked.Wide = Wide
 reply_of (asked.Rows answer) = Rows (answered answer)
 
--- the reply to a query on the graph, with a limit of rows: the first rule that asking it breaks; where none is broken, that
--- it is too wide, or what answers it
+-- the reply to a query on the graph, with a limit of rows: the first rule that asking it breaks; where none is broken, what
+-- is found for it
 abbrev pub IsReplyTo : Graph → ℕ → QueryTerm → Reply → Type 0
 IsReplyTo g limit q (Bad code) = ⊥
 IsReplyTo g limit q (Refused rule) = FirstOf (QueryBreaks g q) ask_rules rule
-IsReplyTo g limit q Wide = NoneOf (QueryBreaks g q) ask_rules × IsTooWide g limit q
-IsReplyTo g limit q (Rows answer) = NoneOf (QueryBreaks g q) ask_rules × (¬ IsTooWide g limit q) × AnswersQuery g q answer
+IsReplyTo g limit q Wide = NoneOf (QueryBreaks g q) ask_rules × IsFound g limit q TooWide
+IsReplyTo g limit q (Rows answer) = NoneOf (QueryBreaks g q) ask_rules × IsFound g limit q (Answer answer)
 
 -- the reply to a query text: its first fault, or the reply to the query that it reads as
 abbrev pub IsReply : Graph → ℕ → List ℕ → Reply → Type 0

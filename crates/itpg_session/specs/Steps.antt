@@ -3,11 +3,11 @@ use Rattle.std.specs.Prelude.{◌≡◌, ◌≢◌, ◌↔◌, ℕ, ◌≤◌, L
 use Rattle.std.specs.declared.option.Option.{Option}
 use Rattle.std.specs.Io.KnownBytes.{Appends, Keeps}
 use Rattle.itpg_base.specs.Outside.{AppendsSome, Rose}
-use Rattle.itpg_base.specs.Graphs.{Graph}
-use Rattle.itpg_edit.specs.Rules.{Unbroken}
+use Rattle.itpg_edit.specs.Rules.{NoneOf, Unbroken}
 use Rattle.itpg_edit.specs.Next.{TakesMemory}
-use Rattle.edit_reader.specs.Readings.{Reading, Changes, Asks, Watches}
+use Rattle.edit_reader.specs.Readings.{Reading, Changes, Asks, Watches, Shows, Ticks}
 use Rattle.edit_reader.specs.Lines.{LineOf}
+use Rattle.itpg_session.specs.Rules.{NameBreaks, TickBreaks, name_rules, tick_rules}
 use Rattle.itpg_session.specs.Machine.{Machine, Standing, Turn}
 use Rattle.itpg_session.specs.declared.session.Seen.{Seen}
 use Rattle.itpg_session.specs.declared.session.Seen.TheVariants.{Quiet, Refused}
@@ -34,16 +34,18 @@ pub record StepsWithin (Replies : Turn → Type 0) (held now : Option (List ℕ)
   pub some : AppendsSome held now turn.text
 
 -- to answer what a line asks for takes memory: a change that breaks no rule, other than to begin a graph or to drop an
--- object; and a query text, which is read
-abbrev pub WantsMemory : Graph → Reading → Type 0
-WantsMemory g (Changes edit) = Unbroken g edit × TakesMemory edit
-WantsMemory g (Asks text) = Unit {0}
-WantsMemory g (Watches name text) = Unit {0}
-WantsMemory g reading = ⊥
+-- object; a query text, which is read; a watch that is shown, or a tick, that breaks no rule
+abbrev pub WantsMemory : Machine → Reading → Type 0
+WantsMemory m (Changes edit) = Unbroken m.graph edit × TakesMemory edit
+WantsMemory m (Asks text) = Unit {0}
+WantsMemory m (Watches name text) = Unit {0}
+WantsMemory m (Shows name) = NoneOf (NameBreaks m.graph m.watches name) name_rules
+WantsMemory m Ticks = NoneOf (TickBreaks m.graph) tick_rules
+WantsMemory m reading = ⊥
 
 -- the line asks for what takes memory
 abbrev pub LineWants : Machine → List ℕ → Type 0
-LineWants m line = (reading : Reading) × LineOf line (Ok reading) × WantsMemory m.graph reading
+LineWants m line = (reading : Reading) × LineOf line (Ok reading) × WantsMemory m reading
 
 -- how a part of a step ends
 abbrev pub Ends : (Turn → Type 0) → Type 0 → Option (List ℕ) → Option (List ℕ) → ℕ → ℕ → Standing → Standing → Result Seen StepFault → Type 0

@@ -1,6 +1,7 @@
 -- The texts of replies.
 use Rattle.std.specs.Prelude.{ℕ, List, [], ◌++◌, codes}
 use Rattle.std.specs.Fmt.{decimal}
+use Rattle.itpg_base.specs.Words.{Word}
 use Rattle.itpg_base.specs.Graphs.{Graph}
 use Rattle.itpg_base.specs.Rules.{rule_word}
 use Rattle.itpg_base.specs.declared.rule_code.RuleCode.{RuleCode}
@@ -24,6 +25,14 @@ wide_text number = codes "line " ++ decimal number ++ codes " wide\n"
 -- `line N rows K`
 unfoldable pub head_text : ℕ → ℕ → List ℕ
 head_text number count = codes "line " ++ decimal number ++ codes " rows " ++ decimal count ++ codes "\n"
+
+-- `tick NAME wide`
+unfoldable pub tick_wide_text : Word → List ℕ
+tick_wide_text name = codes "tick " ++ name ++ codes " wide\n"
+
+-- `tick NAME gained K lost M`
+unfoldable pub tick_head_text : Word → ℕ → ℕ → List ℕ
+tick_head_text name gained lost = codes "tick " ++ name ++ codes " gained " ++ decimal gained ++ codes " lost " ++ decimal lost ++ codes "\n"
 
 -- `line N rows K`, and a line for each row of the answer
 abbrev pub rows_text : Graph → ℕ → Answered → List ℕ

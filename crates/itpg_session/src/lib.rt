@@ -8,13 +8,14 @@
 #![tactic(auto)]
 
 mod asking;
+mod finding;
 mod laws;
-mod page;
 mod replies;
 mod rules;
 mod session;
 #[cfg(test)]
 mod tests;
+mod ticking;
 
 pub use asking::Asked;
 pub use laws::{law_of_asked, law_of_fronts, law_of_replies};

@@ -4,13 +4,12 @@ ghost use Rattle.std.specs.Io.KnownBytes.{Appends};
 ghost use Rattle.itpg_base.specs.Outside.{AppendsSome, HasCause};
 ghost use Rattle.relation_rows.specs.Answered.{answered};
 ghost use Rattle.row_printer.specs.Texts.{AreDeclared};
-ghost use Rattle.itpg_session.specs.Texts.{bad_text, refused_text, wide_text, head_text, rows_text};
+ghost use Rattle.itpg_session.specs.Texts.{bad_text, refused_text, wide_text, head_text, rows_text, tick_wide_text, tick_head_text};
 
-use crate::page::Page;
-use itpg_base::{Failed, RuleCode, Sink, TextCode};
+use itpg_base::{Failed, Name, RuleCode, Sink, TextCode};
 use itpg_graph::Graph;
 use relation_rows::Answer;
-use row_printer::print_rows;
+use row_printer::{Page, print_rows};
 
 /// The page of `line N refused RULE`.
 #[tactic(auto, unfolding(crate::specs::Texts::refused_text))]
@@ -62,6 +61,34 @@ fn head(number: u64, count: u64) -> Page
     page.add_number(number);
     page.add(b" rows ");
     page.add_number(count);
+    page.add(b"\n");
+    page
+}
+
+/// The page of `tick NAME wide`.
+#[tactic(auto, unfolding(crate::specs::Texts::tick_wide_text))]
+pub(crate) fn tick_wide(name: &Name) -> Page
+    ensures { result ≡ tick_wide_text name.now }
+{
+    let mut page = Page::new();
+    page.add(b"tick ");
+    page.add(name.bytes());
+    page.add(b" wide\n");
+    page
+}
+
+/// The page of `tick NAME gained K lost M`.
+#[tactic(auto, unfolding(crate::specs::Texts::tick_head_text))]
+pub(crate) fn tick_head(name: &Name, gained: u64, lost: u64) -> Page
+    ensures { result ≡ tick_head_text name.now gained lost }
+{
+    let mut page = Page::new();
+    page.add(b"tick ");
+    page.add(name.bytes());
+    page.add(b" gained ");
+    page.add_number(gained);
+    page.add(b" lost ");
+    page.add_number(lost);
     page.add(b"\n");
     page
 }

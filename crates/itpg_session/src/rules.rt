@@ -1,12 +1,13 @@
-//! The rules that a query or a command breaks, before anything is worked out.
-ghost use Rattle.std.specs.Prelude.{◌≡◌, IfSome, IsNone, IsSome};
+//! The rules that a query, the name of a watch or a tick breaks, before anything is worked out.
+ghost use Rattle.std.specs.Prelude.{◌≡◌, slice_get, IfSome, IsNone, IfOk, OnOk, IfErr, IsSomeAnd};
 ghost use Rattle.itpg_edit.specs.Rules.{FirstOf, NoneOf};
 ghost use Rattle.path_ast.specs.Terms.{query_term};
-ghost use Rattle.itpg_session.specs.Rules.{QueryBreaks, WatchBreaks, CommandBreaks, watch_rules, ask_rules, command_rules};
+ghost use Rattle.itpg_session.specs.Rules.{QueryBreaks, NameBreaks, TickBreaks, ask_rules, name_rules, tick_rules};
 
-use itpg_base::RuleCode;
+use itpg_base::{Name, RuleCode};
 use itpg_graph::Graph;
 use path_ast::Query;
+use standing_queries::Watches;
 
 /// The first rule that asking the query breaks on the graph: none is begun, or the query is meant for one of another name.
 pub(crate) fn broken_by_ask(graph: &Graph, query: &Query) -> Option<RuleCode>
@@ -22,19 +23,25 @@ pub(crate) fn broken_by_ask(graph: &Graph, query: &Query) -> Option<RuleCode>
     }
 }
 
-/// The first rule that watching the query breaks on the graph: that of asking it, or that watches aren't kept as yet.
-pub(crate) fn broken_by_watch(graph: &Graph, query: &Query) -> RuleCode
-    ensures { FirstOf (WatchBreaks graph.now (query_term query.now)) watch_rules result }
-{
-    broken_by_ask(graph, query).unwrap_or(RuleCode::Later)
-}
-
-/// The rule that a command on watches breaks: no graph is begun, or watches aren't kept as yet.
-pub(crate) fn broken_by_command(graph: &Graph) -> RuleCode
-    ensures { FirstOf (CommandBreaks graph.now) command_rules result }
+/// Whether a tick breaks its one rule: no graph is begun.
+pub(crate) fn broken_by_tick(graph: &Graph) -> Option<RuleCode>
+    ensures some { IfSome result (λ rule. FirstOf (TickBreaks graph.now) tick_rules rule) }
+    ensures none { IsNone result → NoneOf (TickBreaks graph.now) tick_rules }
 {
     match graph.name() {
-        None => RuleCode::NoGraph,
-        Some(_) => RuleCode::Later,
+        None => Some(RuleCode::NoGraph),
+        Some(_) => None,
+    }
+}
+
+/// The place of the watch of this name, or the first rule that the name breaks: no graph is begun, or no watch has it.
+pub(crate) fn place_of(graph: &Graph, watches: &Watches, name: &Name) -> Result<usize, RuleCode>
+    ensures place { IfOk result (λ place. IsSomeAnd (slice_get watches.now place) (λ w. w.name ≡ name.now)) }
+    ensures unbroken { OnOk result (NoneOf (NameBreaks graph.now watches.now name.now) name_rules) }
+    ensures broken { IfErr result (λ rule. FirstOf (NameBreaks graph.now watches.now name.now) name_rules rule) }
+{
+    match broken_by_tick(graph) {
+        Some(rule) => Err(rule),
+        None => watches.find(name).ok_or(RuleCode::Unknown),
     }
 }

@@ -17,7 +17,7 @@ fn session_of(alloc: Global, max_rows: u32, lines: &[&[u8]]) -> Result<Session, 
     Ok(session)
 }
 
-const LINES: [&[u8]; 15] = [
+const LINES: [&[u8]; 17] = [
     b"graph g 0 100",
     b"node a Person\r",
     b"live a 0 9",
@@ -33,9 +33,11 @@ const LINES: [&[u8]; 15] = [
     b"live a 5 2",
     b"live a 5 x",
     b"ask MATCH (x)-/P/{time < 0}/-()",
+    b"tick",
+    b"show v",
 ];
 
-const SEEN: [Seen; 15] = [
+const SEEN: [Seen; 17] = [
     Seen::Quiet,
     Seen::Quiet,
     Seen::Quiet,
@@ -46,6 +48,8 @@ const SEEN: [Seen; 15] = [
     Seen::Answered,
     Seen::Refused,
     Seen::Refused,
+    Seen::Refused,
+    Seen::Quiet,
     Seen::Refused,
     Seen::Refused,
     Seen::Refused,
@@ -55,20 +59,53 @@ const SEEN: [Seen; 15] = [
 
 const WRITTEN: &[u8] =
     b"line 4 rows 1\na 0..9\nline 7 wide\nline 8 rows 0\nline 9 refused graphname\n\
-line 10 wide\nline 11 bad text\nline 12 refused later\nline 13 refused backwards\nline 14 bad text\n\
-line 15 wide\n";
+line 10 wide\nline 11 bad text\nline 13 refused backwards\nline 14 bad text\nline 15 wide\n\
+tick w wide\nline 17 refused unknown\n";
 
 #[test]
 fn each_line_has_its_reply(rt: HostRuntime) -> Result<(), Fail> {
     let alloc = rt.alloc();
     let mut session = session_of(alloc, 1, &[])?;
     let mut sink = MemSink::new(vec![in alloc; 0; 0]?, 5, vec![in alloc; 0; 512]?);
-    for index in 0..15 {
+    for index in 0..17 {
         let seen = session.step(index as u64 + 1, LINES[index], &mut sink);
         assert_eq!(rt; seen, Ok(SEEN[index]), "line {}", index + 1);
     }
     assert_eq!(rt; sink.held(), WRITTEN);
     assert_eq!(rt; session.graph().declared(), 1);
+    Ok(())
+}
+
+const CHANGES: [&[u8]; 12] = [
+    b"graph g 0 100",
+    b"node a Person",
+    b"watch w MATCH (x:Person)",
+    b"live a 0 9",
+    b"tick",
+    b"live a 12 20",
+    b"tick",
+    b"gone a 0 3",
+    b"show w",
+    b"tick",
+    b"unwatch w",
+    b"tick",
+];
+
+const CHANGED: &[u8] =
+    b"tick w gained 1 lost 0\n+ a 0..9\ntick w gained 1 lost 0\n+ a 12..20\nline 9 rows 2\na 4..9\na 12..20\n\
+tick w gained 0 lost 1\n- a 0..3\n";
+
+#[test]
+fn a_tick_tells_what_changed(rt: HostRuntime) -> Result<(), Fail> {
+    let alloc = rt.alloc();
+    let mut session = session_of(alloc, 100, &[])?;
+    let mut sink = MemSink::new(vec![in alloc; 0; 0]?, 5, vec![in alloc; 0; 512]?);
+    for index in 0..12 {
+        let seen = session.step(index as u64 + 1, CHANGES[index], &mut sink);
+        assert!(rt; seen.is_ok());
+    }
+    assert_eq!(rt; sink.held(), CHANGED);
+    assert_eq!(rt; session.watches().len(), 0);
     Ok(())
 }
 

@@ -18,6 +18,8 @@ returns-clause-one c = one_reply (record {
     apart = c.law_of_queries.ensures.apart;
     some_query = c.law_of_queries.ensures.some;
   };
+  one_rest = c.law_of_changes.ensures.one;
+  some_rest = c.law_of_changes.ensures.some;
 })
 
 pub returns-clause-some : goal.returns-clause-some
@@ -36,6 +38,8 @@ returns-clause-some c = some_reply (record {
     apart = c.law_of_queries.ensures.apart;
     some_query = c.law_of_queries.ensures.some;
   };
+  one_rest = c.law_of_changes.ensures.one;
+  some_rest = c.law_of_changes.ensures.some;
 })
 
 pub returns-clause-good : goal.returns-clause-good
@@ -54,7 +58,9 @@ returns-clause-good c = good_reply (record {
     apart = c.law_of_queries.ensures.apart;
     some_query = c.law_of_queries.ensures.some;
   };
+  one_rest = c.law_of_changes.ensures.one;
+  some_rest = c.law_of_changes.ensures.some;
 })
 
 pub returns-clause-opening : goal.returns-clause-opening
-returns-clause-opening c = good_none
+returns-clause-opening c = record { graph = good_none; differ = tt; asks = λ w a. absurd a; kinds = λ w a. absurd a }

@@ -13,10 +13,10 @@ pub returns-in-Watch : goal.returns-in-Watch
 returns-in-Watch g c = rw (c.in-Watch.is) (taken_as (watches_answers c.args.self.now.limit c.args.self.now.machine c.args.number _ _) (λ u. u) c.watch.result c.watch.ensures)
 
 pub returns-in-Show : goal.returns-in-Show
-returns-in-Show g c = rw (c.in-Show.is) (taken_as (shows_answers c.args.self.now.limit c.args.self.now.machine c.args.number _) (λ no. no) c.command.result c.command.ensures)
+returns-in-Show g c = rw (c.in-Show.is) (taken_as (shows_answers c.args.self.now.limit c.args.self.now.machine c.args.number _) (λ w. w) c.show.result c.show.ensures)
 
 pub returns-in-Unwatch : goal.returns-in-Unwatch
-returns-in-Unwatch g c = rw (c.in-Unwatch.is) (taken_as (unwatches_answers c.args.self.now.limit c.args.self.now.machine c.args.number _) (λ no. no) c.command-in-Unwatch.result c.command-in-Unwatch.ensures)
+returns-in-Unwatch g c = rw (c.in-Unwatch.is) (taken_as (unwatches_answers c.args.self.now.limit c.args.self.now.machine c.args.number _) (λ no. absurd no) c.unwatch.result c.unwatch.ensures)
 
 pub returns-in-Tick : goal.returns-in-Tick
-returns-in-Tick g c = rw (c.in-Tick.is) (taken_as (ticks_answers c.args.self.now.limit c.args.self.now.machine c.args.number) (λ no. no) c.command-in-Tick.result c.command-in-Tick.ensures)
+returns-in-Tick g c = rw (c.in-Tick.is) (taken_as (ticks_answers c.args.self.now.limit c.args.self.now.machine c.args.number) (λ w. w) c.tick.result c.tick.ensures)

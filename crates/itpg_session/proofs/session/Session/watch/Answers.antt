@@ -1,17 +1,15 @@
-use Rattle.std.proofs.Common.{ap, subst}
-use Rattle.std.specs.Prelude.{IfOk}
-use Rattle.itpg_edit.specs.Rules.{FirstOf}
 use Rattle.path_ast.specs.Terms.{query_term}
-use Rattle.match_parser.specs.Reading.{Reads}
-use Rattle.itpg_session.specs.Rules.{WatchBreaks, watch_rules}
-use Rattle.itpg_session.proofs.Answering.{watch_refused}
+use Rattle.match_parser.proofs.InRange.{path_in_range, asks_for_one}
+use Rattle.itpg_session.proofs.Answering.{watch_read}
 use Rattle.itpg_session.proofs.Taken.{taken_as}
 use Rattle.itpg_session.proofs.session.Session.watch.Goals as goal
 
+pub watch_query-requires-clause-in_range : goal.watch_query-requires-clause-in_range
+watch_query-requires-clause-in_range g c = path_in_range c.args.text.now (query_term c.in-Ok.query) c.in-Ok.ensures.query
+
+pub watch_query-requires-clause-ends : goal.watch_query-requires-clause-ends
+watch_query-requires-clause-ends g c = asks_for_one c.args.text.now (query_term c.in-Ok.query) c.in-Ok.ensures.query
+
 pub returns-in-Ok : goal.returns-in-Ok
 returns-in-Ok g c =
-    let q = query_term c.in-Ok.query in
-    let reads = subst (λ r. IfOk r (λ q. Reads c.args.text.now (query_term q))) c.in-Ok.is c.read_query.ensures.query in
-    let graph = ap (λ s. s.machine.graph) c.self.view_is in
-    let first = subst (λ h. FirstOf (WatchBreaks h q) watch_rules c.broken_by_watch.result) graph c.broken_by_watch.ensures in
-    taken_as (watch_refused c.args.self.now.machine c.args.number c.args.text.now q reads c.broken_by_watch.result first) (λ no. absurd no) c.refuse.result c.refuse.ensures
+    taken_as (watch_read c.args.self.now.machine c.args.number c.args.name c.args.text.now (query_term c.in-Ok.query) c.in-Ok.ensures.query) (λ u. u) c.watch_query.result c.watch_query.ensures

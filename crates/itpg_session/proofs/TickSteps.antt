@@ -1,0 +1,230 @@
+-- What a tick finds of all watches, one after another.
+use Rattle.std.proofs.Common.{◌≡◌, ◌≢◌, inl, inr, ℕ, zero, suc, ◌+◌, get_or, ◌<◌, List, [], ◌∷◌, ◌++◌, length, take, drop, map, Bool, true, false, ◌||◌, refl, sym, ap, subst, ◌∙◌, arith, append_assoc, append-nil}
+use Rattle.std.specs.Prelude.{slice_get, IsSomeAnd, Some}
+use Rattle.std.specs.List.{list_any}
+use Rattle.std.proofs.lemmas.List.{map-append}
+use Rattle.std.proofs.lemmas.Option.{slice_get_within}
+use Rattle.itpg_base.specs.Words.{Word}
+use Rattle.itpg_base.specs.Graphs.{Graph}
+use Rattle.band_normal.specs.Lists.{Among}
+use Rattle.relation_rows.specs.Answered.{Answered as Answers}
+use Rattle.standing_queries.specs.Watches.{Watch, rebased}
+use Rattle.itpg_session.specs.declared.ticking.Ticked.{Ticked as TickedValue}
+use Rattle.itpg_session.specs.Ticks.{Ticked, ticked_of, StaysWide, Moves, IsTicked, AreTicked, ticked_text, tick_text, some_wide, moved, moved_at, all_moved}
+use Rattle.itpg_session.specs.Watching.{NamesDiffer, IsMoveOfKind, AreMovesOfKind}
+use Rattle.itpg_session.specs.Texts.{tick_wide_text, tick_head_text}
+use Rattle.itpg_session.specs.Steps.{Sees}
+use Rattle.itpg_session.specs.declared.session.Seen.TheVariants.{Quiet, Answered, Refused}
+use Rattle.itpg_session.proofs.Taken.{sees_quiet, sees_answered, sees_refused}
+
+some_is : {X : Type 0} {p q : X} → Some p ≡ Some q → p ≡ q
+some_is e = cc
+
+-- ---- finding
+
+pub ticked_more : (g : Graph) (limit : ℕ) (ws : List Watch) (i : ℕ) (xs : List Ticked) (x : Ticked) → AreTicked g limit (take i ws) xs → IsSomeAnd (slice_get ws i) (λ w. IsTicked g limit w x) → AreTicked g limit (take (suc i) ws) (xs ++ x ∷ [])
+ticked_more g limit [] i xs x a h = absurd h
+ticked_more g limit (w ∷ ws) zero [] x a h = (h, tt)
+ticked_more g limit (w ∷ ws) zero (y ∷ ys) x a h = absurd a
+ticked_more g limit (w ∷ ws) (suc i) [] x a h = absurd a
+ticked_more g limit (w ∷ ws) (suc i) (y ∷ ys) x a h = (a.0, ticked_more g limit ws i ys x a.1 h)
+
+pub ticked_length : (g : Graph) (limit : ℕ) (ws : List Watch) (xs : List Ticked) → AreTicked g limit ws xs → length xs ≡ length ws
+ticked_length g limit [] [] a = refl
+ticked_length g limit [] (x ∷ xs) a = absurd a
+ticked_length g limit (w ∷ ws) [] a = absurd a
+ticked_length g limit (w ∷ ws) (x ∷ xs) a = ap suc (ticked_length g limit ws xs a.1)
+
+pub tick_step : (g : Graph) (limit : ℕ) (ws : List Watch) (i : ℕ) (items new : List TickedValue) (x : TickedValue) → AreTicked g limit (take i ws) (map ticked_of items) → IsSomeAnd (slice_get ws i) (λ w. IsTicked g limit w (ticked_of x))
+    → new ≡ items ++ x ∷ [] → AreTicked g limit (take (i + 1) ws) (map ticked_of new)
+tick_step g limit ws i items new x are is e =
+    subst (λ (xs : List TickedValue). AreTicked g limit (take (i + 1) ws) (map ticked_of xs)) (sym e)
+    (subst (λ (ys : List Ticked). AreTicked g limit (take (i + 1) ws) ys) (sym (map-append ticked_of items (x ∷ [])))
+    (subst (λ (k : ℕ). AreTicked g limit (take k ws) (map ticked_of items ++ ticked_of x ∷ [])) (let next : suc i ≡ i + 1 = omega arith in next) (ticked_more g limit ws i (map ticked_of items) (ticked_of x) are is)))
+
+-- ---- places
+
+pub take_whole : {X : Type 0} (xs : List X) → take (length xs) xs ≡ xs
+take_whole [] = refl
+take_whole {X} (x ∷ xs) = ap (λ (ys : List X). x ∷ ys) (take_whole xs)
+
+pub map_length : {X Y : Type 0} (f : X → Y) (xs : List X) → length (map f xs) ≡ length xs
+map_length f [] = refl
+map_length f (x ∷ xs) = ap suc (map_length f xs)
+
+pub map_among : {X Y : Type 0} (f : X → Y) (xs : List X) (i : ℕ) (d : X) → i < length xs → Among (map f xs) (f (get_or xs i d))
+map_among f [] i d few = absurd (omega (arith, few))
+map_among f (x ∷ xs) zero d few = inl refl
+map_among f (x ∷ xs) (suc i) d few = inr (map_among f xs i d (omega (arith, few)))
+
+pub map_at : {X Y : Type 0} (f : X → Y) (xs : List X) (i : ℕ) (d : X) → i < length xs → slice_get (map f xs) i ≡ Some (f (get_or xs i d))
+map_at f [] i d few = absurd (omega (arith, few))
+map_at f (x ∷ xs) zero d few = refl
+map_at f (x ∷ xs) (suc i) d few = map_at f xs i d (omega (arith, few))
+
+-- ---- writing
+
+pub text_more : (g : Graph) (ws : List Watch) (xs : List Ticked) (i : ℕ) (w : Watch) (x : Ticked) → slice_get ws i ≡ Some w → slice_get xs i ≡ Some x
+    → tick_text g (take (suc i) ws) (take (suc i) xs) ≡ tick_text g (take i ws) (take i xs) ++ ticked_text g w.name x
+text_more g [] xs i w x a b = absurd (let no_watch : ⊥ = cc in no_watch)
+text_more g (v ∷ ws) [] i w x a b = absurd (let nothing : ⊥ = cc in nothing)
+text_more g (v ∷ ws) (y ∷ ys) zero w x a b =
+    append-nil (ticked_text g v.name y) ∙ ap (λ (o : Watch). ticked_text g o.name y) (some_is a) ∙ ap (λ (o : Ticked). ticked_text g w.name o) (some_is b)
+text_more g (v ∷ ws) (y ∷ ys) (suc i) w x a b =
+    ap (λ t. ticked_text g v.name y ++ t) (text_more g ws ys i w x a b) ∙ sym (append_assoc (ticked_text g v.name y) (tick_text g (take i ws) (take i ys)) (ticked_text g w.name x))
+
+pub text_split : (g : Graph) (ws : List Watch) (xs : List Ticked) (i : ℕ) (w : Watch) (x : Ticked) → slice_get ws i ≡ Some w → slice_get xs i ≡ Some x
+    → tick_text g ws xs ≡ tick_text g (take i ws) (take i xs) ++ (ticked_text g w.name x ++ tick_text g (drop (suc i) ws) (drop (suc i) xs))
+text_split g [] xs i w x a b = absurd (let no_watch : ⊥ = cc in no_watch)
+text_split g (v ∷ ws) [] i w x a b = absurd (let nothing : ⊥ = cc in nothing)
+text_split g (v ∷ ws) (y ∷ ys) zero w x a b =
+    ap (λ (o : Watch). ticked_text g o.name y ++ tick_text g ws ys) (some_is a) ∙ ap (λ (o : Ticked). ticked_text g w.name o ++ tick_text g ws ys) (some_is b)
+text_split g (v ∷ ws) (y ∷ ys) (suc i) w x a b =
+    ap (λ t. ticked_text g v.name y ++ t) (text_split g ws ys i w x a b)
+    ∙ sym (append_assoc (ticked_text g v.name y) (tick_text g (take i ws) (take i ys)) (ticked_text g w.name x ++ tick_text g (drop (suc i) ws) (drop (suc i) ys)))
+
+-- ---- moving
+
+pub moved_length : (ws : List Watch) (xs : List Ticked) → length (all_moved ws xs) ≡ length ws
+moved_length [] xs = refl
+moved_length (w ∷ ws) [] = refl
+moved_length (w ∷ ws) (x ∷ xs) = ap suc (moved_length ws xs)
+
+-- the watches of which those from a place on are moved
+abbrev pub moved_from : ℕ → List Watch → List Ticked → List Watch
+moved_from zero ws xs = all_moved ws xs
+moved_from (suc k) [] xs = []
+moved_from (suc k) (w ∷ ws) [] = w ∷ ws
+moved_from (suc k) (w ∷ ws) (x ∷ xs) = w ∷ moved_from k ws xs
+
+pub none_moved : (ws : List Watch) (xs : List Ticked) → length xs ≡ length ws → moved_from (length xs) ws xs ≡ ws
+none_moved [] [] e = refl
+none_moved [] (x ∷ xs) e = refl
+none_moved (w ∷ ws) [] e = refl
+none_moved (w ∷ ws) (x ∷ xs) e = ap (λ (vs : List Watch). w ∷ vs) (none_moved ws xs (omega (arith, e)))
+
+pub from_length : (k : ℕ) (ws : List Watch) (xs : List Ticked) → length (moved_from k ws xs) ≡ length ws
+from_length zero ws xs = moved_length ws xs
+from_length (suc k) [] xs = refl
+from_length (suc k) (w ∷ ws) [] = refl
+from_length (suc k) (w ∷ ws) (x ∷ xs) = ap suc (from_length k ws xs)
+
+-- what stands before the place isn't moved yet
+pub from_at : (k : ℕ) (ws : List Watch) (xs : List Ticked) → slice_get (moved_from (suc k) ws xs) k ≡ slice_get ws k
+from_at k [] xs = refl
+from_at zero (w ∷ ws) [] = refl
+from_at zero (w ∷ ws) (x ∷ xs) = refl
+from_at (suc k) (w ∷ ws) [] = refl
+from_at (suc k) (w ∷ ws) (x ∷ xs) = from_at k ws xs
+
+from_less : (k : ℕ) (ws : List Watch) (xs : List Ticked) (now gained lost : Answers) → slice_get xs k ≡ Some (Moves now gained lost) → rebased k now (moved_from (suc k) ws xs) ≡ moved_from k ws xs
+from_less zero [] xs now gained lost is = refl
+from_less (suc k) [] xs now gained lost is = refl
+from_less k (w ∷ ws) [] now gained lost is = absurd (let nothing : ⊥ = cc in nothing)
+from_less zero (w ∷ ws) (x ∷ xs) now gained lost is = ap (λ (y : Ticked). moved w y ∷ all_moved ws xs) (sym (some_is is))
+from_less (suc k) (w ∷ ws) (x ∷ xs) now gained lost is = ap (λ (vs : List Watch). w ∷ vs) (from_less k ws xs now gained lost is)
+
+from_same : (k : ℕ) (ws : List Watch) (xs : List Ticked) → slice_get xs k ≡ Some StaysWide → moved_from (suc k) ws xs ≡ moved_from k ws xs
+from_same zero [] xs is = refl
+from_same (suc k) [] xs is = refl
+from_same k (w ∷ ws) [] is = absurd (let nothing : ⊥ = cc in nothing)
+from_same zero (w ∷ ws) (x ∷ xs) is = ap (λ (y : Ticked). moved w y ∷ all_moved ws xs) (sym (some_is is))
+from_same (suc k) (w ∷ ws) (x ∷ xs) is = ap (λ (vs : List Watch). w ∷ vs) (from_same k ws xs is)
+
+pub from_one : (k : ℕ) (ws : List Watch) (xs : List Ticked) (x : Ticked) → slice_get xs k ≡ Some x → moved_at k x (moved_from (suc k) ws xs) ≡ moved_from k ws xs
+from_one k ws xs StaysWide is = from_same k ws xs is
+from_one k ws xs (Moves now gained lost) is = from_less k ws xs now gained lost is
+
+pub kind_at : (ws : List Watch) (xs : List Ticked) (i : ℕ) (x : Ticked) → AreMovesOfKind ws xs → slice_get xs i ≡ Some x → i < length ws → IsSomeAnd (slice_get ws i) (λ w. IsMoveOfKind w x)
+kind_at [] xs i x a is few = absurd (omega (arith, few))
+kind_at (w ∷ ws) [] i x a is few = absurd (let nothing : ⊥ = cc in nothing)
+kind_at (w ∷ ws) (y ∷ ys) zero x a is few = subst (λ (z : Ticked). IsMoveOfKind w z) (some_is is) a.0
+kind_at (w ∷ ws) (y ∷ ys) (suc i) x a is few = kind_at ws ys i x a.1 is (omega (arith, few))
+
+-- a watch after the tick has the name and the query that it had before
+pub among_moved : (ws : List Watch) (xs : List Ticked) (w : Watch) → Among (all_moved ws xs) w → (v : Watch) × Among ws v × (v.name ≡ w.name) × (v.query ≡ w.query)
+among_moved [] xs w a = absurd a
+among_moved (v ∷ ws) [] w a = (w, a, refl, refl)
+among_moved (v ∷ ws) (StaysWide ∷ xs) w (inl e) = (v, inl refl, ap (λ (u : Watch). u.name) e, ap (λ (u : Watch). u.query) e)
+among_moved (v ∷ ws) (Moves now gained lost ∷ xs) w (inl e) = (v, inl refl, ap (λ (u : Watch). u.name) e, ap (λ (u : Watch). u.query) e)
+among_moved (v ∷ ws) (x ∷ xs) w (inr a) = let r = among_moved ws xs w a in (r.0, inr r.1, r.2, r.3)
+
+same_name : (w : Watch) (x : Ticked) → (moved w x).name ≡ w.name
+same_name w StaysWide = refl
+same_name w (Moves now gained lost) = refl
+
+pub differ_moved : (ws : List Watch) (xs : List Ticked) → NamesDiffer ws → NamesDiffer (all_moved ws xs)
+differ_moved [] xs d = tt
+differ_moved (w ∷ ws) [] d = d
+differ_moved (w ∷ ws) (x ∷ xs) d = (
+  λ h. let v = among_moved ws xs h.0 h.1 in d.0 (v.0, v.1, v.2 ∙ h.2 ∙ same_name w x),
+  differ_moved ws xs d.1,
+)
+
+-- the last of the front of a list
+taken_last : {X : Type 0} (n : ℕ) (xs ys : List X) (x : X) → take n xs ≡ ys ++ x ∷ [] → (take (length ys) xs ≡ ys) × (slice_get xs (length ys) ≡ Some x)
+taken_last zero xs [] x e = absurd (let differ : ⊥ = cc in differ)
+taken_last zero xs (y ∷ ys) x e = absurd (let differ : ⊥ = cc in differ)
+taken_last (suc n) [] [] x e = absurd (let differ : ⊥ = cc in differ)
+taken_last (suc n) [] (y ∷ ys) x e = absurd (let differ : ⊥ = cc in differ)
+taken_last (suc n) (a ∷ rest) [] x e = (refl, cc)
+taken_last {X} (suc n) (a ∷ rest) (y ∷ ys) x e =
+    let first : a ≡ y = cc in
+    let more : take n rest ≡ ys ++ x ∷ [] = cc in
+    let r = taken_last n rest ys x more in
+    (ap (λ (b : X). b ∷ take (length ys) rest) first ∙ ap (λ (bs : List X). y ∷ bs) r.0, r.1)
+
+-- the base of the watch that the last of the front was found of moves, and so those from its place on are moved
+pub record MovesLast (ws now : List Watch) (xs ys : List Ticked) (x : Ticked) : Type 0 where
+  pub there : length ys < length now
+  pub kind : IsSomeAnd (slice_get now (length ys)) (λ w. IsMoveOfKind w x)
+  pub left : take (length ys) xs ≡ ys
+  pub moved : moved_at (length ys) x now ≡ moved_from (length ys) ws xs
+
+pub moves_last : (ws now : List Watch) (xs ys : List Ticked) (x : Ticked) (n : ℕ) → length xs ≡ length ws → AreMovesOfKind ws xs → take n xs ≡ ys ++ x ∷ [] → n ≡ suc (length ys) → now ≡ moved_from n ws xs → MovesLast ws now xs ys x
+moves_last ws now xs ys x n same kinds front is moved =
+    let last = taken_last n xs ys x front in
+    let few : length ys < length xs = slice_get_within xs (length ys) x last.1 in
+    let here : now ≡ moved_from (suc (length ys)) ws xs = moved ∙ ap (λ (k : ℕ). moved_from k ws xs) is in
+    let all : length now ≡ length ws = ap length here ∙ from_length (suc (length ys)) ws xs in
+    record {
+      there = omega (arith, few, all, same);
+      kind = subst (λ o. IsSomeAnd o (λ w. IsMoveOfKind w x)) (sym (ap (λ (vs : List Watch). slice_get vs (length ys)) here ∙ from_at (length ys) ws xs)) (kind_at ws xs (length ys) x kinds last.1 (omega (arith, few, same)));
+      left = last.0;
+      moved = ap (moved_at (length ys) x) here ∙ from_one (length ys) ws xs x last.1;
+    }
+
+-- ---- what is seen of a tick
+
+one_text : (g : Graph) (name : Word) (x : Ticked) (more : List ℕ) → ticked_text g name x ++ more ≢ []
+unfolding tick_wide_text tick_head_text
+one_text g name StaysWide more e = cc
+one_text g name (Moves now gained lost) more e = cc
+
+pub seen_quiet : (g : Graph) (limit : ℕ) (ws : List Watch) (xs : List Ticked) → AreTicked g limit ws xs → length xs ≡ 0 → Sees Quiet (tick_text g ws xs) (some_wide xs)
+seen_quiet g limit [] [] is none = sees_quiet
+seen_quiet g limit [] (x ∷ xs) is none = absurd is
+seen_quiet g limit (w ∷ ws) [] is none = absurd is
+seen_quiet g limit (w ∷ ws) (x ∷ xs) is none = absurd (omega (arith, none))
+
+pub seen_refused : (g : Graph) (limit : ℕ) (ws : List Watch) (xs : List Ticked) → AreTicked g limit ws xs → some_wide xs ≡ true → Sees Refused (tick_text g ws xs) (some_wide xs)
+seen_refused g limit [] [] is wide = absurd (let no_wide : ⊥ = cc in no_wide)
+seen_refused g limit [] (x ∷ xs) is wide = absurd is
+seen_refused g limit (w ∷ ws) [] is wide = absurd is
+seen_refused g limit (w ∷ ws) (x ∷ xs) is wide = subst (λ (b : Bool). Sees Refused (tick_text g (w ∷ ws) (x ∷ xs)) b) (sym wide) (sees_refused _ (one_text g w.name x (tick_text g ws xs)))
+
+pub seen_answered : (g : Graph) (limit : ℕ) (ws : List Watch) (xs : List Ticked) → AreTicked g limit ws xs → length xs ≢ 0 → some_wide xs ≡ false → Sees Answered (tick_text g ws xs) (some_wide xs)
+seen_answered g limit [] [] is some fits = absurd (some refl)
+seen_answered g limit [] (x ∷ xs) is some fits = absurd is
+seen_answered g limit (w ∷ ws) [] is some fits = absurd is
+seen_answered g limit (w ∷ ws) (x ∷ xs) is some fits = subst (λ (b : Bool). Sees Answered (tick_text g (w ∷ ws) (x ∷ xs)) b) (sym fits) (sees_answered _ (one_text g w.name x (tick_text g ws xs)))
+
+-- ---- whether some is too wide
+
+pub any_of : {X Y : Type 0} (test : Y → Bool) (f : X → Y) (xs : List X) → list_any test (map f xs) ≡ list_any (λ x. test (f x)) xs
+any_of test f [] = refl
+any_of test f (x ∷ xs) = ap (λ b. test (f x) || b) (any_of test f xs)
+
+pub none_left : (n : ℕ) → (0 < n → false ≡ true) → n ≡ 0
+none_left zero h = refl
+none_left (suc n) h = absurd (let e = h (omega arith) in let differ : ⊥ = cc in differ)
