@@ -9,6 +9,7 @@ mod list_lines;
 mod lists;
 mod queries;
 mod script_lines;
+mod word_lists;
 
 use anyhow::Result;
 
@@ -16,5 +17,6 @@ fn main(rt: HostRuntime) -> Result<()> {
     lists::compare(&rt)?;
     script_lines::compare(&rt)?;
     queries::compare(&rt)?;
-    edit_lists::compare(&rt)
+    edit_lists::compare(&rt)?;
+    word_lists::compare(&rt)
 }

@@ -1,0 +1,3 @@
+pub mod Sentence
+pub mod Numbers
+pub mod OptionsOf

@@ -1,0 +1,18 @@
+//! The words of the command line.
+//!
+//! It stands on `itpg_base` and on clap, whose own definition says which words fit the command. It promises that the words are
+//! read as the options that they ask for, and are refused exactly where they ask for none (`read_words`), and that they ask for
+//! no two (`law_of_one_reading`).
+#![tactic(auto)]
+
+mod laws;
+mod number;
+mod options;
+mod reading;
+
+pub use laws::law_of_one_reading;
+pub use options::{Options, WordsFault};
+pub use reading::read_words;
+
+#[cfg(test)]
+mod tests;
