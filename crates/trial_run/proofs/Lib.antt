@@ -1,0 +1,4 @@
+pub mod Residues
+pub mod Length
+pub mod Telling
+pub mod Running

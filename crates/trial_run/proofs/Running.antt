@@ -1,0 +1,136 @@
+-- A trial, line by line.
+use Rattle.std.proofs.Common.{◌≡◌, inl, inr, ℕ, ◌+◌, Bool, true, false, ◌||◌, List, [], ◌∷◌, ◌++◌, Some, None, Err, IsErrOf, MatchOption, refl, ap, ◌∙◌, sym, subst, append_assoc, arith}
+use Rattle.std.specs.declared.option.Option.{Option}
+use Rattle.itpg_session.specs.declared.session.StepFault.{StepFault}
+use Rattle.itpg_session.specs.declared.session.StepFault.TheVariants.{Memory, Write}
+use Rattle.std.specs.Io.KnownBytes.{Appends, Keeps}
+use Rattle.std.proofs.KnownBytes.{Appends-nil, Appends-trans, Appends-kept}
+use Rattle.itpg_base.specs.Outside.{AppendsSome}
+use Rattle.itpg_session.specs.Replies.{Reply, IsReply}
+use Rattle.itpg_session.specs.Machine.{Turn, IsGood, Replies, opening}
+use Rattle.itpg_session.specs.MachineLaws.{GoodReply}
+use Rattle.trial_script.specs.Script.{Asks, script}
+use Rattle.trial_run.specs.Summary.{Told, nothing, joined, told_of, Tells, IsSummary, TellsAll, TellsSome}
+use Rattle.trial_run.specs.Running.{TellsFrom, Takes, TakesSome, Stands}
+use Rattle.trial_run.specs.declared.run.Running.{Running}
+use Rattle.trial_run.proofs.Telling.{Laws, joined_assoc, joined-nothing, some_told}
+
+-- what lines tell from here on, behind a question
+behind_question : (limit : ℕ) (r : Running) (line query : List ℕ) (reply : Reply) (lines : List (List ℕ)) (rest : Told) → Asks line query → IsReply r.session.machine.graph r.session.limit query reply
+    → Tells r.session.limit r.session.machine (r.number + 1) (r.question + 1) lines rest → TellsFrom r (line ∷ lines) (joined (told_of r.question reply) rest)
+unfolding Tells
+behind_question limit r line query reply lines rest asks replies goes = inl (record { query = query; asks = asks; reply = reply; replies = replies; rest = rest; goes_on = goes; is = refl })
+
+behind_other : (r : Running) (line : List ℕ) (turn : Turn) (lines : List (List ℕ)) (rest : Told) → ((query : List ℕ) → ¬ Asks line query) → Replies r.session.limit r.session.machine r.number line turn
+    → Tells r.session.limit turn.next (r.number + 1) r.question lines rest → TellsFrom r (line ∷ lines) (joined nothing rest)
+unfolding Tells
+behind_other r line turn lines rest others replies goes = inr (record { others = others; turn = turn; replies = replies; goes_on = goes })
+
+pub takes_question : (held now : Option (List ℕ)) (old new : Running) (line query text : List ℕ) (reply : Reply) → Asks line query → IsReply old.session.machine.graph old.session.limit query reply
+    → text ≡ (told_of old.question reply).text → Appends held now text
+    → new.session ≡ old.session → new.number ≡ old.number + 1 → new.question ≡ old.question + 1 → new.wide ≡ (old.wide || (told_of old.question reply).wide) → Takes held now old new line
+takes_question held now old new line query text reply asks replies is written session number question wide = record {
+  told = told_of old.question reply;
+  goes_on = λ lines rest goes.
+      behind_question 0 old line query reply lines rest asks replies
+      (subst (λ k. Tells old.session.limit old.session.machine (old.number + 1) k lines rest) question (subst (λ n. Tells old.session.limit old.session.machine n new.question lines rest) number (subst (λ s. Tells s.limit s.machine new.number new.question lines rest) session goes)));
+  written = subst (Appends held now) is written;
+  wide = wide;
+  good = λ good. subst (λ s. IsGood s.machine) (sym session) good;
+  number = number;
+  question = omega (arith, question);
+  limit = ap (λ s. s.limit) session;
+}
+
+pub takes_some : Laws → (held now : Option (List ℕ)) (old : Running) (line query text : List ℕ) (reply : Reply) → Asks line query → IsReply old.session.machine.graph old.session.limit query reply
+    → text ≡ (told_of old.question reply).text → AppendsSome held now text → TakesSome held now old line
+takes_some laws held now old line query text reply asks replies is some = record {
+  told = told_of old.question reply;
+  goes_on = λ lines good.
+      let rest = some_told laws old.session.limit old.session.machine (old.number + 1) (old.question + 1) lines good in
+      (rest.0, behind_question 0 old line query reply lines rest.0 asks replies rest.1);
+  some = subst (AppendsSome held now) is some;
+}
+
+pub takes_other : GoodReply → (held : Option (List ℕ)) (old new : Running) (line : List ℕ) (turn : Turn) → ((query : List ℕ) → ¬ Asks line query) → Replies old.session.limit old.session.machine old.number line turn
+    → new.session ≡ record { machine = turn.next; limit = old.session.limit } → new.number ≡ old.number + 1 → new.question ≡ old.question → new.wide ≡ old.wide → Takes held held old new line
+takes_other good_reply held old new line turn others replies session number question wide = record {
+  told = nothing;
+  goes_on = λ lines rest goes.
+      behind_other old line turn lines rest others replies
+      (subst (λ k. Tells old.session.limit turn.next (old.number + 1) k lines rest) question (subst (λ n. Tells old.session.limit turn.next n new.question lines rest) number (subst (λ s. Tells s.limit s.machine new.number new.question lines rest) session goes)));
+  written = Appends-nil held;
+  wide = wide ∙ or_false old.wide;
+  good = λ good. subst (λ s. IsGood s.machine) (sym session) (good_reply old.session.limit old.session.machine old.number line turn good replies);
+  number = number;
+  question = omega (arith, question);
+  limit = ap (λ s. s.limit) session;
+}
+  where
+    or_false : (a : Bool) → a ≡ (a || false)
+    or_false true = refl
+    or_false false = refl
+
+pub stands_first : Laws → (limit number : ℕ) (held : Option (List ℕ)) (r : Running) → r.session ≡ record { machine = opening; limit = limit } → r.number ≡ 1 → r.question ≡ 1 → r.wide ≡ false → Stands limit number held held r (script number)
+stands_first laws limit number held r session line question wide = record {
+  told = nothing;
+  closes = λ rest goes.
+      subst (λ k. Tells limit opening 1 k (script number) rest) question (subst (λ n. Tells limit opening n r.question (script number) rest) line (subst (λ s. Tells s.limit s.machine r.number r.question (script number) rest) session goes));
+  written = Appends-nil held;
+  wide = wide;
+  good = subst (λ s. IsGood s.machine) (sym session) laws.opening;
+}
+
+pub stands_more : (limit number : ℕ) (start mid now : Option (List ℕ)) (old new : Running) (line : List ℕ) (left : List (List ℕ))
+    → Stands limit number start mid old (line ∷ left) → Takes mid now old new line → Stands limit number start now new left
+stands_more limit number start mid now old new line left s t = record {
+  told = joined s.told t.told;
+  closes = λ rest goes. subst (IsSummary limit number) (joined_assoc s.told t.told rest) (s.closes (joined t.told rest) (t.goes_on left rest goes));
+  written = Appends-trans start mid now _ _ s.written t.written;
+  wide = t.wide ∙ ap (λ b. b || t.told.wide) s.wide;
+  good = t.good s.good;
+}
+
+pub stands_last : (limit number : ℕ) (start now : Option (List ℕ)) (r : Running) → Stands limit number start now r [] → TellsAll limit number start now r.wide
+unfolding Tells
+stands_last limit number start now r s = record {
+  told = s.told;
+  summary = subst (IsSummary limit number) (joined-nothing s.told) (s.closes nothing refl);
+  written = s.written;
+  is_wide = sym s.wide;
+}
+
+pub stops_whole : Laws → (limit number : ℕ) (start mid now : Option (List ℕ)) (r : Running) (left : List (List ℕ)) → Stands limit number start mid r left → Keeps mid now → TellsSome limit number start now
+stops_whole laws limit number start mid now r left s keeps =
+    let rest = some_told laws r.session.limit r.session.machine r.number r.question left s.good in
+    record {
+      told = joined s.told rest.0;
+      summary = s.closes rest.0 rest.1;
+      some = record { taken = s.told.text; rest = rest.0.text; split = refl; appends = Appends-kept start mid now _ s.written keeps };
+    }
+
+pub stops_within : (limit number : ℕ) (start mid now : Option (List ℕ)) (r : Running) (line : List ℕ) (left : List (List ℕ))
+    → Stands limit number start mid r (line ∷ left) → TakesSome mid now r line → TellsSome limit number start now
+stops_within limit number start mid now r line left s t =
+    let rest = t.goes_on left s.good in
+    record {
+      told = joined s.told (joined t.told rest.0);
+      summary = s.closes (joined t.told rest.0) rest.1;
+      some = record {
+        taken = s.told.text ++ t.some.taken;
+        rest = t.some.rest ++ rest.0.text;
+        split = append_assoc s.told.text t.some.taken (t.some.rest ++ rest.0.text) ∙ ap (λ x. s.told.text ++ x) (sym (append_assoc t.some.taken t.some.rest rest.0.text) ∙ ap (λ x. x ++ rest.0.text) t.some.split);
+        appends = Appends-trans start mid now _ _ s.written t.some.appends;
+      };
+    }
+
+pub stops : Laws → (fault : StepFault) (limit number : ℕ) (start mid now : Option (List ℕ)) (r : Running) (line : List ℕ) (left : List (List ℕ)) → Stands limit number start mid r (line ∷ left)
+    → (IsErrOf {T = Unit {0}} (Err fault) Memory → Keeps mid now) → (IsErrOf {T = Unit {0}} (Err fault) Write → TakesSome mid now r line) → TellsSome limit number start now
+stops laws Memory limit number start mid now r line left s memory write = stops_whole laws limit number start mid now r (line ∷ left) s (memory refl)
+stops laws Write limit number start mid now r line left s memory write = stops_within limit number start mid now r line left s (write refl)
+
+pub taken_some : {X : Type 0} (o : Option X) (x : X) (P : Type 0) (Q : X → Type 0) → o ≡ Some x → MatchOption o P Q → Q x
+taken_some {X} o x P Q is taken = subst (λ (t : Option X). MatchOption t P Q) is taken
+
+pub taken_none : {X : Type 0} (o : Option X) (P : Type 0) (Q : X → Type 0) → o ≡ None → MatchOption o P Q → P
+taken_none {X} o P Q is taken = subst (λ (t : Option X). MatchOption t P Q) is taken

@@ -1,0 +1,4 @@
+pub mod Sums
+pub mod Summary
+pub mod SummaryLaws
+pub mod Running

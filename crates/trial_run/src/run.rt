@@ -1,0 +1,135 @@
+//! The run of a trial.
+ghost use Rattle.std.specs.Prelude.{◌≡◌, ◌++◌, ◌-◌, ◌^◌, ◌<◌, ◌≤◌, ◌∷◌, [], false, ℕ, List, MatchOption, IfOk, OnOk, OnErr, IsErrOf};
+ghost use Rattle.std.specs.declared.option.Option.{Option};
+ghost use Rattle.std.specs.Io.KnownBytes.{Keeps};
+ghost use Rattle.itpg_base.specs.Outside.{Rose};
+ghost use Rattle.itpg_session.specs.Machine.{opening};
+ghost use Rattle.trial_script.specs.Script.{Asks};
+ghost use Rattle.trial_run.specs.Summary.{TellsAll, TellsSome};
+ghost use Rattle.trial_run.specs.Running.{Takes, TakesSome};
+
+use crate::summary::{is_wide, told};
+use itpg_base::{Failed, Limits, Sink, TallySink};
+use itpg_session::{Session, StepFault, law_of_asked, law_of_replies};
+use std::alloc::{AllocError, Global};
+use trial_script::{Trial, asked, trial_line};
+
+/// Runs the script that a number generates, and writes its summary: a line for each of its questions, `ask K rows R sum S` or
+/// `ask K wide`. It gives whether some question was too wide.
+///
+/// # Errors
+///
+/// For want of memory, or where the sink failed. A front part of the summary was written.
+pub fn run_trial<K: Sink>(
+    alloc: Global,
+    limits: Limits,
+    number: u64,
+    out: &mut K,
+) -> Result<bool, StepFault>
+    ensures told { IfOk result (λ wide. TellsAll limits number (K.held out.old) (K.held out.new) wide) }
+    ensures some { OnErr result (TellsSome limits number (K.held out.old) (K.held out.new)) }
+    ensures write { IsErrOf result StepFault.Write → Rose (K.faults out.old) (K.faults out.new) }
+    ensures later { K.faults out.old ≤ K.faults out.new }
+{
+    law_of_asked();
+    law_of_replies();
+    let mut running = Running::new(alloc, limits);
+    let mut trial = Trial::new(number);
+    while let Some(line) = next_line(alloc, &mut trial)? {
+        running.take(&line, out)?;
+    }
+    Ok(running.wide)
+}
+
+// A session, the numbers of the next line and of the next question, and whether a question was too wide.
+#[derive(Drop)]
+pub(crate) struct Running {
+    session: Session,
+    number: u64,
+    question: u64,
+    wide: bool,
+}
+
+impl Running {
+    fn new(alloc: Global, limits: Limits) -> Running
+        ensures session { result.session ≡ record { machine = opening; limit = limits } }
+        ensures number { result.number ≡ 1 }
+        ensures question { result.question ≡ 1 }
+        ensures wide { result.wide ≡ false }
+    {
+        Running {
+            session: Session::new(alloc, limits),
+            number: 1,
+            question: 1,
+            wide: false,
+        }
+    }
+
+    // Takes a line: tells the reply to a question, and has the session answer any other.
+    fn take<K: Sink>(&mut self, line: &[u8], out: &mut K) -> Result<(), StepFault>
+        requires number { self.old.number < 2 ^ 64 - 1 }
+        requires question { self.old.question < 2 ^ 64 - 1 }
+        ensures takes { OnOk result (Takes (K.held out.old) (K.held out.new) self.old self.new line.now) }
+        ensures memory { IsErrOf result StepFault.Memory → Keeps (K.held out.old) (K.held out.new) }
+        ensures some { IsErrOf result StepFault.Write → TakesSome (K.held out.old) (K.held out.new) self.old line.now }
+        ensures write { IsErrOf result StepFault.Write → Rose (K.faults out.old) (K.faults out.new) }
+        ensures later { K.faults out.old ≤ K.faults out.new }
+    {
+        match asked(line) {
+            Some(query) => self.ask(query, out),
+            None => self.step(line),
+        }
+    }
+
+    // Takes a line that asks a query text.
+    fn ask<K: Sink>(&mut self, query: &[u8], out: &mut K) -> Result<(), StepFault>
+        requires number { self.old.number < 2 ^ 64 - 1 }
+        requires question { self.old.question < 2 ^ 64 - 1 }
+        ensures takes { OnOk result ((line : List ℕ) → Asks line query.now → Takes (K.held out.old) (K.held out.new) self.old self.new line) }
+        ensures memory { IsErrOf result StepFault.Memory → Keeps (K.held out.old) (K.held out.new) }
+        ensures some { IsErrOf result StepFault.Write → (line : List ℕ) → Asks line query.now → TakesSome (K.held out.old) (K.held out.new) self.old line }
+        ensures write { IsErrOf result StepFault.Write → Rose (K.faults out.old) (K.faults out.new) }
+        ensures later { K.faults out.old ≤ K.faults out.new }
+    {
+        law_of_asked();
+        law_of_replies();
+        let reply = match self.session.ask(query) {
+            Ok(reply) => reply,
+            Err(AllocError) => return Err(StepFault::Memory),
+        };
+        match told(self.question, &reply).write(out) {
+            Ok(()) => {}
+            Err(Failed) => return Err(StepFault::Write),
+        }
+        self.number += 1;
+        self.question += 1;
+        self.wide |= is_wide(&reply);
+        Ok(())
+    }
+
+    // Takes a line that asks nothing. A sink that never fails gets the reply, and nobody sees it.
+    fn step(&mut self, line: &[u8]) -> Result<(), StepFault>
+        requires number { self.old.number < 2 ^ 64 - 1 }
+        requires others { (query : List ℕ) → ¬ Asks line.now query }
+        ensures takes { OnOk result ((held : Option (List ℕ)) → Takes held held self.old self.new line.now) }
+        ensures write { IsErrOf result StepFault.Write → ⊥ }
+    {
+        law_of_replies();
+        let mut unseen = TallySink::new();
+        self.session.step(self.number, line, &mut unseen)?;
+        self.number += 1;
+        Ok(())
+    }
+}
+
+// The next line of a script.
+fn next_line(alloc: Global, trial: &mut Trial) -> Result<Option<Vec<u8>>, StepFault>
+    ensures taken { IfOk result (λ taken. MatchOption taken ((trial.old ≡ []) × (trial.new ≡ [])) (λ line. trial.old ≡ line.items ∷ trial.new)) }
+    ensures same { OnErr result (trial.new ≡ trial.old) }
+    ensures memory { IsErrOf result StepFault.Write → ⊥ }
+{
+    match trial_line(alloc, trial) {
+        Ok(line) => Ok(line),
+        Err(AllocError) => Err(StepFault::Memory),
+    }
+}
