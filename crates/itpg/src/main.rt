@@ -21,7 +21,7 @@ fn main(rt: HostRuntime) -> io::Result<ExitCode> {
 fn message(status: Status) -> Option<&'static str> {
     match status {
         Status::Done | Status::DoneRefused => None,
-        Status::Usage => Some("usage: itpg"),
+        Status::Usage => Some("usage: itpg [--max-rows N] [--trial NUMBER]"),
         Status::ReadFault => Some("read fault"),
         Status::WriteFault => Some("write fault"),
         Status::Memory => Some("out of memory"),

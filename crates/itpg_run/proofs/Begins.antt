@@ -4,8 +4,11 @@ use Rattle.std.specs.declared.option.Option.{Option}
 use Rattle.itpg_base.specs.Outside.{AppendsSome}
 use Rattle.itpg_session.specs.Machine.{Turn, opening}
 use Rattle.itpg_run.specs.Lines.{lines, whole}
-use Rattle.itpg_run.specs.Out.{Runs, IsOut}
+use Rattle.std.proofs.KnownBytes.{Appends-nil, Consumes-nil}
+use Rattle.itpg_run.specs.Out.{none, Runs, IsOut}
 use Rattle.itpg_run.specs.Served.{longest, Served, WritesAs, WritesWithin, WritesOut, BeginsEach, IsIdle}
+use Rattle.itpg_run.specs.Tried.{Tried}
+use Rattle.trial_run.specs.SummaryLaws.{SomeSummary}
 use Rattle.itpg_run.specs.declared.Status.{Status}
 use Rattle.itpg_run.specs.declared.Status.TheVariants.{Done, DoneRefused, Usage, ReadFault, WriteFault, Memory, TooLong}
 use Rattle.itpg_run.proofs.MachineLaws.{Laws}
@@ -47,6 +50,23 @@ served_within limit TooLong (Some all) (Some left) held now s =
 pub served_each : Laws → (limit : ℕ) (status : Status) (before left held now : Option (List ℕ)) → Served status limit before left held now → BeginsEach limit before held now
 served_each laws limit status None left held now s = tt
 served_each laws limit status (Some x) left held now s = within_each laws limit held now x (served_within limit status (Some x) left held now s)
+
+-- where memory was wanting before anything was read
+pub nothing_served : (limit : ℕ) (left held : Option (List ℕ)) → Served Memory limit left left held held
+unfolding Runs lines whole
+nothing_served limit left held = record {
+  bytes = [];
+  taken = Consumes-nil left;
+  writes = record { front = []; rest = []; split = refl; writes = record { turn = none opening; out = refl; written = Appends-nil held } };
+}
+
+pub nothing_tried : SomeSummary → (limit number : ℕ) (left held : Option (List ℕ)) → Tried Memory limit number left left held held
+nothing_tried some limit number left held =
+    let summary = some limit number in
+    record {
+      taken = Consumes-nil left;
+      writes = record { told = summary.0; summary = summary.1; some = record { taken = []; rest = summary.0.text; split = refl; appends = Appends-nil held } };
+    }
 
 -- where nothing was written too
 pub idle_each : (limit : ℕ) (before left held now : Option (List ℕ)) → IsIdle before left held now → BeginsEach limit before held now

@@ -2,6 +2,7 @@ pub mod Lines
 pub mod Out
 pub mod Split
 pub mod Served
+pub mod Tried
 pub mod Stands
 pub mod Pumped
 pub mod OutputLaws

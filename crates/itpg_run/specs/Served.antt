@@ -1,8 +1,10 @@
 -- What a run has taken and written, at each status.
-use Rattle.std.specs.Prelude.{◌≡◌, ℕ, ◌≤◌, ◌<◌, List, [], ◌++◌, length, take, Bool, true, false, IfSome}
+use Rattle.std.specs.Prelude.{◌≡◌, ℕ, ◌≤◌, ◌<◌, List, [], ◌++◌, length, take, Bool, true, false, None, Some, IfSome}
 use Rattle.std.specs.declared.option.Option.{Option}
 use Rattle.std.specs.Io.KnownBytes.{Appends, Consumes, IsAtEnd}
 use Rattle.itpg_base.specs.Outside.{AppendsSome}
+use Rattle.command_words.specs.OptionsOf.{AreOptionsOf}
+use Rattle.command_words.specs.declared.options.Options.{Options}
 use Rattle.itpg_session.specs.Machine.{Turn, opening}
 use Rattle.itpg_run.specs.Lines.{lines, whole}
 use Rattle.itpg_run.specs.Out.{Runs, IsOut}
@@ -13,17 +15,17 @@ use Rattle.itpg_run.specs.declared.Status.TheVariants.{Done, DoneRefused, Usage,
 abbrev pub longest : ℕ
 longest = 268435456
 
--- how many rows an answer may have
-abbrev pub max_rows : ℕ
-max_rows = 100000
+-- the words, each as its bytes, ask for a script to be run with this limit of rows
+abbrev pub AskForScript : List (List ℕ) → ℕ → Type 0
+AskForScript words limit = AreOptionsOf words (record { limits = limit; trial = None })
 
--- a word, as its bytes
-abbrev pub Text : Type 0
-Text = List ℕ
+-- the words ask for the trial of this number, with this limit of rows
+abbrev pub AskForTrial : List (List ℕ) → ℕ → ℕ → Type 0
+AskForTrial words limit number = AreOptionsOf words (record { limits = limit; trial = Some number })
 
--- the words are a sentence of the command: as yet there are none
-abbrev pub IsSentence : List Text → Type 0
-IsSentence words = words ≡ []
+-- the words ask for something
+abbrev pub AskForSome : List (List ℕ) → Type 0
+AskForSome words = (o : Options) × AreOptionsOf words o
 
 -- nothing was read and nothing was written
 pub record IsIdle (before left held now : Option (List ℕ)) : Type 0 where

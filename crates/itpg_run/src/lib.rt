@@ -1,9 +1,9 @@
-//! The top call: reads a script, answers its lines, and says how it ended.
+//! The top call: reads the words of the command line and a script, answers its lines, and says how it ended.
 //!
-//! It stands on the session, which takes one line at a time, and holds the output over a script as a definition (`specs/`):
-//! the turns of the plain machine to its lines, one behind the other. It promises that `serve` writes the bytes of that
-//! output, whatever script is read (`serve`'s clauses), and that there is exactly one for each script (`one_output`,
-//! `some_output`). Nothing here speaks of graphs.
+//! It stands on `command_words`, on `trial_run` and on the session, which takes one line at a time, and holds the output over a
+//! script as a definition (`specs/`): the turns of the plain machine to its lines, one behind the other. It promises that
+//! `serve` writes the bytes of that output, whatever script is read, or the summary of a trial (`serve`'s clauses), and that
+//! there is exactly one output for each script (`one_output`, `some_output`). Nothing here speaks of graphs.
 #![tactic(auto)]
 
 ghost use Rattle.itpg_run.specs.Codes.{code_of};
@@ -25,7 +25,7 @@ pub enum Status {
     Done,
     /// The input was read to its end, and some reply was bad, refused or wide.
     DoneRefused,
-    /// The words are no sentence of the command. Nothing was read or written.
+    /// The words ask for nothing. Nothing was read or written.
     Usage,
     /// The source failed. The lines whose end was read were answered.
     ReadFault,

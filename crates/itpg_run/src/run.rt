@@ -2,31 +2,32 @@
 ghost use Rattle.std.specs.Prelude.{◌≡◌, ◌+◌, ◌-◌, ◌^◌, ◌≤◌, ◌<◌, ◌⊎◌, ℕ, List, [], Some, length, map, string_bytes, OnOk, IfErr, IsErrOf};
 ghost use Rattle.std.specs.declared.option.Option.{Option};
 ghost use Rattle.itpg_base.specs.Outside.{Rose};
-ghost use Rattle.itpg_run.specs.Served.{Served, BeginsEach, EndsWell, IsIdle, IsSentence, longest, max_rows};
+ghost use Rattle.itpg_run.specs.Served.{Served, BeginsEach, EndsWell, IsIdle, AskForScript, AskForTrial, AskForSome, longest};
+ghost use Rattle.itpg_run.specs.Tried.{Tried, WritesSummary};
 ghost use Rattle.itpg_run.specs.Stands.{Stands};
 ghost use Rattle.itpg_run.specs.Pumped.{Pumped};
 
 use crate::Status;
 use crate::reader::{Reader, Stop};
+use command_words::{WordsFault, law_of_one_reading, read_words};
 use itpg_base::{Failed, Limits, Sink, Source};
-use itpg_session::law_of_replies;
+use itpg_session::{StepFault, law_of_replies};
 use std::alloc::Global;
+use trial_run::{law_of_summaries, run_trial};
 
 // How many bytes a script may have.
 const LONGEST: usize = 268_435_456;
-
-// How many rows an answer may have.
-const MAX_ROWS: u32 = 100_000;
 
 // How many bytes are read at a time, at most.
 const CHUNK: usize = 65_536;
 
 /// Does all that the program does: reads a script from the source and writes the plain machine's output to the sink.
 ///
-/// `words` are the command line's words without the program's name; as yet no word at all is the one sentence of the
-/// command, and any word is `Usage`. The output over a script is the replies of the plain machine to its lines, numbered
-/// from 1 (`docs/SEMANTICS.md`). What each status means is told by [`Status`]; whatever it is, what was written begins the
-/// output over all that the source had. Every call returns, on every source.
+/// `words` are the command line's words without the program's name: `[--max-rows N] [--trial NUMBER]`. The limit of rows that
+/// they ask for is the machine's. Where they ask for a trial, nothing is read, and the summary of the trial is written in the
+/// place of an output. The output over a script is the replies of the plain machine to its lines, numbered from 1
+/// (`docs/SEMANTICS.md`). What each status means is told by [`Status`]; whatever it is, what was written begins the output over
+/// all that the source had, or the summary. Every call returns, on every source.
 pub fn serve<S: Source, K: Sink>(
     alloc: Global,
     words: &[String],
@@ -34,53 +35,73 @@ pub fn serve<S: Source, K: Sink>(
     sink: &mut K,
 ) -> Status
     // The table of what was taken and written at each status.
-    ensures served { IsSentence (map string_bytes words.entry.now) → Served result max_rows (S.left source.old) (S.left source.new) (K.held sink.old) (K.held sink.new) }
+    ensures served { (limit : ℕ) → AskForScript (map string_bytes words.entry.now) limit → Served result limit (S.left source.old) (S.left source.new) (K.held sink.old) (K.held sink.new) }
 
-    // Words that are no sentence: nothing is read or written.
-    ensures idle { ¬ IsSentence (map string_bytes words.entry.now) → IsIdle (S.left source.old) (S.left source.new) (K.held sink.old) (K.held sink.new) }
-    ensures told { ¬ IsSentence (map string_bytes words.entry.now) → (result ≡ Status.Usage) ⊎ (result ≡ Status.Memory) }
-    ensures usage { result ≡ Status.Usage → ¬ IsSentence (map string_bytes words.entry.now) }
+    // With a trial: nothing is taken, and what was written of its summary at each status.
+    ensures tried { (limit number : ℕ) → AskForTrial (map string_bytes words.entry.now) limit number → Tried result limit number (S.left source.old) (S.left source.new) (K.held sink.old) (K.held sink.new) }
+
+    // Words that ask for nothing: nothing is read or written.
+    ensures idle { ¬ AskForSome (map string_bytes words.entry.now) → IsIdle (S.left source.old) (S.left source.new) (K.held sink.old) (K.held sink.new) }
+    ensures told { ¬ AskForSome (map string_bytes words.entry.now) → (result ≡ Status.Usage) ⊎ (result ≡ Status.Memory) }
+    ensures usage { result ≡ Status.Usage → ¬ AskForSome (map string_bytes words.entry.now) }
 
     // Whatever the status, a front part of the output over all that the source had was written.
-    ensures each { BeginsEach max_rows (S.left source.old) (K.held sink.old) (K.held sink.new) }
+    ensures each { (limit : ℕ) → AskForScript (map string_bytes words.entry.now) limit → BeginsEach limit (S.left source.old) (K.held sink.old) (K.held sink.new) }
 
     // A fault is told only where its device's count rose in this call.
     ensures read { result ≡ Status.ReadFault → Rose (S.faults source.old) (S.faults source.new) }
     ensures write { result ≡ Status.WriteFault → Rose (K.faults sink.old) (K.faults sink.new) }
 
     // With no fault and a script that fits, all was answered, or memory was wanting.
-    ensures complete { IsSentence (map string_bytes words.entry.now) → (all : List ℕ) → S.left source.old ≡ Some all → length all ≤ longest
+    ensures complete { AskForSome (map string_bytes words.entry.now) → (all : List ℕ) → S.left source.old ≡ Some all → length all ≤ longest
         → ¬ Rose (S.faults source.old) (S.faults source.new) → ¬ Rose (K.faults sink.old) (K.faults sink.new) → EndsWell result }
 {
-    if words.is_empty() {
-        run_script(alloc, source, sink)
-    } else {
-        Status::Usage
+    law_of_one_reading();
+    law_of_summaries();
+    match read_words(alloc, words) {
+        Ok(options) => match options.trial {
+            None => run_script(alloc, options.limits, source, sink),
+            Some(number) => run_number(alloc, options.limits, number, sink),
+        },
+        Err(WordsFault::Usage) => Status::Usage,
+        Err(WordsFault::Memory) => Status::Memory,
     }
 }
 
-// The same for words that are a sentence.
-fn run_script<S: Source, K: Sink>(alloc: Global, source: &mut S, sink: &mut K) -> Status
-    ensures served { Served result max_rows (S.left source.old) (S.left source.new) (K.held sink.old) (K.held sink.new) }
+// The same for words that ask for a script, with their limit.
+fn run_script<S: Source, K: Sink>(
+    alloc: Global,
+    limits: Limits,
+    source: &mut S,
+    sink: &mut K,
+) -> Status
+    ensures served { Served result limits (S.left source.old) (S.left source.new) (K.held sink.old) (K.held sink.new) }
     ensures usage { result ≡ Status.Usage → ⊥ }
-    ensures each { BeginsEach max_rows (S.left source.old) (K.held sink.old) (K.held sink.new) }
+    ensures each { BeginsEach limits (S.left source.old) (K.held sink.old) (K.held sink.new) }
     ensures read { result ≡ Status.ReadFault → Rose (S.faults source.old) (S.faults source.new) }
     ensures write { result ≡ Status.WriteFault → Rose (K.faults sink.old) (K.faults sink.new) }
     ensures complete { (all : List ℕ) → S.left source.old ≡ Some all → length all ≤ longest
         → ¬ Rose (S.faults source.old) (S.faults source.new) → ¬ Rose (K.faults sink.old) (K.faults sink.new) → EndsWell result }
 {
     law_of_replies();
-    let mut reader = Reader::new(alloc, limits());
+    let mut reader = Reader::new(alloc, limits);
     match pump(&mut reader, source, sink) {
         Ok(()) => reader.finish(sink),
         Err(status) => status,
     }
 }
 
-fn limits() -> Limits
-    ensures { result ≡ max_rows }
+// Runs the trial of a number.
+fn run_number<K: Sink>(alloc: Global, limits: Limits, number: u64, sink: &mut K) -> Status
+    ensures summary { WritesSummary result limits number (K.held sink.old) (K.held sink.new) }
+    ensures write { result ≡ Status.WriteFault → Rose (K.faults sink.old) (K.faults sink.new) }
 {
-    Limits::new(MAX_ROWS).unwrap()
+    match run_trial(alloc, limits, number, sink) {
+        Ok(true) => Status::DoneRefused,
+        Ok(false) => Status::Done,
+        Err(StepFault::Memory) => Status::Memory,
+        Err(StepFault::Write) => Status::WriteFault,
+    }
 }
 
 // Reads to the end of the input.

@@ -1,0 +1,22 @@
+-- What a trial has taken and written, at each status.
+use Rattle.std.specs.Prelude.{ℕ, List, [], true, false}
+use Rattle.std.specs.declared.option.Option.{Option}
+use Rattle.std.specs.Io.KnownBytes.{Consumes}
+use Rattle.trial_run.specs.Summary.{TellsAll, TellsSome}
+use Rattle.itpg_run.specs.declared.Status.{Status}
+use Rattle.itpg_run.specs.declared.Status.TheVariants.{Done, DoneRefused, Usage, ReadFault, WriteFault, Memory, TooLong}
+
+-- what was written of the summary at this status
+abbrev pub WritesSummary : Status → ℕ → ℕ → Option (List ℕ) → Option (List ℕ) → Type 0
+WritesSummary Done limit number held now = TellsAll limit number held now false
+WritesSummary DoneRefused limit number held now = TellsAll limit number held now true
+WritesSummary Usage limit number held now = ⊥
+WritesSummary ReadFault limit number held now = ⊥
+WritesSummary WriteFault limit number held now = TellsSome limit number held now
+WritesSummary Memory limit number held now = TellsSome limit number held now
+WritesSummary TooLong limit number held now = ⊥
+
+-- nothing was taken, and of the summary was written what the status says
+pub record Tried (status : Status) (limit number : ℕ) (before left held now : Option (List ℕ)) : Type 0 where
+  pub taken : Consumes before left []
+  pub writes : WritesSummary status limit number held now
