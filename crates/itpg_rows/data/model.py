@@ -8,13 +8,17 @@
 It shares nothing with itpg. A relation says of each object at each moment of the horizon which objects at which moments it
 leads to, by the meaning of its path, and a repetition is walked step by step; rows are made from it and then tried against
 the five conditions of a normal list; wide is told by the rows of each worked member. So it says nothing of horizons longer
-than MOST_MOMENTS. Scripts with words are left out. Each command on watches is `later`, as long as the program answers so.
+than MOST_MOMENTS. A watch keeps the relation that the last tick worked out, and what was gained and lost are the points that
+one relation leads to and the other doesn't. Trials are worked out by `trial_model.py`, but for those with a limit of rows.
 """
 import functools
 import itertools
 import pathlib
 import re
 import sys
+
+sys.dont_write_bytecode = True
+import trial_model  # noqa: E402
 
 MOST_MOMENTS = 2_000
 BOUND = 10**12
@@ -375,8 +379,16 @@ class Meaning:
         self.graph, self.known = graph, {}
         self.moments, self.numbers = graph.moments(), graph.standing()
         self.width = len(self.moments) + 1  # the bit between two objects is no point, so no run goes over it
-        self.places = {o: place * self.width for place, o in enumerate(self.numbers)}
-        self.points = {self.places[o] + i: (o, t) for o in self.numbers for i, t in enumerate(self.moments)}
+        self.points = {self.bit(o, t): (o, t) for o in self.numbers for t in self.moments}
+
+    def bit(self, o, t):
+        """The bit of an object at a moment, which stays the same whatever is declared and dropped."""
+        return o * self.width + t - self.moments[0]
+
+    def point(self, x):
+        """The object and the moment of a bit, of a dropped object too."""
+        o, i = divmod(x, self.width)
+        return o, self.moments[i]
 
     def holds(self, test, x):
         (o, t), kind = self.points[x], test[0]
@@ -434,8 +446,8 @@ class Meaning:
             steps = [(source, edge), (edge, target)] if source is not None else []
             for o, p in steps if axis == "F" else [(p, o) for o, p in steps]:
                 led.setdefault(o, set()).add(p)
-        for x, (o, _) in self.points.items():
-            yield x, sum(1 << x - self.places[o] + self.places[p] for p in led.get(o, ()))
+        for x, (o, t) in self.points.items():
+            yield x, sum(1 << self.bit(p, t) for p in led.get(o, ()))
 
     def repeated(self, body, least, most):
         """Where walks of at least `least` steps lead, and of at most `most` where that is a number."""
@@ -502,19 +514,25 @@ def runs_by_departure(meaning, relation):
     """For each source and target the runs of arrivals at each departure."""
     found = {}
     for x, ends in relation.items():
-        o, t = meaning.points[x]
+        o, t = meaning.point(x)
         while ends:
             low = (ends & -ends).bit_length() - 1
             above = ends + (1 << low)
             high = (above & -above).bit_length() - 2
             ends &= above
-            (p, first), (_, last) = meaning.points[low], meaning.points[high]
+            (p, first), (_, last) = meaning.point(low), meaning.point(high)
             found.setdefault((o, p), {}).setdefault(t, []).append((first, last))
     return found
 
 
 def count_of_runs(relation):
     return sum((ends & ~(ends << 1)).bit_count() for ends in relation.values())
+
+
+def less(relation, other):
+    """What the first relation holds and the second doesn't."""
+    left = {x: ends & ~other.get(x, 0) for x, ends in relation.items()}
+    return {x: ends for x, ends in left.items() if ends}
 
 
 def normal_rows(meaning, relation):
@@ -656,12 +674,17 @@ FORMS = {
 KINDS = {"word": "n", "number": "i", "quoted": "q"}
 
 
+class Watch:
+    def __init__(self, name, query):
+        self.name, self.query, self.base = name, query, {}
+
+
 class Machine:
     def __init__(self, limit):
-        self.graph, self.limit = Graph(), limit
+        self.graph, self.limit, self.watches = Graph(), limit, []
 
-    def reply(self, line):
-        """The lines of the reply, the first without its lead; none where the reply is empty."""
+    def reply(self, number, line):
+        """The lines of the reply."""
         line = line.removesuffix(b"\r")
         if len(line) > 65_536:
             raise Fault("long")
@@ -683,9 +706,18 @@ class Machine:
         if command in ("ask", "watch"):
             refuse("graphname", query[3] is not None and query[3] != self.graph.name)
         if command == "ask":
-            return self.answer(query)
-        refuse("later", command in ("watch", "show", "unwatch", "tick"))
-        getattr(self.graph, command)(*(int(text) if kind == "number" else text for kind, text in parts))
+            return self.answer(number, query)
+        values = [int(text) if kind == "number" else text for kind, text in parts]
+        if command == "watch":
+            return self.watch(*values, query)
+        if command == "show":
+            return self.answer(number, self.watched(*values).query)
+        if command == "unwatch":
+            self.watches.remove(self.watched(*values))
+            return []
+        if command == "tick":
+            return [text for watch in self.watches for text in self.tick(watch)]
+        getattr(self.graph, command)(*values)
         return []
 
     def parts(self, command, rest):
@@ -698,22 +730,54 @@ class Machine:
             raise Fault("text")
         return rest, None
 
-    def answer(self, query):
+    def watched(self, name):
+        found = [watch for watch in self.watches if watch.name == name]
+        refuse("unknown", not found)
+        return found[0]
+
+    def watch(self, name, query):
+        refuse("taken", any(watch.name == name for watch in self.watches))
+        refuse("full", len(self.watches) >= 32)
+        self.watches.append(Watch(name, query))
+        return []
+
+    def answer(self, number, query):
+        relation = self.relation(query)
+        if relation is None:
+            return [f"line {number} wide"]
+        texts = self.rows(query, relation)
+        return [f"line {number} rows {len(texts)}", *texts]
+
+    def tick(self, watch):
+        now = self.relation(watch.query)
+        if now is None:
+            return [f"tick {watch.name} wide"]
+        gained, lost = (self.rows(watch.query, less(a, b)) for a, b in ((now, watch.base), (watch.base, now)))
+        watch.base = now
+        return [f"tick {watch.name} gained {len(gained)} lost {len(lost)}",
+                *("+ " + row for row in gained), *("- " + row for row in lost)]
+
+    def relation(self, query):
+        """The relation that answers the query, or None where that is wide; of one time each point leads to itself."""
         first, last, path, _ = query
         meaning = Meaning(self.graph)
         worked = {(meaning.shortest(member), *between) for member, *between in members(path, ALL, ALL)}
         if any(self.is_wide(meaning, *member) for member in worked):
-            return ["wide"]
+            return None
         relation = meaning.of(path)
         if first and last:
-            texts = [self.row(*row) for row in normal_rows(meaning, relation)]
-        else:
-            ends = relation if first else {x for ends in relation.values() for x in bits(ends)}
-            times = {}
-            for o, t in map(meaning.points.get, ends):
-                times.setdefault(o, set()).add(t)
-            texts = [f"{self.graph.objects[o].name} {low}..{high}" for o in sorted(times) for low, high in runs(times[o])]
-        return [f"rows {len(texts)}"] + texts
+            return relation
+        points = relation if first else {x for ends in relation.values() for x in bits(ends)}
+        return {x: 1 << x for x in points}
+
+    def rows(self, query, relation):
+        meaning = Meaning(self.graph)
+        if query[0] and query[1]:
+            return [self.row(*row) for row in normal_rows(meaning, relation)]
+        times = {}
+        for o, t in map(meaning.point, relation):
+            times.setdefault(o, set()).add(t)
+        return [f"{self.graph.objects[o].name} {low}..{high}" for o in sorted(times) for low, high in runs(times[o])]
 
     def is_wide(self, meaning, path, a, b):
         """Whether the relation of a path between two scopes has more normal rows than the limit."""
@@ -740,12 +804,12 @@ def run(script, limit=100_000):
     lines = script.split(b"\n")
     for number, line in enumerate(lines if lines[-1] else lines[:-1], start=1):
         try:
-            reply = machine.reply(line)
+            reply = machine.reply(number, line)
+            failing = any(text.endswith(" wide") for text in reply)
         except Fault as fault:
-            reply = [fault.reply]
-        if reply:
-            output += [f"line {number} {reply[0]}", *reply[1:]]
-            status = status or int(reply[0].split()[0] in ("bad", "refused", "wide"))
+            reply, failing = [f"line {number} {fault.reply}"], True
+        output += reply
+        status = status or int(failing)
     return "".join(line + "\n" for line in output).encode(), status
 
 
@@ -759,18 +823,42 @@ def number_in(path, otherwise):
     return int(path.read_text()) if path.exists() else otherwise
 
 
+def options_in(words):
+    """The limit of rows and the trial that the words ask for; None where they are no sentence."""
+    values = {}
+    while words:
+        name, equals, value = words[0].partition("=")
+        value, words = (value, words[1:]) if equals else (words[1] if words[1:] else "", words[2:])
+        if name not in ("--max-rows", "--trial") or name in values or not re.fullmatch("[0-9]{1,20}", value):
+            return None
+        values[name] = int(value)
+    limit, trial = values.get("--max-rows", 100_000), values.get("--trial")
+    return (limit, trial) if 1 <= limit <= 1_000_000 and (trial or 0) < 2**64 else None
+
+
+def run_with(path):
+    """What the script of this path must write with its words or its limit, and the exit status."""
+    words = path.with_suffix(".words")
+    options = options_in(words.read_text().split("\n")[:-1] if words.exists() else [])
+    if options is None:
+        return b"", 2
+    limit, trial = options
+    if trial is None:
+        return run(path.read_bytes(), number_in(path.with_suffix(".limit"), limit))
+    if limit == 100_000:
+        return trial_model.summary(trial), 0
+    raise TooLong
+
+
 def try_all(folder):
     same = differing = untried = 0
     for path in sorted(folder.glob("*.itpg")):
-        if path.with_suffix(".words").exists():
-            untried += 1
-            continue
         wanted = path.with_suffix(".out").read_bytes(), number_in(path.with_suffix(".status"), 0)
         try:
-            got = run(path.read_bytes(), number_in(path.with_suffix(".limit"), 100_000))
+            got = run_with(path)
         except TooLong:
             untried += 1
-            print(f"{path.stem}: the horizon is too long for this model")
+            print(f"{path.stem}: the horizon is too long for this model, or a trial has a limit")
             continue
         same, differing = same + (got == wanted), differing + (got != wanted)
         if got != wanted:
