@@ -8,7 +8,7 @@ meet nobody). There is a room for each three persons, and there are ten edges fo
 visits, each for up to 100 of 10,000 moments; a quarter of the persons is of high risk for a while, and a quarter tests positive
 for a while. All is drawn by one sequence of numbers, so a size has one graph. Every line is accepted.
 
-`output` works the answers out by spans of moments, without itpg.
+`ANSWERS` and `output` work the answers out by spans of moments, without itpg.
 """
 import collections
 import sys
@@ -96,6 +96,7 @@ def without(spans):
 
 
 def rooms(graph):
+    """Pairs of persons, each with the spans at which both were in one room and the second tested positive."""
     positive = {person: span for person, prop, _, span in graph.values if prop == "test"}
     visits = collections.defaultdict(list)
     for label, source, target, span in graph.edges:
@@ -107,19 +108,29 @@ def rooms(graph):
             for y, second in room:
                 if y in positive:
                     pairs[x, y] += met(first, second, positive[y])
-    for x, y in sorted(pairs):
-        for first, last in joined(pairs[x, y]):
-            yield f"n{x} {first}..{last} n{y} " + (f"{first}..{last}" if first == last else "t..t")
+    return {objects: joined(spans) for objects, spans in pairs.items()}
 
 
 def nobody(graph):
+    """Persons, each with the spans at which they met nobody."""
     meetings = collections.defaultdict(list)
     for label, source, _, span in graph.edges:
         if label == "meets":
             meetings[source].append(span)
-    for x in range(graph.persons):
-        for first, last in without(meetings[x]):
-            yield f"n{x} {first}..{last}"
+    return {(x,): list(without(meetings[x])) for x in range(graph.persons)}
+
+
+ANSWERS = {"rooms": rooms, "nobody": nobody}
+
+
+def row_texts(answer):
+    """The rows of one object and its spans, or of two at the same moments."""
+    for objects in sorted(answer):
+        for first, last in answer[objects]:
+            row = f"n{objects[0]} {first}..{last}"
+            if len(objects) == 2:
+                row += f" n{objects[1]} " + (f"{first}..{last}" if first == last else "t..t")
+            yield row
 
 
 def script(graph, question=None):
@@ -131,7 +142,7 @@ def output(graph, question=None):
     """What the script must write, and how many rows that are."""
     if not question:
         return b"", 0
-    rows = list({"rooms": rooms, "nobody": nobody}[question](graph))
+    rows = list(row_texts(ANSWERS[question](graph)))
     number = sum(1 for _ in graph.lines()) + 1
     return "".join(line + "\n" for line in [f"line {number} rows {len(rows)}", *rows]).encode(), len(rows)
 
