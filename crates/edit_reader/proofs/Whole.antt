@@ -9,14 +9,14 @@ use Rattle.edit_reader.specs.Readings.{Nothing}
 use Rattle.edit_reader.specs.Forms.{form_of, parts_of, lexemes}
 use Rattle.edit_reader.specs.Faults.{max_line, max_tokens, is_silent}
 use Rattle.edit_reader.specs.Lines.{TakenAs}
-use Rattle.edit_reader.specs.Scans.{IsFault}
+use Rattle.edit_reader.specs.Scans.{IsScanFault}
 use Rattle.edit_reader.specs.Steps.{Told, word_then}
 use Rattle.edit_reader.specs.Telling.{form_told}
 use Rattle.edit_reader.proofs.Firsts.{told_line}
 use Rattle.edit_reader.proofs.Counting.{good_told}
 
 module _ (body : List ℕ) (few : length body ≤ max_line) (loud : is_silent body ≡ false) where
-  pub fault_read : (code : TextCode) → ((tokens : List Placed) (end : Option TextCode) → AreTokens body 0 tokens end → IsFault tokens end code) → TakenAs body (Err code)
+  pub fault_read : (code : TextCode) → ((tokens : List Placed) (end : Option TextCode) → AreTokens body 0 tokens end → IsScanFault tokens end code) → TakenAs body (Err code)
   fault_read code fault =
       let t = tokens_exist body 0 in
       let line = told_line body few loud t.0 t.1.0 t.1.1 in

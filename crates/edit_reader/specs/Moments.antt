@@ -1,5 +1,5 @@
 -- The moments and the labels of what a line asks for.
-use Rattle.itpg_edit.specs.Places.{HasMoments, HasLabels}
+use Rattle.itpg_edit.specs.Sites.{HasMoments, HasLabels}
 use Rattle.edit_reader.specs.Readings.{Reading, Changes}
 
 -- where a change is asked for, each of its numbers is a moment

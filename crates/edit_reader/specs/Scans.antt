@@ -13,5 +13,5 @@ pub record IsScan (line : List ℕ) (scan : Scan) : Type 0 where
   pub count : scan.count ≡ length tokens
 
 -- whatever the form says, this is the fault
-abbrev pub IsFault : List Placed → Option TextCode → TextCode → Type 0
-IsFault tokens end code = (go_on : Told) → tokens_told end (length tokens) go_on ≡ Err code
+abbrev pub IsScanFault : List Placed → Option TextCode → TextCode → Type 0
+IsScanFault tokens end code = (go_on : Told) → tokens_told end (length tokens) go_on ≡ Err code

@@ -5,7 +5,7 @@ ghost use Rattle.script_lex.specs.Lines.{Placed, AreTokens};
 ghost use Rattle.edit_reader.specs.Faults.{max_tokens};
 ghost use Rattle.edit_reader.specs.Faults as faults;
 ghost use Rattle.edit_reader.specs.Telling as telling;
-ghost use Rattle.edit_reader.specs.Scans.{IsScan, IsFault};
+ghost use Rattle.edit_reader.specs.Scans.{IsScan, IsScanFault};
 
 use itpg_base::TextCode;
 use script_lex::next_token;
@@ -46,7 +46,7 @@ struct Scan {
 // The first fault of the tokens as they are: a bad byte, too many tokens, or a quoted text that isn't closed.
 pub(crate) fn check_tokens(line: &[u8]) -> Result<(), TextCode>
     ensures { (tokens : List Placed) (end : Option TextCode) → AreTokens line.now 0 tokens end →
-        MatchResult result (λ _. (end ≡ None) × (length tokens ≤ max_tokens)) (IsFault tokens end) }
+        MatchResult result (λ _. (end ≡ None) × (length tokens ≤ max_tokens)) (IsScanFault tokens end) }
 {
     let scan = scan_line(line);
     if is_byte(scan.end) {

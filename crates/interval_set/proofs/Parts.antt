@@ -1,7 +1,7 @@
 -- A list in parts: before some places, between them and after them.
 use Rattle.std.proofs.Common.{◌≡◌, ℕ, ◌+◌, ◌-◌, ◌≤◌, List, ◌++◌, length, take, drop, map, slice_get, Option, Some, None, option_to_list, option_map, refl, sym, subst, ap, arith, ◌∙◌}
 use Rattle.std.proofs.lemmas.List.{take-append-drop, drop-drop, map-append, take-map, drop-map, length-map}
-use Rattle.interval_set.specs.Edits.{replaced}
+use Rattle.interval_set.specs.Splices.{replaced}
 
 pub three_parts : {X : Type 0} (xs : List X) (first last : ℕ) → first ≤ last → take first xs ++ (take (last - first) (drop first xs) ++ drop last xs) ≡ xs
 three_parts xs first last le =
@@ -14,7 +14,7 @@ option_to_list-map : {X Y : Type 0} (f : X → Y) (o : Option X) → map f (opti
 option_to_list-map f None = refl
 option_to_list-map f (Some x) = refl
 
--- an edit of items, and of what they are mapped to
+-- a splice of items, and of what they are mapped to
 pub replaced-map : {X Y : Type 0} (f : X → Y) (first last : ℕ) (before own after : Option X) (xs : List X)
     → map f (replaced first last before own after xs) ≡ replaced first last (option_map f before) (option_map f own) (option_map f after) (map f xs)
 replaced-map f first last before own after xs = simp (map-append, option_to_list-map, take-map, drop-map)

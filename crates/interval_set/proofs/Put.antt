@@ -8,7 +8,7 @@ use Rattle.itpg_base.specs.Graphs.{Valued, RunsHave, AreRunsOfValues}
 use Rattle.interval_set.specs.Runs.{AreRunsOf, HasPut}
 use Rattle.interval_set.specs.Places.{IsApartBefore, IsNear, AreNeighbours}
 use Rattle.interval_set.specs.Borders.{MeetsBefore, MeetsAfter}
-use Rattle.interval_set.specs.Edits.{replaced}
+use Rattle.interval_set.specs.Splices.{replaced}
 use Rattle.interval_set.proofs.Members.{Among, among-append_left, among-append_right, among-append_cases, all_among}
 use Rattle.interval_set.proofs.Rising.{Precedes, precedes_apart, has_from, has_by, has-append_left, has-append_right, has-append_cases, each_run_span, runs_append, runs_left, runs_right, runs_between, among_option, runs_option}
 use Rattle.interval_set.proofs.Border.{Begins, Ends, begins, ends}

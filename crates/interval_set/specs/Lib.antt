@@ -2,5 +2,5 @@ pub mod Runs
 pub mod Plain
 pub mod Places
 pub mod Borders
-pub mod Edits
+pub mod Splices
 pub mod Operations

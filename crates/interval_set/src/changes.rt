@@ -1,38 +1,43 @@
-//! The edits that put a run into a list and that clear a span of it.
+//! The splices that put a run into a list and that clear a span of it.
 ghost use Rattle.std.specs.Prelude.{◌≡◌, ◌-◌, ℤ, List, length, map, slice_get, option_map, slice_range};
 ghost use Rattle.itpg_base.specs.Spans.{IsSpan};
 ghost use Rattle.itpg_base.specs.Graphs.{Valued, AreRunsOfValues};
 ghost use Rattle.interval_set.specs.Runs.{AreRunsOf, HasPut, HasCleared};
 ghost use Rattle.interval_set.specs.Places.{AreNeighbours};
-ghost use Rattle.interval_set.specs.Edits.{CanEdit, edited};
+ghost use Rattle.interval_set.specs.Splices.{CanSplice, spliced};
 ghost use Rattle.interval_set.specs.Borders.{IsLeftBefore, IsLeftAfter, LeavesBefore, LeavesAfter, MeetsBefore, MeetsAfter};
 
-use crate::edit::Edit;
 use crate::places::{Spanned, neighbours};
 use crate::span::Span;
+use crate::splice::Splice;
 
-/// The edit that gives the item's value to each moment of its span.
-pub(crate) fn putting<T: Spanned>(items: &[T], item: T) -> Edit<T>
+/// The splice that gives the item's value to each moment of its span.
+pub(crate) fn putting<T: Spanned>(items: &[T], item: T) -> Splice<T>
     requires { AreRunsOfValues (map T.as_run items.now) }
-    ensures places { CanEdit result (length items.now) }
-    ensures runs { AreRunsOf (HasPut (map T.as_run items.now) (T.as_run item).span (T.as_run item).value) (map T.as_run (edited result items.now)) }
+    ensures places { CanSplice result (length items.now) }
+    ensures runs { AreRunsOf (HasPut (map T.as_run items.now) (T.as_run item).span (T.as_run item).value) (map T.as_run (spliced result items.now)) }
 {
     let (first, last) = neighbours(items, item.span());
     putting_among(items, first, last, item)
 }
 
 /// The same, where it is known which items overlap or touch the span.
-pub(crate) fn putting_among<T: Spanned>(items: &[T], first: usize, last: usize, item: T) -> Edit<T>
+pub(crate) fn putting_among<T: Spanned>(
+    items: &[T],
+    first: usize,
+    last: usize,
+    item: T,
+) -> Splice<T>
     requires runs { AreRunsOfValues (map T.as_run items.now) }
     requires span { IsSpan (T.as_run item).span }
     requires neighbours { AreNeighbours (map T.as_run items.now) (T.as_run item).span first last }
-    ensures places { CanEdit result (length items.now) }
-    ensures runs { AreRunsOf (HasPut (map T.as_run items.now) (T.as_run item).span (T.as_run item).value) (map T.as_run (edited result items.now)) }
+    ensures places { CanSplice result (length items.now) }
+    ensures runs { AreRunsOf (HasPut (map T.as_run items.now) (T.as_run item).span (T.as_run item).value) (map T.as_run (spliced result items.now)) }
 {
     let near = &items[first..last];
     let (before, begin) = begin_among(near, &item);
     let (after, end) = end_among(near, &item);
-    Edit {
+    Splice {
         first,
         last,
         before,
@@ -41,15 +46,15 @@ pub(crate) fn putting_among<T: Spanned>(items: &[T], first: usize, last: usize, 
     }
 }
 
-/// The edit that takes each moment of the span out.
-pub(crate) fn clearing<T: Spanned>(items: &[T], s: Span) -> Edit<T>
+/// The splice that takes each moment of the span out.
+pub(crate) fn clearing<T: Spanned>(items: &[T], s: Span) -> Splice<T>
     requires { AreRunsOfValues (map T.as_run items.now) }
-    ensures places { CanEdit result (length items.now) }
-    ensures runs { AreRunsOf (HasCleared (map T.as_run items.now) s) (map T.as_run (edited result items.now)) }
+    ensures places { CanSplice result (length items.now) }
+    ensures runs { AreRunsOf (HasCleared (map T.as_run items.now) s) (map T.as_run (spliced result items.now)) }
 {
     let (first, last) = neighbours(items, s);
     let near = &items[first..last];
-    Edit {
+    Splice {
         first,
         last,
         before: left_before(near, s),

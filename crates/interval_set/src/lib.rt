@@ -6,12 +6,12 @@
 #![tactic(auto)]
 
 mod changes;
-mod edit;
 mod laws;
 mod places;
 mod run;
 mod set;
 mod span;
+mod splice;
 mod sweep;
 #[cfg(test)]
 mod tests;

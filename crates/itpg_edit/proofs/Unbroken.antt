@@ -16,7 +16,7 @@ use Rattle.itpg_edit.specs.declared.edit.Edit.TheVariants.{Begin, AddNode, AddEd
 use Rattle.itpg_edit.specs.Facts.{span_of, IsEdge, LeavesHorizon, LacksEnd, IsAbsent, IsHeld, HasNoPlace}
 use Rattle.itpg_edit.specs.Rules.{Unbroken}
 use Rattle.itpg_edit.specs.Next.{Next}
-use Rattle.itpg_edit.specs.Places.{HasMoments, HasLabels, EndsExist, IsFree, IsThere}
+use Rattle.itpg_edit.specs.Sites.{HasMoments, HasLabels, EndsExist, IsFree, IsThere}
 use Rattle.itpg_edit.proofs.Moments.{decide_exists}
 use Rattle.itpg_edit.proofs.Families.{cuts_many}
 use Rattle.itpg_edit.proofs.Deciding.{decide_in_horizon, decide_property}

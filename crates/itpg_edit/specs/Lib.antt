@@ -1,4 +1,4 @@
 pub mod Facts
 pub mod Rules
 pub mod Next
-pub mod Places
+pub mod Sites

@@ -7,7 +7,7 @@ ghost use Rattle.itpg_edit.specs.Rules.{FirstOf, Broken, Unbroken, NameBreaks, P
 ghost use Rattle.itpg_graph.specs.Kinds.{IsNode};
 ghost use Rattle.itpg_graph.specs.Changes.{FitFamily};
 ghost use Rattle.itpg_graph.specs.Families.{FitCut, FitPut, FitClear, HasPlace};
-ghost use Rattle.itpg_edit.specs.Places.{IsPlace, EndsExist, IsFree, IsThere};
+ghost use Rattle.itpg_edit.specs.Sites.{IsSite, EndsExist, IsFree, IsThere};
 ghost use Rattle.itpg_edit.specs.declared.edit.Edit.TheVariants as edits;
 
 use crate::edit::Edit;
@@ -15,7 +15,7 @@ use crate::facts::{
     clears_too_many, cuts_too_many, is_absent, is_held, is_incident, joins_too_many, lacks_end,
     leaves, puts_too_many,
 };
-use crate::place::Place;
+use crate::site::Site;
 use interval_set::Span;
 use itpg_base::{LabelSet, Name, ObjNo, RuleCode};
 use itpg_graph::{Graph, Kind, MAX_OBJECTS};
@@ -120,38 +120,38 @@ pub(crate) fn check_edge(
 }
 
 /// What letting an object exist asks.
-pub(crate) fn check_live(graph: &Graph, id: &Name, from: &i64, to: &i64) -> Result<Place, RuleCode>
-    ensures place { IfOk result (λ place. IsPlace graph.now id.now from.now to.now place) }
-    ensures ends { IfOk result (λ place. EndsExist graph.now place.object.0 place.span) }
-    ensures few { IfOk result (λ place. FitFamily graph.now place.object.0 place.span) }
+pub(crate) fn check_live(graph: &Graph, id: &Name, from: &i64, to: &i64) -> Result<Site, RuleCode>
+    ensures site { IfOk result (λ site. IsSite graph.now id.now from.now to.now site) }
+    ensures ends { IfOk result (λ site. EndsExist graph.now site.object.0 site.span) }
+    ensures few { IfOk result (λ site. FitFamily graph.now site.object.0 site.span) }
     ensures unbroken { IfOk result (λ _. Unbroken graph.now (edits.Live id.now from.now to.now)) }
     ensures broken { IfErr result (λ rule. Broken graph.now (edits.Live id.now from.now to.now) rule) }
 {
-    let place = place_of(graph, id, from, to)?;
-    if lacks_end(graph, place.object, place.span) {
+    let site = site_of(graph, id, from, to)?;
+    if lacks_end(graph, site.object, site.span) {
         Err(RuleCode::Ends)
-    } else if joins_too_many(graph, place.object, place.span) {
+    } else if joins_too_many(graph, site.object, site.span) {
         Err(RuleCode::Full)
     } else {
-        Ok(place)
+        Ok(site)
     }
 }
 
 /// What ending an object's life asks.
-pub(crate) fn check_gone(graph: &Graph, id: &Name, from: &i64, to: &i64) -> Result<Place, RuleCode>
-    ensures place { IfOk result (λ place. IsPlace graph.now id.now from.now to.now place) }
-    ensures free { IfOk result (λ place. IsFree graph.now place.object.0 place.span) }
-    ensures few { IfOk result (λ place. FitCut graph.now place.object.0 place.span) }
+pub(crate) fn check_gone(graph: &Graph, id: &Name, from: &i64, to: &i64) -> Result<Site, RuleCode>
+    ensures site { IfOk result (λ site. IsSite graph.now id.now from.now to.now site) }
+    ensures free { IfOk result (λ site. IsFree graph.now site.object.0 site.span) }
+    ensures few { IfOk result (λ site. FitCut graph.now site.object.0 site.span) }
     ensures unbroken { IfOk result (λ _. Unbroken graph.now (edits.Gone id.now from.now to.now)) }
     ensures broken { IfErr result (λ rule. Broken graph.now (edits.Gone id.now from.now to.now) rule) }
 {
-    let place = place_of(graph, id, from, to)?;
-    if is_held(graph, place.object, place.span) {
+    let site = site_of(graph, id, from, to)?;
+    if is_held(graph, site.object, site.span) {
         Err(RuleCode::Held)
-    } else if cuts_too_many(graph, place.object, place.span) {
+    } else if cuts_too_many(graph, site.object, site.span) {
         Err(RuleCode::Full)
     } else {
-        Ok(place)
+        Ok(site)
     }
 }
 
@@ -163,21 +163,21 @@ pub(crate) fn check_put(
     value: &Name,
     from: &i64,
     to: &i64,
-) -> Result<Place, RuleCode>
-    ensures place { IfOk result (λ place. IsPlace graph.now id.now from.now to.now place) }
-    ensures there { IfOk result (λ place. IsThere graph.now place.object.0 place.span) }
-    ensures few { IfOk result (λ place. FitPut graph.now place.object.0 prop.now value.now place.span) }
-    ensures room { IfOk result (λ place. HasPlace graph.now place.object.0 prop.now) }
+) -> Result<Site, RuleCode>
+    ensures site { IfOk result (λ site. IsSite graph.now id.now from.now to.now site) }
+    ensures there { IfOk result (λ site. IsThere graph.now site.object.0 site.span) }
+    ensures few { IfOk result (λ site. FitPut graph.now site.object.0 prop.now value.now site.span) }
+    ensures room { IfOk result (λ site. HasPlace graph.now site.object.0 prop.now) }
     ensures unbroken { IfOk result (λ _. Unbroken graph.now (edits.Put id.now prop.now value.now from.now to.now)) }
     ensures broken { IfErr result (λ rule. Broken graph.now (edits.Put id.now prop.now value.now from.now to.now) rule) }
 {
-    let place = place_of(graph, id, from, to)?;
-    if is_absent(graph, place.object, place.span) {
+    let site = site_of(graph, id, from, to)?;
+    if is_absent(graph, site.object, site.span) {
         Err(RuleCode::Absent)
-    } else if puts_too_many(graph, place.object, prop, *value, place.span) {
+    } else if puts_too_many(graph, site.object, prop, *value, site.span) {
         Err(RuleCode::Full)
     } else {
-        Ok(place)
+        Ok(site)
     }
 }
 
@@ -188,17 +188,17 @@ pub(crate) fn check_clear(
     prop: &Name,
     from: &i64,
     to: &i64,
-) -> Result<Place, RuleCode>
-    ensures place { IfOk result (λ place. IsPlace graph.now id.now from.now to.now place) }
-    ensures few { IfOk result (λ place. FitClear graph.now place.object.0 prop.now place.span) }
+) -> Result<Site, RuleCode>
+    ensures site { IfOk result (λ site. IsSite graph.now id.now from.now to.now site) }
+    ensures few { IfOk result (λ site. FitClear graph.now site.object.0 prop.now site.span) }
     ensures unbroken { IfOk result (λ _. Unbroken graph.now (edits.Clear id.now prop.now from.now to.now)) }
     ensures broken { IfErr result (λ rule. Broken graph.now (edits.Clear id.now prop.now from.now to.now) rule) }
 {
-    let place = place_of(graph, id, from, to)?;
-    if clears_too_many(graph, place.object, prop, place.span) {
+    let site = site_of(graph, id, from, to)?;
+    if clears_too_many(graph, site.object, prop, site.span) {
         Err(RuleCode::Full)
     } else {
-        Ok(place)
+        Ok(site)
     }
 }
 
@@ -231,8 +231,8 @@ fn named(graph: &Graph, id: &Name) -> Result<ObjNo, RuleCode>
 }
 
 // The object and the span of an edit.
-fn place_of(graph: &Graph, id: &Name, from: &i64, to: &i64) -> Result<Place, RuleCode>
-    ensures place { IfOk result (λ place. IsPlace graph.now id.now from.now to.now place) }
+fn site_of(graph: &Graph, id: &Name, from: &i64, to: &i64) -> Result<Site, RuleCode>
+    ensures site { IfOk result (λ site. IsSite graph.now id.now from.now to.now site) }
     ensures broken { IfErr result (λ rule. FirstOf (PlaceBreaks graph.now id.now from.now to.now) (rules.NoGraph ∷ rules.Unknown ∷ rules.Backwards ∷ rules.Horizon ∷ []) rule) }
 {
     let Some(horizon) = graph.horizon() else {
@@ -247,6 +247,6 @@ fn place_of(graph: &Graph, id: &Name, from: &i64, to: &i64) -> Result<Place, Rul
     if leaves(span, horizon) {
         Err(RuleCode::Horizon)
     } else {
-        Ok(Place { object, span })
+        Ok(Site { object, span })
     }
 }

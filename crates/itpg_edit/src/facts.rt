@@ -6,7 +6,7 @@ ghost use Rattle.itpg_base.specs.Graphs.{Stands, Exists, HasEnd};
 ghost use Rattle.itpg_graph.specs.Edges.{HasNumber};
 ghost use Rattle.itpg_graph.specs.Changes.{FitFamily};
 ghost use Rattle.itpg_graph.specs.Families.{ExistsOutside, ValOutside, ValPut, FitCut, FitPut, FitClear, HasPlace};
-ghost use Rattle.itpg_edit.specs.Places.{AllStand};
+ghost use Rattle.itpg_edit.specs.Sites.{AllStand};
 ghost use Rattle.itpg_edit.specs.Facts.{AreManySpans, AreManyRuns, HasNoPlace};
 
 use interval_set::Span;

@@ -5,7 +5,7 @@ ghost use Rattle.itpg_base.specs.declared.rule_code.RuleCode.{RuleCode};
 ghost use Rattle.itpg_edit.specs.declared.edit.Edit.{Edit};
 ghost use Rattle.itpg_edit.specs.Rules.{Broken, Unbroken};
 ghost use Rattle.itpg_edit.specs.Next.{Next};
-ghost use Rattle.itpg_edit.specs.Places.{HasMoments, HasLabels};
+ghost use Rattle.itpg_edit.specs.Sites.{HasMoments, HasLabels};
 
 /// On a good graph an edit breaks no rule, or exactly one is the first that it breaks.
 pub fn law_of_rules()

@@ -11,7 +11,7 @@ mod facts;
 mod fault;
 mod laws;
 mod making;
-mod place;
+mod site;
 #[cfg(test)]
 mod tests;
 

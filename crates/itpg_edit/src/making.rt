@@ -3,7 +3,7 @@ ghost use Rattle.std.specs.Prelude.{◌≡◌, ◌↔◌, Err, IfOk, IfErr, OnEr
 ghost use Rattle.itpg_base.specs.declared.rule_code.RuleCode.{RuleCode as Code};
 ghost use Rattle.itpg_edit.specs.Rules.{Broken};
 ghost use Rattle.itpg_edit.specs.Next.{Makes, Excuses};
-ghost use Rattle.itpg_edit.specs.Places.{AreMoments, HasMoments};
+ghost use Rattle.itpg_edit.specs.Sites.{AreMoments, HasMoments};
 ghost use Rattle.itpg_edit.specs.declared.edit.Edit.TheVariants as edits;
 ghost use Rattle.itpg_edit.specs.declared.fault.EditFault.TheVariants.{Rule as ByRule};
 
@@ -96,9 +96,9 @@ fn join_live(graph: &mut Graph, id: &Name, from: &i64, to: &i64) -> Result<Touch
     ensures excuse { IfErr result (λ fault. Excuses graph.old (edits.Live id.now from.now to.now) fault) }
     ensures same { OnErr result (graph.new ≡ graph.old) }
 {
-    let place = check_live(graph, id, from, to)?;
-    let touch = Touch::Live(graph.labels(place.object));
-    graph.join_live(place.object, place.span)?;
+    let site = check_live(graph, id, from, to)?;
+    let touch = Touch::Live(graph.labels(site.object));
+    graph.join_live(site.object, site.span)?;
     Ok(touch)
 }
 
@@ -107,9 +107,9 @@ fn cut_live(graph: &mut Graph, id: &Name, from: &i64, to: &i64) -> Result<Touch,
     ensures excuse { IfErr result (λ fault. Excuses graph.old (edits.Gone id.now from.now to.now) fault) }
     ensures same { OnErr result (graph.new ≡ graph.old) }
 {
-    let place = check_gone(graph, id, from, to)?;
-    let touch = Touch::Gone(graph.labels(place.object));
-    graph.cut_live(place.object, place.span)?;
+    let site = check_gone(graph, id, from, to)?;
+    let touch = Touch::Gone(graph.labels(site.object));
+    graph.cut_live(site.object, site.span)?;
     Ok(touch)
 }
 
@@ -125,12 +125,12 @@ fn put_value(
     ensures excuse { IfErr result (λ fault. Excuses graph.old (edits.Put id.now prop.now value.now from.now to.now) fault) }
     ensures same { OnErr result (graph.new ≡ graph.old) }
 {
-    let place = check_put(graph, id, prop, value, from, to)?;
+    let site = check_put(graph, id, prop, value, from, to)?;
     let touch = Touch::Value {
-        labels: graph.labels(place.object),
+        labels: graph.labels(site.object),
         prop: *prop,
     };
-    graph.put_value(place.object, *prop, *value, place.span)?;
+    graph.put_value(site.object, *prop, *value, site.span)?;
     Ok(touch)
 }
 
@@ -145,12 +145,12 @@ fn clear_value(
     ensures excuse { IfErr result (λ fault. Excuses graph.old (edits.Clear id.now prop.now from.now to.now) fault) }
     ensures same { OnErr result (graph.new ≡ graph.old) }
 {
-    let place = check_clear(graph, id, prop, from, to)?;
+    let site = check_clear(graph, id, prop, from, to)?;
     let touch = Touch::Value {
-        labels: graph.labels(place.object),
+        labels: graph.labels(site.object),
         prop: *prop,
     };
-    graph.clear_value(place.object, *prop, place.span)?;
+    graph.clear_value(site.object, *prop, site.span)?;
     Ok(touch)
 }
 

@@ -8,7 +8,7 @@ use Rattle.itpg_base.specs.declared.text_code.TextCode.{TextCode}
 use Rattle.itpg_edit.specs.declared.edit.Edit.{Edit}
 use Rattle.itpg_edit.specs.Rules.{FirstOf, Breaks, Broken, NoneOf, Unbroken, rules_of}
 use Rattle.itpg_edit.specs.Next.{Next}
-use Rattle.itpg_edit.specs.Places.{HasMoments, HasLabels}
+use Rattle.itpg_edit.specs.Sites.{HasMoments, HasLabels}
 use Rattle.itpg_edit.proofs.FirstOf.{first_unique, first_or_unbroken}
 use Rattle.edit_reader.specs.Readings.{Reading, Nothing, Changes, Asks, Watches, Shows, Unwatches, Ticks}
 use Rattle.edit_reader.specs.Lines.{LineOf}

@@ -163,7 +163,7 @@ impl Session {
     ghost use Rattle.std.specs.Prelude.{Ok, ◌⊎◌, ◌<◌, ◌||◌, length, map, slice_get, IsSome, IsSomeAnd, IsTrue};
     ghost use Rattle.itpg_edit.specs.Rules.{NoneOf};
     ghost use Rattle.itpg_edit.specs.Next.{Excuses};
-    ghost use Rattle.itpg_edit.specs.Places.{HasMoments};
+    ghost use Rattle.itpg_edit.specs.Sites.{HasMoments};
     ghost use Rattle.edit_reader.specs.Readings.{reading_of, Changes};
     ghost use Rattle.edit_reader.specs.Moments.{AsksOfMoments};
     ghost use Rattle.itpg_session.specs.Rules.{QueryBreaks, WatchBreaks, NameBreaks, TickBreaks, ask_rules, watch_rules, name_rules, tick_rules};

@@ -1,7 +1,7 @@
 //! The table of lists of edits with what each answers and the graph after it.
 
 ghost use Rattle.std.specs.Prelude.{IfOk};
-ghost use Rattle.itpg_edit.specs.Places.{HasMoments};
+ghost use Rattle.itpg_edit.specs.Sites.{HasMoments};
 
 use anyhow::{Context, Result, bail};
 use edit_reader::{Line, read_line};

@@ -10,7 +10,7 @@ use Rattle.match_parser.specs.Words.{keyword_text, axis_text}
 use Rattle.match_parser.specs.Heads.{is_mark, is_word, is_both, behind}
 use Rattle.match_parser.specs.Kept.{kept_name}
 use Rattle.match_parser.specs.Translation.{axis_path, node_test}
-use Rattle.match_parser.specs.Grammar.{TimesTree, Once, Starred, FromTo, FromOn, FactTree, PropertyIs, TimeBelow, TimeAt, TimeFrom, Labelled, NodeFact, EdgeFact, ExistsFact, BothTree, ByComma, ByWord, AltTree, OneSeq, MoreSeq, SeqTree, OneRep, MoreRep, RepTree, Repeated, AtomTree, Step, AtLabel, Braced, Asked, Grouped, OrTree, OneAnd, MoreAnd, AndTree, OneUnary, MoreUnary, UnaryTree, Plain, Negated, PrimTree, OfFact, OfPath, OfTests, PatternTree, ChainTree, OnePattern, MorePattern, QueryTree, times_text, fact_text, both_text, alt_text, seq_text, rep_text, atom_text, or_text, and_text, unary_text, prim_text, name_text, label_text, tests_text, pattern_text, chain_text, graph_text, query_text}
+use Rattle.match_parser.specs.Grammar.{TimesTree, Once, Starred, FromTo, FromOn, FactTree, PropertyIs, TimeBelow, TimeAt, TimeFrom, Labelled, NodeFact, EdgeFact, ExistsFact, BothTree, ByComma, ByWord, AltTree, OneSeq, MoreSeq, SeqTree, OneRep, MoreRep, RepTree, AtomTimes, AtomTree, Step, AtLabel, Braced, Asked, Grouped, OrTree, OneAnd, MoreAnd, AndTree, OneUnary, MoreUnary, UnaryTree, Plain, Negated, PrimTree, OfFact, OfPath, OfTests, PatternTree, ChainTree, OnePattern, MorePattern, QueryTree, times_text, fact_text, both_text, alt_text, seq_text, rep_text, atom_text, or_text, and_text, unary_text, prim_text, name_text, label_text, tests_text, pattern_text, chain_text, graph_text, query_text}
 use Rattle.match_parser.specs.Parsing.{with_graph, rep_by, repeated, bounds_at, most_at, Found, then_read, chosen, closing, closed, times_at, label_at, fact_by, fact_at, step_by, step_at, atom_by, prim_by, alt_at, seq_at, rep_at, atom_at, or_at, and_at, unary_at, prim_at, Pattern, Chain, chain_of, with_piece, name_at, and_label, and_tests, tested_by, labelled_by, inside_by, pattern_by, piece_by, chain_at, graph_at, query_at}
 use Rattle.match_parser.proofs.KeptTrees.{times_value, fact_kept, alt_kept, seq_kept, rep_kept, atom_kept, or_kept, and_kept, unary_kept, prim_kept, with_label_kept, with_tests_kept, name_kept, pattern_kept, chain_kept}
 use Rattle.match_parser.proofs.Fronts.{property_none, axis_again, no_word}
@@ -66,7 +66,7 @@ atom_some (Asked a) = omega arith
 atom_some (Grouped a) = omega arith
 
 rep_some : (r : RepTree) → 1 ≤ length (rep_text r)
-rep_some (Repeated a t) = times_some (atom_text a) t (atom_some a)
+rep_some (AtomTimes a t) = times_some (atom_text a) t (atom_some a)
 
 seq_some : (s : SeqTree) → 1 ≤ length (seq_text s)
 seq_some (OneRep r) = rep_some r
@@ -149,7 +149,7 @@ and_end a rest k so = comes_on and_at 2 (and_text a ++ rest) _ (ends is_both Con
 or_end : (o : OrTree) (rest : List Lexeme) → behind (is_word (keyword_text Or)) rest ≡ None → OrSoFar (or_text o ++ rest) rest (or_kept o) → Comes or_at 4 (or_text o ++ rest) (Some (or_kept o, rest))
 or_end o rest k so = comes_on or_at 3 (or_text o ++ rest) _ (ends (is_word (keyword_text Or)) Disjunction and_at and_at (λ x. x) (λ m. or_at (suc m)) ors_is 3 (or_text o ++ rest) rest (or_kept o) so k)
 
-rep_comes : (a : AtomTree) (t : TimesTree) (rest : List Lexeme) → NoTimes rest → Comes atom_at 1 (atom_text a ++ (times_text t ++ rest)) (Some (atom_kept a, times_text t ++ rest)) → Comes rep_at 2 (rep_text (Repeated a t) ++ rest) (Some (rep_kept (Repeated a t), rest))
+rep_comes : (a : AtomTree) (t : TimesTree) (rest : List Lexeme) → NoTimes rest → Comes atom_at 1 (atom_text a ++ (times_text t ++ rest)) (Some (atom_kept a, times_text t ++ rest)) → Comes rep_at 2 (rep_text (AtomTimes a t) ++ rest) (Some (rep_kept (AtomTimes a t), rest))
 rep_comes a t rest n f = comes_text rep_at 2 ((atom_text a ++ times_text t) ++ rest) (atom_text a ++ (times_text t ++ rest)) _ (append_assoc (atom_text a) (times_text t) rest)
     (comes_on rep_at 1 (atom_text a ++ (times_text t ++ rest)) _ (λ m h. reps_is m (atom_text a ++ (times_text t ++ rest)) ∙ ap rep_by (f m h) ∙ ap (λ (o : Found (Option (ℕ × Option ℕ))). then_read o (λ v after. let r : Found PathTerm = Some (repeated v (atom_kept a), after) in r)) (times_comes t rest n)))
 
@@ -193,7 +193,7 @@ mutual
       (less_behind (AMark Slash) (rep_text r) rest) (one_less (AMark Slash) (rep_text r ++ rest)) (rep_all r rest n))
 
   rep_all : (r : RepTree) (rest : List Lexeme) → NoTimes rest → Comes rep_at 2 (rep_text r ++ rest) (Some (rep_kept r, rest))
-  rep_all (Repeated a t) rest n = rep_comes a t rest n (atom_all a (times_text t ++ rest))
+  rep_all (AtomTimes a t) rest n = rep_comes a t rest n (atom_all a (times_text t ++ rest))
 
   atom_all : (a : AtomTree) (rest : List Lexeme) → Comes atom_at 1 (atom_text a ++ rest) (Some (atom_kept a, rest))
   atom_all (Step x) rest = atom_comes_text (AWord (axis_text x) ∷ []) rest (axis_path x) (λ m h. step_comes x rest)

@@ -18,7 +18,7 @@ use Rattle.path_ast.specs.Terms.{PathTerm, OfTest, Sequence, Choice, TestTerm, H
 use Rattle.match_parser.specs.declared.words.Keyword.TheVariants.{Or}
 use Rattle.match_parser.specs.Words.{keyword_text, is_signed}
 use Rattle.match_parser.specs.Kept.{kept_name, is_tame, kept_value, kept_count}
-use Rattle.match_parser.specs.Grammar.{TimesTree, Once, Starred, FromTo, FromOn, FactTree, PropertyIs, TimeBelow, TimeAt, TimeFrom, Labelled, NodeFact, EdgeFact, ExistsFact, AltTree, OneSeq, MoreSeq, SeqTree, OneRep, MoreRep, RepTree, Repeated, AtomTree, Step, AtLabel, Braced, Asked, Grouped, OrTree, OneAnd, MoreAnd, AndTree, OneUnary, MoreUnary, UnaryTree, Plain, Negated, PrimTree, OfFact, OfPath, OfTests, PatternTree, ChainTree, OnePattern, MorePattern, QueryTree, times_text, fact_text, both_text, alt_text, seq_text, rep_text, atom_text, or_text, and_text, unary_text, prim_text, name_text, label_text, tests_text, pattern_text, chain_text, graph_text, query_text}
+use Rattle.match_parser.specs.Grammar.{TimesTree, Once, Starred, FromTo, FromOn, FactTree, PropertyIs, TimeBelow, TimeAt, TimeFrom, Labelled, NodeFact, EdgeFact, ExistsFact, AltTree, OneSeq, MoreSeq, SeqTree, OneRep, MoreRep, RepTree, AtomTimes, AtomTree, Step, AtLabel, Braced, Asked, Grouped, OrTree, OneAnd, MoreAnd, AndTree, OneUnary, MoreUnary, UnaryTree, Plain, Negated, PrimTree, OfFact, OfPath, OfTests, PatternTree, ChainTree, OnePattern, MorePattern, QueryTree, times_text, fact_text, both_text, alt_text, seq_text, rep_text, atom_text, or_text, and_text, unary_text, prim_text, name_text, label_text, tests_text, pattern_text, chain_text, graph_text, query_text}
 use Rattle.match_parser.specs.Translation.{node_test, times_path, fact_test, alt_path, seq_path, rep_path, atom_path, or_test, and_test, unary_test, prim_test, with_label, with_tests, pattern_path, chain_path, first_name, last_name}
 use Rattle.match_parser.specs.Faults.{SomeToken, IsWild, IsOverlong, later_named, inner_named}
 use Rattle.match_parser.specs.Parsing.{Pattern, Chain, chain_of, with_piece}
@@ -84,7 +84,7 @@ mutual
   seq_fits (MoreRep s r) h = λ i. Sequence (seq_fits s (fit_front (seq_text s) (AMark Slash ∷ rep_text r) h) i) (rep_fits r (fit_back (seq_text s) (AMark Slash ∷ rep_text r) h).1 i)
 
   rep_fits : (r : RepTree) → AllFit (rep_text r) → rep_kept r ≡ rep_path r
-  rep_fits (Repeated a t) h = ap (times_kept t) (atom_fits a (fit_front (atom_text a) (times_text t) h)) ∙ times_fits t (atom_path a) (fit_back (atom_text a) (times_text t) h)
+  rep_fits (AtomTimes a t) h = ap (times_kept t) (atom_fits a (fit_front (atom_text a) (times_text t) h)) ∙ times_fits t (atom_path a) (fit_back (atom_text a) (times_text t) h)
 
   atom_fits : (a : AtomTree) → AllFit (atom_text a) → atom_kept a ≡ atom_path a
   atom_fits (Step x) h = refl

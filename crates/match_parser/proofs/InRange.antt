@@ -16,7 +16,7 @@ use Rattle.match_parser.specs.declared.words.Axis.{Axis}
 use Rattle.match_parser.specs.declared.words.Axis.TheVariants as Axes
 use Rattle.match_parser.specs.Words.{keyword_text, is_signed}
 use Rattle.match_parser.specs.Kept.{is_number, is_tame}
-use Rattle.match_parser.specs.Grammar.{TimesTree, Once, Starred, FromTo, FromOn, FactTree, PropertyIs, TimeBelow, TimeAt, TimeFrom, Labelled, NodeFact, EdgeFact, ExistsFact, AltTree, OneSeq, MoreSeq, SeqTree, OneRep, MoreRep, RepTree, Repeated, AtomTree, Step, AtLabel, Braced, Asked, Grouped, OrTree, OneAnd, MoreAnd, AndTree, OneUnary, MoreUnary, UnaryTree, Plain, Negated, PrimTree, OfFact, OfPath, OfTests, PatternTree, ChainTree, OnePattern, MorePattern, times_text, fact_text, both_text, alt_text, seq_text, rep_text, atom_text, or_text, and_text, unary_text, prim_text, name_text, label_text, tests_text, pattern_text, chain_text, graph_text}
+use Rattle.match_parser.specs.Grammar.{TimesTree, Once, Starred, FromTo, FromOn, FactTree, PropertyIs, TimeBelow, TimeAt, TimeFrom, Labelled, NodeFact, EdgeFact, ExistsFact, AltTree, OneSeq, MoreSeq, SeqTree, OneRep, MoreRep, RepTree, AtomTimes, AtomTree, Step, AtLabel, Braced, Asked, Grouped, OrTree, OneAnd, MoreAnd, AndTree, OneUnary, MoreUnary, UnaryTree, Plain, Negated, PrimTree, OfFact, OfPath, OfTests, PatternTree, ChainTree, OnePattern, MorePattern, times_text, fact_text, both_text, alt_text, seq_text, rep_text, atom_text, or_text, and_text, unary_text, prim_text, name_text, label_text, tests_text, pattern_text, chain_text, graph_text}
 use Rattle.match_parser.specs.Translation.{axis_path, node_test, times_path, fact_test, alt_path, seq_path, rep_path, atom_path, or_test, and_test, unary_test, prim_test, with_label, with_tests, pattern_path, chain_path, first_name, last_name}
 use Rattle.match_parser.specs.Faults.{has_backwards, test_has_backwards, later_named, inner_named}
 use Rattle.match_parser.specs.Reading.{Reads}
@@ -93,7 +93,7 @@ mutual
   )
 
   rep_in_range : (r : RepTree) → AllFit (rep_text r) → has_backwards (rep_path r) ≡ false → IsPathInRange (rep_path r)
-  rep_in_range (Repeated a t) h e = times_in_range t (atom_path a) (fit_back (atom_text a) (times_text t) h) e (atom_in_range a (fit_front (atom_text a) (times_text t) h) (times_right t (atom_path a) e))
+  rep_in_range (AtomTimes a t) h e = times_in_range t (atom_path a) (fit_back (atom_text a) (times_text t) h) e (atom_in_range a (fit_front (atom_text a) (times_text t) h) (times_right t (atom_path a) e))
 
   atom_in_range : (a : AtomTree) → AllFit (atom_text a) → has_backwards (atom_path a) ≡ false → IsPathInRange (atom_path a)
   atom_in_range (Step x) h e = step_in_range x

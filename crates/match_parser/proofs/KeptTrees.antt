@@ -1,7 +1,7 @@
 -- What each tree stands for, with what is kept of its words and numbers.
 use Rattle.std.specs.Prelude.{ℕ, ◌+ℤ◌, pos, List, Option, Some, None}
 use Rattle.path_ast.specs.Terms.{PathTerm, OfTest, Sequence, Choice, TestTerm, IsNode, IsEdge, HasLabel, HasValue, IsBelow, DoesExist, Condition, Conjunction, Disjunction, Negation}
-use Rattle.match_parser.specs.Grammar.{TimesTree, Once, Starred, FromTo, FromOn, FactTree, PropertyIs, TimeBelow, TimeAt, TimeFrom, Labelled, NodeFact, EdgeFact, ExistsFact, AltTree, OneSeq, MoreSeq, SeqTree, OneRep, MoreRep, RepTree, Repeated, AtomTree, Step, AtLabel, Braced, Asked, Grouped, OrTree, OneAnd, MoreAnd, AndTree, OneUnary, MoreUnary, UnaryTree, Plain, Negated, PrimTree, OfFact, OfPath, OfTests, PatternTree, ChainTree, OnePattern, MorePattern}
+use Rattle.match_parser.specs.Grammar.{TimesTree, Once, Starred, FromTo, FromOn, FactTree, PropertyIs, TimeBelow, TimeAt, TimeFrom, Labelled, NodeFact, EdgeFact, ExistsFact, AltTree, OneSeq, MoreSeq, SeqTree, OneRep, MoreRep, RepTree, AtomTimes, AtomTree, Step, AtLabel, Braced, Asked, Grouped, OrTree, OneAnd, MoreAnd, AndTree, OneUnary, MoreUnary, UnaryTree, Plain, Negated, PrimTree, OfFact, OfPath, OfTests, PatternTree, ChainTree, OnePattern, MorePattern}
 use Rattle.match_parser.specs.Translation.{axis_path, node_test}
 use Rattle.match_parser.specs.Kept.{kept_name, kept_value, kept_count}
 use Rattle.match_parser.specs.Parsing.{repeated, Pattern, Chain, chain_of, with_piece}
@@ -40,7 +40,7 @@ abbrev mutual
   seq_kept (MoreRep s r) = Sequence (seq_kept s) (rep_kept r)
 
   pub rep_kept : RepTree → PathTerm
-  rep_kept (Repeated a t) = times_kept t (atom_kept a)
+  rep_kept (AtomTimes a t) = times_kept t (atom_kept a)
 
   pub atom_kept : AtomTree → PathTerm
   atom_kept (Step axis) = axis_path axis

@@ -8,7 +8,7 @@ use Rattle.match_parser.specs.declared.words.Keyword.TheVariants.{Or}
 use Rattle.match_parser.specs.declared.words.Axis.{Axis}
 use Rattle.match_parser.specs.declared.words.Axis.TheVariants as Axes
 use Rattle.match_parser.specs.Words.{keyword_text}
-use Rattle.match_parser.specs.Grammar.{TimesTree, Once, Starred, FromTo, FromOn, FactTree, PropertyIs, TimeBelow, TimeAt, TimeFrom, Labelled, NodeFact, EdgeFact, ExistsFact, AltTree, OneSeq, MoreSeq, SeqTree, OneRep, MoreRep, RepTree, Repeated, AtomTree, Step, AtLabel, Braced, Asked, Grouped, OrTree, OneAnd, MoreAnd, AndTree, OneUnary, MoreUnary, UnaryTree, Plain, Negated, PrimTree, OfFact, OfPath, OfTests, PatternTree, ChainTree, OnePattern, MorePattern, QueryTree, times_text, fact_text, both_text, alt_text, seq_text, rep_text, atom_text, or_text, and_text, unary_text, prim_text, name_text, label_text, tests_text, pattern_text, chain_text, graph_text, query_text}
+use Rattle.match_parser.specs.Grammar.{TimesTree, Once, Starred, FromTo, FromOn, FactTree, PropertyIs, TimeBelow, TimeAt, TimeFrom, Labelled, NodeFact, EdgeFact, ExistsFact, AltTree, OneSeq, MoreSeq, SeqTree, OneRep, MoreRep, RepTree, AtomTimes, AtomTree, Step, AtLabel, Braced, Asked, Grouped, OrTree, OneAnd, MoreAnd, AndTree, OneUnary, MoreUnary, UnaryTree, Plain, Negated, PrimTree, OfFact, OfPath, OfTests, PatternTree, ChainTree, OnePattern, MorePattern, QueryTree, times_text, fact_text, both_text, alt_text, seq_text, rep_text, atom_text, or_text, and_text, unary_text, prim_text, name_text, label_text, tests_text, pattern_text, chain_text, graph_text, query_text}
 use Rattle.match_parser.specs.Translation.{axis_path, node_test}
 use Rattle.match_parser.proofs.KeptTrees.{times_kept, fact_kept, alt_kept, seq_kept, rep_kept, atom_kept, or_kept, and_kept, unary_kept, prim_kept, with_label_kept, with_tests_kept, chain_kept}
 
@@ -48,7 +48,7 @@ mutual
   seq_small (MoreRep s r) = omega (arith, seq_small s, rep_small r, length-append (seq_text s) (AMark Slash ∷ rep_text r))
 
   rep_small : (r : RepTree) → path_size (rep_kept r) + 1 ≤ 4 * length (rep_text r)
-  rep_small (Repeated a t) = omega (arith, times_small t (atom_kept a) (4 * length (atom_text a)) (atom_small a), length-append (atom_text a) (times_text t))
+  rep_small (AtomTimes a t) = omega (arith, times_small t (atom_kept a) (4 * length (atom_text a)) (atom_small a), length-append (atom_text a) (times_text t))
 
   atom_small : (a : AtomTree) → path_size (atom_kept a) + 1 ≤ 4 * length (atom_text a)
   atom_small (Step x) = step_small x

@@ -12,7 +12,7 @@ use Rattle.match_parser.specs.Words.{keyword_text, match_text, on_text, is_signe
 use Rattle.match_parser.specs.Heads.{is_mark, is_word, is_both, behind, keyword_of, axis_of}
 use Rattle.match_parser.specs.Kept.{kept_name, kept_value, kept_count}
 use Rattle.match_parser.specs.Translation.{axis_path, node_test}
-use Rattle.match_parser.specs.Grammar.{TimesTree, Once, Starred, FromTo, FromOn, FactTree, PropertyIs, TimeBelow, TimeAt, TimeFrom, Labelled, NodeFact, EdgeFact, ExistsFact, AltTree, OneSeq, MoreSeq, SeqTree, OneRep, MoreRep, RepTree, Repeated, AtomTree, Step, AtLabel, Braced, Asked, Grouped, OrTree, OneAnd, MoreAnd, AndTree, OneUnary, MoreUnary, UnaryTree, Plain, Negated, PrimTree, OfFact, OfPath, OfTests, PatternTree, ChainTree, OnePattern, MorePattern, QueryTree, times_text, fact_text, both_text, alt_text, seq_text, rep_text, atom_text, or_text, and_text, unary_text, prim_text, name_text, label_text, tests_text, pattern_text, chain_text, graph_text, query_text}
+use Rattle.match_parser.specs.Grammar.{TimesTree, Once, Starred, FromTo, FromOn, FactTree, PropertyIs, TimeBelow, TimeAt, TimeFrom, Labelled, NodeFact, EdgeFact, ExistsFact, AltTree, OneSeq, MoreSeq, SeqTree, OneRep, MoreRep, RepTree, AtomTimes, AtomTree, Step, AtLabel, Braced, Asked, Grouped, OrTree, OneAnd, MoreAnd, AndTree, OneUnary, MoreUnary, UnaryTree, Plain, Negated, PrimTree, OfFact, OfPath, OfTests, PatternTree, ChainTree, OnePattern, MorePattern, QueryTree, times_text, fact_text, both_text, alt_text, seq_text, rep_text, atom_text, or_text, and_text, unary_text, prim_text, name_text, label_text, tests_text, pattern_text, chain_text, graph_text, query_text}
 use Rattle.match_parser.specs.Parsing.{with_graph, repeated, Found, then_read, chosen, closing, closed, more_by, word_at, quote_at, number_at, moment_at, count_at, most_at, bounds_at, times_at, label_at, time_at, fact_by, fact_at, step_by, step_at, asked_by, atom_by, unary_by, prim_by, alt_at, seq_at, rep_at, atom_at, or_at, and_at, unary_at, prim_at, Pattern, Chain, chain_of, with_piece, name_at, and_label, and_tests, inside_by, pattern_by, piece_by, chain_at, ended, graph_at, query_at}
 use Rattle.match_parser.proofs.KeptTrees.{times_value, times_kept, fact_kept, alt_kept, seq_kept, rep_kept, atom_kept, or_kept, and_kept, unary_kept, prim_kept, with_label_kept, with_tests_kept, name_kept, pattern_kept, chain_kept}
 use Rattle.match_parser.proofs.Fronts.{mark_is, word_is, both_is, behind_mark, behind_word, ByFront, chosen_ok, chosen_only, then_ok, keyword_is, keyword_none, axis_is, same_found}
@@ -387,7 +387,7 @@ mutual
       let t = times_sound b.middle c.part c.middle c.was in
       let same = same_found (repeated c.part b.part) p c.middle rest c.goes in
       record {
-        tree = Repeated a.tree t.tree;
+        tree = AtomTimes a.tree t.tree;
         is = ap (times_kept t.tree) a.is ∙ ap (λ (v : Option Bounds). repeated v b.part) t.is ∙ same.0;
         spells = times_joined a.tree t.tree ts b.middle rest a.spells (t.spells ∙ ap (λ (l : List Lexeme). times_text t.tree ++ l) same.1);
       }

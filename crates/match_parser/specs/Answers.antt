@@ -5,6 +5,6 @@ use Rattle.match_parser.specs.declared.fault.QueryFault.TheVariants.{Memory, Bad
 use Rattle.match_parser.specs.Reading.{FaultOf}
 
 -- the text's first fault, or want of memory
-abbrev pub IsFault : List ℕ → QueryFault → Type 0
-IsFault text Memory = Unit {0}
-IsFault text (Bad code) = FaultOf text code
+abbrev pub IsQueryFault : List ℕ → QueryFault → Type 0
+IsQueryFault text Memory = Unit {0}
+IsQueryFault text (Bad code) = FaultOf text code

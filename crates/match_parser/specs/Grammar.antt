@@ -42,7 +42,7 @@ mutual
 
   -- rep : atom times
   pub data RepTree : Type 0 where
-    Repeated : AtomTree → TimesTree → RepTree
+    AtomTimes : AtomTree → TimesTree → RepTree
 
   -- atom : FWD | BWD | NEXT | PREV | F | B | N | P | : label | { or } | ? ( alt ) | ( alt )
   pub data AtomTree : Type 0 where
@@ -119,7 +119,7 @@ abbrev mutual
   seq_text (MoreRep s r) = seq_text s ++ AMark Slash ∷ rep_text r
 
   pub rep_text : RepTree → List Lexeme
-  rep_text (Repeated a t) = atom_text a ++ times_text t
+  rep_text (AtomTimes a t) = atom_text a ++ times_text t
 
   pub atom_text : AtomTree → List Lexeme
   atom_text (Step axis) = AWord (axis_text axis) ∷ []

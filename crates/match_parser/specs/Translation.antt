@@ -5,7 +5,7 @@ use Rattle.script_lex.specs.Numbers.{number_value}
 use Rattle.path_ast.specs.Terms.{PathTerm, OfTest, Forward, Backward, Next, Previous, Sequence, Choice, Repetition, TestTerm, IsNode, IsEdge, HasLabel, HasValue, IsBelow, DoesExist, Condition, Conjunction, Disjunction, Negation, QueryTerm}
 use Rattle.match_parser.specs.declared.words.Axis.{Axis}
 use Rattle.match_parser.specs.declared.words.Axis.TheVariants as Axes
-use Rattle.match_parser.specs.Grammar.{TimesTree, Once, Starred, FromTo, FromOn, FactTree, PropertyIs, TimeBelow, TimeAt, TimeFrom, Labelled, NodeFact, EdgeFact, ExistsFact, AltTree, OneSeq, MoreSeq, SeqTree, OneRep, MoreRep, RepTree, Repeated, AtomTree, Step, AtLabel, Braced, Asked, Grouped, OrTree, OneAnd, MoreAnd, AndTree, OneUnary, MoreUnary, UnaryTree, Plain, Negated, PrimTree, OfFact, OfPath, OfTests, PatternTree, ChainTree, OnePattern, MorePattern, QueryTree}
+use Rattle.match_parser.specs.Grammar.{TimesTree, Once, Starred, FromTo, FromOn, FactTree, PropertyIs, TimeBelow, TimeAt, TimeFrom, Labelled, NodeFact, EdgeFact, ExistsFact, AltTree, OneSeq, MoreSeq, SeqTree, OneRep, MoreRep, RepTree, AtomTimes, AtomTree, Step, AtLabel, Braced, Asked, Grouped, OrTree, OneAnd, MoreAnd, AndTree, OneUnary, MoreUnary, UnaryTree, Plain, Negated, PrimTree, OfFact, OfPath, OfTests, PatternTree, ChainTree, OnePattern, MorePattern, QueryTree}
 
 -- where the object exists, one step in this direction
 abbrev pub existing : PathTerm → PathTerm
@@ -53,7 +53,7 @@ abbrev mutual
   seq_path (MoreRep s r) = Sequence (seq_path s) (rep_path r)
 
   pub rep_path : RepTree → PathTerm
-  rep_path (Repeated a t) = times_path t (atom_path a)
+  rep_path (AtomTimes a t) = times_path t (atom_path a)
 
   pub atom_path : AtomTree → PathTerm
   atom_path (Step axis) = axis_path axis

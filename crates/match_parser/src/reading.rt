@@ -3,7 +3,7 @@ ghost use Rattle.std.specs.Prelude.{◌≡◌, ◌⊎◌, IfOk, IfErr, MatchResu
 ghost use Rattle.itpg_base.specs.declared.text_code.TextCode.{TextCode};
 ghost use Rattle.path_ast.specs.Terms.{QueryTerm, query_term};
 ghost use Rattle.match_parser.specs.Reading.{Reads, FaultOf};
-ghost use Rattle.match_parser.specs.Answers.{IsFault};
+ghost use Rattle.match_parser.specs.Answers.{IsQueryFault};
 ghost use Rattle.match_parser.specs.Views.{chain_view, query_made};
 
 use crate::checks::later_fault;
@@ -32,7 +32,7 @@ use std::alloc::Global;
 /// `Names`, `Terms`; `Long` never comes. `Memory` for want of memory, and never else.
 pub fn read_query(alloc: Global, text: &[u8]) -> Result<Query, QueryFault>
     ensures query { IfOk result (λ query. Reads text.now (query_term query)) }
-    ensures fault { IfErr result (λ fault. IsFault text.now fault) }
+    ensures fault { IfErr result (λ fault. IsQueryFault text.now fault) }
     ensures reads { (query : QueryTerm) → Reads text.now query → MatchResult result (λ found. query_term found ≡ query) (λ fault. fault ≡ QueryFault.Memory) }
     ensures first { (code : TextCode) → FaultOf text.now code → MatchResult result (λ _. ⊥) (λ fault. (fault ≡ QueryFault.Bad code) ⊎ (fault ≡ QueryFault.Memory)) }
 {

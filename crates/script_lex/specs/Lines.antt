@@ -32,7 +32,7 @@ pub record IsNext (line : List ℕ) (at : ℕ) (t : Placed) : Type 0 where
   pub to : t.to ≡ t.from + length (written t.what)
 
 -- behind the blanks there is a byte, and no token begins with it, for this reason
-pub record IsFault (line : List ℕ) (at : ℕ) (code : TextCode) : Type 0 where
+pub record IsLineFault (line : List ℕ) (at : ℕ) (code : TextCode) : Type 0 where
   pub some : behind_blanks line at < length line
   pub none : first_token (drop (behind_blanks line at) line) ≡ None
   pub why : fault_of (drop (behind_blanks line at) line) ≡ code
@@ -40,7 +40,7 @@ pub record IsFault (line : List ℕ) (at : ℕ) (code : TextCode) : Type 0 where
 -- no token follows: only blanks do, or a fault
 abbrev pub EndsAt : List ℕ → ℕ → Option TextCode → Type 0
 EndsAt line at None = AreBlank (drop at line)
-EndsAt line at (Some code) = IsFault line at code
+EndsAt line at (Some code) = IsLineFault line at code
 
 -- the tokens of a line from `at` on, one behind another, and the fault at which they end, or none at the end of the line
 abbrev pub AreTokens : List ℕ → ℕ → List Placed → Option TextCode → Type 0

@@ -6,7 +6,7 @@ ghost use Rattle.script_lex.specs.Bytes.{is_in, begins_with};
 ghost use Rattle.script_lex.specs.Lexemes.{lexeme, AQuote};
 ghost use Rattle.script_lex.specs.Table.{first_token, fault_of, begins_number};
 ghost use Rattle.script_lex.specs.Numbers.{HasNumber};
-ghost use Rattle.script_lex.specs.Lines.{placed, behind_blanks, AreBlank, IsNext, IsFault};
+ghost use Rattle.script_lex.specs.Lines.{placed, behind_blanks, AreBlank, IsNext, IsLineFault};
 
 use crate::bytes::Class;
 use crate::mark::read_mark;
@@ -32,7 +32,7 @@ pub fn next_token<'a>(line: &'a [u8], at: usize) -> Result<Option<Token<'a>>, Te
     requires { at ≤ length line.now }
     ensures token { IfOk result (λ found. IfSome found (λ t. IsNext line.now at (placed t))) }
     ensures ended { (result ≡ Ok None) ↔ AreBlank (drop at line.now) }
-    ensures fault { IfErr result (λ code. IsFault line.now at code) }
+    ensures fault { IfErr result (λ code. IsLineFault line.now at code) }
     ensures codes { IfErr result (λ code. (code ≡ TextCode.Byte) ⊎ (code ≡ TextCode.Text)) }
     ensures number { IfOk result (λ found. IfSome found (λ t. HasNumber (lexeme t.what))) }
     ensures within { IfOk result (λ found. IfSome found (λ t. (at ≤ t.from) × (t.from < t.to) × (t.to ≤ length line.now))) }

@@ -10,7 +10,7 @@
 #![tactic(auto)]
 
 ghost use Rattle.std.specs.Prelude.{◌≡◌, ◌↔◌, ℤ, IsTrue};
-ghost use Rattle.zone_core.specs.Zone.{AreApart, IsDeterminedByPairs, IsMet, IsNear, IsTight, IsZoneOf, Meets, MeetsBoth, MeetsFirstOnly, SomeHolds, Within, moment_reach};
+ghost use Rattle.zone_core.specs.Zone.{AreApart, IsDeterminedByPairs, IsMet, IsNear, IsTight, IsZoneOf, Meets, MeetsBoth, MeetsFirstOnly, SomeHolds};
 
 mod pieces;
 mod steps;
@@ -115,12 +115,8 @@ impl Zone {
         self.bounds
     }
 
-    /// Whether the zone has the pair of the departure `t` and the arrival `u`.
-    ///
-    /// Both moments have to lie within 4·10^12 of zero.
+    /// Whether the zone has the pair of the departure `t` and the arrival `u`, which may be any numbers.
     pub fn has(&self, t: i64, u: i64) -> bool
-        requires t_near { Within moment_reach t }
-        requires u_near { Within moment_reach u }
         ensures { IsTrue result ↔ Meets self.now t u }
     {
         steps::meets(self.bounds, t, u)

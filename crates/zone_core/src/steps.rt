@@ -1,7 +1,7 @@
 //! The steps over bounds that the public calls take.
 
 ghost use Rattle.std.specs.Prelude.{◌↔◌, ℤ, ◌≤ℤ◌, IsTrue};
-ghost use Rattle.zone_core.specs.Zone.{Between, HaveSamePairs, IsInOrder, IsNear, IsTight, Meets, MeetsBoth, Within, moment_reach};
+ghost use Rattle.zone_core.specs.Zone.{Between, HaveSamePairs, IsInOrder, IsNear, IsTight, Meets, MeetsBoth};
 
 use crate::Bounds;
 
@@ -37,8 +37,7 @@ fn is_between(low: i64, x: i64, high: i64) -> bool
 }
 
 pub(crate) fn meets(k: Bounds, t: i64, u: i64) -> bool
-    requires t_near { Within moment_reach t }
-    requires u_near { Within moment_reach u }
+    requires { IsNear k }
     ensures { IsTrue result ↔ Meets k t u }
 {
     is_between(k.a, t, k.b) && is_between(k.c, u, k.d) && is_between(k.e, u - t, k.f)

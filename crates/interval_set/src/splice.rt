@@ -1,7 +1,7 @@
-//! The one kind of edit that each change of a list makes.
+//! The one kind of splice that each change of a list makes.
 ghost use Rattle.std.specs.Prelude.{◌≡◌, ℕ, ◌*◌, ◌^◌, ◌<◌, ◌≤◌, ◌++◌, length, take, drop, vec_len, OnOk, OnErr};
 ghost use Rattle.std.specs.Mem.{type_size};
-ghost use Rattle.interval_set.specs.Edits.{CanEdit, edited};
+ghost use Rattle.interval_set.specs.Splices.{CanSplice, spliced};
 
 use std::alloc::AllocError;
 
@@ -12,7 +12,7 @@ use std::alloc::AllocError;
 /// afterwards   a  b  x  y  e        before is x, own is y
 /// ```
 #[derive(Clone, Copy)]
-pub(crate) struct Edit<T> {
+pub(crate) struct Splice<T> {
     pub(crate) first: usize,
     pub(crate) last: usize,
     pub(crate) before: Option<T>,
@@ -20,12 +20,12 @@ pub(crate) struct Edit<T> {
     pub(crate) after: Option<T>,
 }
 
-impl<T: Copy> Edit<T> {
-    /// How many items the list would have after the edit.
+impl<T: Copy> Splice<T> {
+    /// How many items the list would have after the splice.
     pub(crate) fn count(&self, items: &[T]) -> usize
-        requires places { CanEdit self.now (length items.now) }
+        requires places { CanSplice self.now (length items.now) }
         requires small { length items.now < 2 ^ 63 }
-        ensures { result ≡ length (edited self.now items.now) }
+        ensures { result ≡ length (spliced self.now items.now) }
     {
         let pieces = usize::from(self.before.is_some())
             + usize::from(self.own.is_some())
@@ -33,11 +33,11 @@ impl<T: Copy> Edit<T> {
         self.first + pieces + (items.len() - self.last)
     }
 
-    /// Makes the edit. Without memory the list stays as it was.
+    /// Makes the splice. Without memory the list stays as it was.
     pub(crate) fn apply(&self, items: &mut Vec<T>) -> Result<(), AllocError>
-        requires places { CanEdit self.now (vec_len items.old) }
+        requires places { CanSplice self.now (vec_len items.old) }
         requires small { 3 * type_size T.row < 2 ^ 63 }
-        ensures ok { OnOk result (items.new.items ≡ edited self.now items.old.items) }
+        ensures ok { OnOk result (items.new.items ≡ spliced self.now items.old.items) }
         ensures err { OnErr result (items.new.items ≡ items.old.items) }
     {
         let (first, last) = (self.first, self.last);

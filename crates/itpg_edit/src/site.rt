@@ -4,7 +4,7 @@ use itpg_base::ObjNo;
 
 /// The object and the span that an edit is about.
 #[derive(Clone, Copy)]
-pub(crate) struct Place {
+pub(crate) struct Site {
     pub(crate) object: ObjNo,
     pub(crate) span: Span,
 }

@@ -7,15 +7,15 @@ use Rattle.itpg_base.specs.declared.object_number.ObjNo.{ObjNo}
 use Rattle.itpg_graph.specs.Edges.{HasNumber}
 use Rattle.itpg_edit.specs.declared.edit.Edit.{Edit}
 use Rattle.itpg_edit.specs.declared.edit.Edit.TheVariants.{Begin, AddNode, AddEdge, Live, Gone, Put, Clear}
-use Rattle.itpg_edit.specs.declared.place.Place.{Place}
+use Rattle.itpg_edit.specs.declared.site.Site.{Site}
 use Rattle.itpg_edit.specs.Facts.{span_of}
 
 -- in a good graph, the standing object of this name, and the span of the two moments, each in the horizon
-pub record IsPlace (g : Graph) (id : Word) (from to : ℤ) (place : Place) : Type 0 where
+pub record IsSite (g : Graph) (id : Word) (from to : ℤ) (site : Site) : Type 0 where
   pub good : Good g
   pub begun : IsSome g.begun
-  pub named : Named g place.object.0 id
-  pub span : place.span ≡ span_of from to
+  pub named : Named g site.object.0 id
+  pub span : site.span ≡ span_of from to
   pub ordered : from ≤ℤ to
   pub inside : (t : ℤ) → Within t (span_of from to) → InHorizon g t
 

@@ -1,7 +1,7 @@
 use Rattle.std.proofs.Common.{◌≡◌, ◌≤ℤ◌, rules}
 use Rattle.itpg_edit.specs.Facts.{span_of}
 use Rattle.itpg_edit.proofs.Checked.{outside, inside}
-use Rattle.itpg_edit.proofs.checks.place_of.Goals as goal
+use Rattle.itpg_edit.proofs.checks.site_of.Goals as goal
 
 pub returns-then-leaves-clause-broken : goal.returns-then-leaves-clause-broken
 returns-then-leaves-clause-broken c =
@@ -9,8 +9,8 @@ returns-then-leaves-clause-broken c =
     let is : c.in-Some-new.span ≡ span_of c.args.from.now c.args.to.now = search rules in
     outside c.args.graph.now c.args.id.now c.args.from.now c.args.to.now c.in-Some-find.object c.in-Some.horizon c.in-Some-new.span c.find.ensures.good c.in-Some.ensures.value c.in-Some-find.ensures.found is ordered (c.leaves.ensures.outside c.if-leaves.true)
 
-pub returns-else-leaves-clause-place : goal.returns-else-leaves-clause-place
-returns-else-leaves-clause-place c =
+pub returns-else-leaves-clause-site : goal.returns-else-leaves-clause-site
+returns-else-leaves-clause-site c =
     let ordered : c.args.from.now ≤ℤ c.args.to.now = search rules in
     let is : c.in-Some-new.span ≡ span_of c.args.from.now c.args.to.now = search rules in
     inside c.args.graph.now c.args.id.now c.args.from.now c.args.to.now c.in-Some-find.object c.in-Some.horizon c.in-Some-new.span c.find.ensures.good c.in-Some.ensures.value c.in-Some-find.ensures.found is ordered (c.leaves.ensures.inside c.if-leaves.false)
