@@ -7,7 +7,7 @@
 //! In contracts `held` is the list of all bands: its pairs are the relation whose runs are meant.
 
 ghost use Rattle.std.specs.Prelude.{◌≡◌, ◌↔◌, ◌++◌, [], ℤ, pos, ◌+ℤ◌, ◌≤ℤ◌, List, IfOk, OnOk, IfSome, IfNone};
-ghost use Rattle.zone_core.specs.Zone.{Within, moment_reach};
+ghost use Rattle.zone_core.specs.Zone.{Meets, Within, moment_reach};
 ghost use Rattle.band_normal.specs.declared.band.Band.{Band};
 ghost use Rattle.band_normal.specs.Lists.{Among, Ordered};
 ghost use Rattle.band_normal.specs.Bands.{IsWellFormed};
@@ -131,6 +131,25 @@ fn normal_of_bands(alloc: Global, bands: &[Band]) -> Result<Vec<Band>, AllocErro
     }
 }
 
+// The bands of one zone are its normal list as they stand.
+fn normal_of_one(alloc: Global, zone: &Zone) -> Result<Vec<Band>, AllocError>
+    ensures normal { IfOk result (λ v. Normal (Meets zone.now) v.items) }
+    ensures well_formed { IfOk result (λ v. (b : Band) → Among v.items b → IsWellFormed b) }
+{
+    let mut bands = Vec::new(alloc);
+    push_bands(&mut bands, bands_of(zone))?;
+    Ok(bands)
+}
+
+fn normal_of_many(alloc: Global, zones: &[Zone]) -> Result<Vec<Band>, AllocError>
+    ensures normal { IfOk result (λ rows. Normal (SomeMeets zones.now) rows.items) }
+    ensures well_formed { IfOk result (λ rows. (b : Band) → Among rows.items b → IsWellFormed b) }
+{
+    let mut bands = bands_of_all(alloc, zones)?;
+    bands.sort_by_key(|band| band.from)?;
+    normal_of_bands(alloc, &bands)
+}
+
 /// The normal list of the union of the zones.
 ///
 /// The zone of the pairs t, t with t from 0 to 9 has one band. With the pair 5, 6 beside it there are
@@ -157,7 +176,8 @@ pub fn normal(alloc: Global, zones: Vec<Zone>) -> Result<Vec<Band>, AllocError>
     ensures normal { IfOk result (λ rows. Normal (SomeMeets zones.items) rows.items) }
     ensures well_formed { IfOk result (λ rows. (b : Band) → Among rows.items b → IsWellFormed b) }
 {
-    let mut bands = bands_of_all(alloc, &zones)?;
-    bands.sort_by_key(|band| band.from)?;
-    normal_of_bands(alloc, &bands)
+    match &zones[..] {
+        [zone] => normal_of_one(alloc, zone),
+        many => normal_of_many(alloc, many),
+    }
 }
