@@ -111,7 +111,7 @@ pub(crate) fn gathered_of(
     ensures gives { Gives result (ItemsHold items.items) room }
     ensures counted { IsCounted result room }
 {
-    items.sort_by_key(|item| (item.0, item.1))?;
+    items.sort_unstable_by_key(|item| (item.0, item.1));
     gathered(alloc, &items, room)
 }
 

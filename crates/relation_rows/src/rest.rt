@@ -16,7 +16,7 @@ ghost use Rattle.relation_rows.specs.Rest.{SomeStopHas, IsLeft, AnyIsLeft};
 use crate::gather::Item;
 use crate::rows::Row;
 use crate::search::{is_of_key, rows_of_key};
-use crate::timetable::{Stop, departing, stops_of};
+use crate::timetable::{Stop, find_departing, stops_of};
 use band_normal::{Band, zone_of};
 use std::alloc::{AllocError, Global};
 use zone_core::Zone;
@@ -91,8 +91,9 @@ fn push_left(items: &mut Vec<Item>, rows: &[Row], stops: &[Stop]) -> Result<(), 
     ensures { OnOk result ((x : Point) → (y : Point) → ItemsHold items.new.items x y ↔ (ItemsHold items.old.items x y ⊎ AnyIsLeft rows.now stops.now x y)) }
 {
     let alloc = *items.allocator();
+    let mut cuts = Vec::new(alloc);
     for row in rows {
-        let cuts = departing(alloc, stops, row.source, departures_of(&row.band))?;
+        find_departing(&mut cuts, stops, row.source, departures_of(&row.band))?;
         let zones = left_of(alloc, row, &cuts)?;
         push_items(items, row, &zones)?;
     }

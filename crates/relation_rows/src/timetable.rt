@@ -158,17 +158,16 @@ fn push_departing(
     Ok(())
 }
 
-/// The stops of the object that have a departure in the span, both ends included.
-pub(crate) fn departing(
-    alloc: Global,
+/// Fills the list with the stops of the object that have a departure in the span, both ends included. What it held is gone.
+pub(crate) fn find_departing(
+    found: &mut Vec<Stop>,
     stops: &[Stop],
     object: ObjNo,
     span: (i64, i64),
-) -> Result<Vec<Stop>, AllocError>
+) -> Result<(), AllocError>
     requires { IsTimetable stops.now }
-    ensures { IfOk result (λ found. (s : PlainStop) → Among found.items s ↔ (Among stops.now s × DepartsWithin s object.0 span.0 span.1)) }
+    ensures { OnOk result ((s : PlainStop) → Among found.new.items s ↔ (Among stops.now s × DepartsWithin s object.0 span.0 span.1)) }
 {
-    let mut found = Vec::new(alloc);
-    push_departing(&mut found, stops, object, span)?;
-    Ok(found)
+    found.clear();
+    push_departing(found, stops, object, span)
 }

@@ -16,7 +16,7 @@ ghost use Rattle.relation_rows.specs.Ways.{ItemThere, GoesOn, AllGoOn};
 use crate::gather::{Item, gathered_of};
 use crate::relations::Relation;
 use crate::rows::{RelFault, Row};
-use crate::timetable::{Stop, departing};
+use crate::timetable::{Stop, find_departing};
 use band_normal::zone_of;
 use itpg_base::ObjNo;
 use std::alloc::{AllocError, Global};
@@ -37,15 +37,20 @@ fn push_there(
     Ok(())
 }
 
-// Adds the ways that begin with the row.
-fn push_ways(items: &mut Vec<Item>, row: &Row, stops: &[Stop]) -> Result<(), AllocError>
+// Adds the ways that begin with the row. What is in `found` is for this call alone, in memory that all rows share.
+fn push_ways(
+    items: &mut Vec<Item>,
+    found: &mut Vec<Stop>,
+    row: &Row,
+    stops: &[Stop],
+) -> Result<(), AllocError>
     requires row { IsWellFormed row.now.band }
     requires stops { IsTimetable stops.now }
     ensures { OnOk result ((x : Point) → (y : Point) → ItemsHold items.new.items x y ↔ (ItemsHold items.old.items x y ⊎ GoesOn row.now stops.now x y)) }
 {
     let zone = zone_of(&row.band);
-    let found = departing(*items.allocator(), stops, row.target, arrivals(&zone))?;
-    for stop in &found {
+    find_departing(found, stops, row.target, arrivals(&zone))?;
+    for stop in found.as_slice() {
         let way = compose(&zone, &zone_of(&stop.row.band));
         push_there(items, row.source, stop.row.target, way)?;
     }
@@ -59,8 +64,9 @@ fn ways_from(alloc: Global, rows: &[Row], stops: &[Stop]) -> Result<Vec<Item>, A
     ensures { IfOk result (λ items. (x : Point) → (y : Point) → ItemsHold items.items x y ↔ AllGoOn rows.now stops.now x y) }
 {
     let mut items = Vec::new(alloc);
+    let mut found = Vec::new(alloc);
     for row in rows {
-        push_ways(&mut items, row, stops)?;
+        push_ways(&mut items, &mut found, row, stops)?;
     }
     Ok(items)
 }

@@ -11,11 +11,11 @@ use Rattle.relation_rows.proofs.gather.gathered_of.Goals as goal
 pub gathered-requires : goal.gathered-requires
 gathered-requires c =
     subst (λ (v : List Item). Ordered ItemUpTo v) (sym c.deref.ensures.value)
-    (sorted_items c.sort_by_key.new.self.items (c.in_ok-sort_by_key.ensures.sorted (λ (i : Item). (i.0, i.1)) (always_returns_same _ _ _ (λ a r q k. search rules))))
+    (sorted_items c.sort_unstable_by_key.new.self.items (c.sort_unstable_by_key.ensures.sorted (λ (i : Item). (i.0, i.1)) (always_returns_same _ _ _ (λ a r q k. search rules))))
 
 pub returns-clause-gives : goal.returns-clause-gives
 returns-clause-gives c =
-    gives_alike (ItemsHold c.sort_by_key.new.self.items) (ItemsHold c.args.items.items)
-    (items_from c.args.items.items c.sort_by_key.new.self.items c.sort_by_key.ensures.permutation)
-    (items_to c.args.items.items c.sort_by_key.new.self.items c.sort_by_key.ensures.permutation)
+    gives_alike (ItemsHold c.sort_unstable_by_key.new.self.items) (ItemsHold c.args.items.items)
+    (items_from c.args.items.items c.sort_unstable_by_key.new.self.items c.sort_unstable_by_key.ensures.permutation)
+    (items_to c.args.items.items c.sort_unstable_by_key.new.self.items c.sort_unstable_by_key.ensures.permutation)
     c.args.room c.gathered.result (subst (λ (v : List Item). Gives c.gathered.result (ItemsHold v) c.args.room) c.deref.ensures.value c.gathered.ensures.gives)
