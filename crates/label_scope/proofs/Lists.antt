@@ -1,8 +1,7 @@
 -- What a list contains, element by element.
-use Rattle.std.proofs.Common.{◌≡◌, ℕ, zero, suc, ◌<◌, List, [], ◌∷◌, Bool, true, false, ◌⊎◌, inl, inr, ⊎_elim, filter, length, refl, sym, ap, subst, ◌∙◌, cond, true≢false, arith}
-use Rattle.std.specs.Prelude.{Contains, slice_index_or, nat_eq}
-use Rattle.std.specs.List.{list_any}
-use Rattle.std.specs.Cmp.Lexicographic.{pointwise, nat_list_eq_equiv}
+use Rattle.std.proofs.Common.{◌≡◌, zero, suc, ◌<◌, List, [], ◌∷◌, Bool, true, false, ◌⊎◌, inl, inr, ⊎_elim, filter, length, refl, sym, ap, subst, ◌∙◌, cond, true≢false, arith}
+use Rattle.std.specs.Prelude.{Contains}
+use Rattle.std.specs.Cmp.Lexicographic.{nat_list_eq_equiv}
 use Rattle.std.proofs.lemmas.Map.Views.{list_any-from_Contains, Contains-from_any}
 use Rattle.itpg_base.specs.Words.{Word}
 use Rattle.itpg_base.proofs.Objects.{word_same}

@@ -1,13 +1,13 @@
 -- Labels at their places in rising lists.
 use Rattle.std.proofs.Common.{◌≡◌, ℕ, zero, suc, List, [], ◌∷◌, ◌++◌, Bool, true, false, filter, take, drop, inl, inr, refl, sym, ap, subst, ◌∙◌, cond, length, ◌<◌, ◌+◌, get_or, arith}
-use Rattle.std.specs.Prelude.{Contains, nat_eq, insert}
+use Rattle.std.specs.Prelude.{Contains, insert}
 use Rattle.std.specs.Ordering.{nat_cmp, ordering_reverse}
 use Rattle.std.specs.Cmp.Lexicographic.{slice_cmp, nat_list_cmp_total}
 use Rattle.std.specs.FinMap.{slice_cmp-IsAntisymmetric, nat_cmp-IsAntisymmetric}
 use Rattle.std.specs.declared.cmp.Ordering.{Ordering}
 use Rattle.std.specs.declared.cmp.Ordering.TheVariants.{Less, Equal, Greater}
 use Rattle.itpg_base.specs.Words.{Word, IsBefore, StartsBefore, IsRising}
-use Rattle.label_scope.specs.Labels.{placed, with_label, labels_of_either, has_label, labels_of_both}
+use Rattle.label_scope.specs.Labels.{placed, with_label, labels_of_either, has_label}
 use Rattle.std.proofs.lemmas.List.{append-nil}
 use Rattle.std.proofs.lemmas.List.Elements.{filter_more}
 use Rattle.label_scope.proofs.Lists.{first, more, first_or_more, nothing, tests_label, label_tested}

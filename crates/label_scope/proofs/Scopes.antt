@@ -1,13 +1,13 @@
 -- What scopes have.
-use Rattle.std.proofs.Common.{◌≡◌, ℕ, zero, suc, ◌<◌, List, [], ◌∷◌, Bool, true, false, ◌⊎◌, inl, inr, length, refl, sym, subst}
+use Rattle.std.proofs.Common.{◌≡◌, ◌<◌, List, [], ◌∷◌, inl, inr, length, sym, subst}
 use Rattle.std.specs.Prelude.{Contains}
 use Rattle.itpg_base.specs.Words.{Word}
 use Rattle.itpg_base.specs.Decided.{Decided}
 use Rattle.itpg_base.proofs.Searches.{contains}
 use Rattle.label_scope.specs.declared.scope.Scope.{Scope}
 use Rattle.label_scope.specs.declared.scope.Scope.TheVariants.{All, These}
-use Rattle.label_scope.specs.Labels.{has_label, labels_of_both, labels_of_either}
-use Rattle.label_scope.specs.Scopes.{Has, met, joined, met_where}
+use Rattle.label_scope.specs.Labels.{has_label}
+use Rattle.label_scope.specs.Scopes.{Has, met, joined}
 use Rattle.label_scope.proofs.Lists.{nothing, first, more, first_or_more, same_one, tests_label, label_tested, kept, was_there, passed}
 use Rattle.label_scope.proofs.Placing.{has_first_list, has_second_list}
 

@@ -1,9 +1,8 @@
 -- A path leads between objects that are within its scopes.
-use Rattle.std.proofs.Common.{◌≡◌, ℕ, zero, suc, ◌<◌, ◌≤◌, List, [], ◌∷◌, Bool, true, false, ◌⊎◌, inl, inr, Option, Some, None, length, refl, sym, subst, ap, arith}
-use Rattle.std.specs.Prelude.{Contains, IsSomeAnd, slice_get, IsTrue}
-use Rattle.itpg_base.specs.Words.{Word}
+use Rattle.std.proofs.Common.{◌≡◌, ℕ, zero, suc, ◌<◌, List, [], ◌∷◌, Bool, true, false, inl, inr, length, refl, sym, subst, arith}
+use Rattle.std.specs.Prelude.{slice_get, IsTrue}
 use Rattle.itpg_base.specs.Decided.{Decided}
-use Rattle.itpg_base.specs.Graphs.{Graph, Object, Good, ObjectIs, Stands}
+use Rattle.itpg_base.specs.Graphs.{Graph, Object, Good, ObjectIs}
 use Rattle.itpg_base.specs.Points.{Point, Relation, IsAt}
 use Rattle.itpg_base.proofs.Objects.{there, here, same_some}
 use Rattle.itpg_base.proofs.Searches.{if_some}
@@ -12,9 +11,9 @@ use Rattle.itpg_base.specs.Walks.{IsWalk}
 use Rattle.path_ast.specs.Meaning.{Rel, Sat, keeps_object}
 use Rattle.path_ast.proofs.Pairs.{keeps, starts_at, ends_at}
 use Rattle.label_scope.specs.declared.scope.Scope.{Scope}
-use Rattle.label_scope.specs.declared.scope.Scope.TheVariants.{All, These}
-use Rattle.label_scope.specs.Scopes.{Has, IsWithin, met, joined, met_where, unless_never, one_label, source_scope, test_scope, target_scope}
-use Rattle.label_scope.specs.Narrowing.{Scopes, Cut, both_where, narrowed}
+use Rattle.label_scope.specs.declared.scope.Scope.TheVariants.{All}
+use Rattle.label_scope.specs.Scopes.{Has, IsWithin, met, joined, met_where, source_scope, test_scope, target_scope}
+use Rattle.label_scope.specs.Narrowing.{Cut, both_where, narrowed}
 use Rattle.label_scope.proofs.Lists.{first}
 use Rattle.label_scope.proofs.Scopes.{has_met, met_has_first, met_has_second, has_joined_first, has_joined_second, decide_has}
 

@@ -5,7 +5,7 @@ use Rattle.itpg_base.specs.Chains.{chain}
 use Rattle.path_ast.specs.Terms.{PathTerm, OfTest, Forward, Backward, Next, Previous, Sequence, Choice, Repetition, TestTerm, IsNode, IsEdge, HasLabel, HasValue, IsBelow, DoesExist, Condition, Conjunction, Disjunction, Negation}
 use Rattle.path_ast.specs.Meaning.{keeps_object}
 use Rattle.label_scope.specs.declared.scope.Scope.{Scope}
-use Rattle.label_scope.specs.declared.scope.Scope.TheVariants.{All, These}
+use Rattle.label_scope.specs.declared.scope.Scope.TheVariants.{All}
 use Rattle.label_scope.specs.Scopes.{met, joined, met_where, source_scope, target_scope}
 use Rattle.label_scope.specs.Narrowing.{Scopes, narrowed}
 

@@ -1,7 +1,7 @@
 -- A path between two scopes.
 use Rattle.std.specs.Prelude.{Bool, true, false}
 use Rattle.itpg_base.specs.Graphs.{Graph}
-use Rattle.itpg_base.specs.Points.{Point, Relation}
+use Rattle.itpg_base.specs.Points.{Point}
 use Rattle.path_ast.specs.Terms.{PathTerm}
 use Rattle.path_ast.specs.Meaning.{Rel, keeps_object}
 use Rattle.label_scope.specs.declared.scope.Scope.{Scope}

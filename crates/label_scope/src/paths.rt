@@ -1,13 +1,100 @@
 //! The scopes of a path.
-ghost use Rattle.std.specs.Prelude.{◌≡◌, IfOk};
+ghost use Rattle.std.specs.Prelude.{◌≡◌, ◌&&◌, IfOk};
 ghost use Rattle.path_ast.specs.Terms.{path_term, test_term};
 ghost use Rattle.path_ast.specs.Meaning.{keeps_object};
-ghost use Rattle.label_scope.specs.Scopes.{source_scope, target_scope, test_scope};
+ghost use Rattle.label_scope.specs.declared.scope.Scope.TheVariants.{All};
+ghost use Rattle.label_scope.specs.Scopes.{met, joined, unless_never, source_scope, target_scope, test_scope};
 ghost use Rattle.label_scope.specs.Narrowing.{narrowed};
 
 use crate::scope::Scope;
 use path_ast::{Path, Test};
 use std::alloc::{AllocError, Global};
+
+// One end of a path: the scope in which it can be, and whether the path keeps its object. Both are found in one walk along the
+// path, because what stands behind a part counts only where the part keeps its object.
+#[derive(Drop)]
+struct Side {
+    scope: Scope,
+    keeps: bool,
+}
+
+fn anywhere(keeps: bool) -> Side
+    ensures scope { result.scope ≡ All }
+    ensures keeps { result.keeps ≡ keeps }
+{
+    Side {
+        scope: Scope::All,
+        keeps,
+    }
+}
+
+// The end at which the path starts.
+#[cycle(sources)]
+fn source_side(alloc: Global, path: &Path) -> Result<Side, AllocError>
+    ensures scope { IfOk result (λ side. side.scope ≡ source_scope (path_term path.now)) }
+    ensures keeps { IfOk result (λ side. side.keeps ≡ keeps_object (path_term path.now)) }
+{
+    match path {
+        Path::Test(test) => Ok(Side {
+            scope: test_src(alloc, test)?,
+            keeps: true,
+        }),
+        Path::N | Path::P => Ok(anywhere(true)),
+        Path::F | Path::B => Ok(anywhere(false)),
+        Path::Seq(first, second) => {
+            let own = source_side(alloc, first)?;
+            if own.keeps {
+                let behind = source_side(alloc, second)?;
+                both_sides(alloc, &own, &behind)
+            } else {
+                Ok(own)
+            }
+        }
+        Path::Alt(one, other) => {
+            let by_one = source_side(alloc, one)?;
+            let by_other = source_side(alloc, other)?;
+            either_side(alloc, &by_one, &by_other)
+        }
+        Path::Repeat { body, least, .. } => {
+            let once = source_side(alloc, body)?;
+            Ok(repeated_side(once, *least))
+        }
+    }
+}
+
+// The side of a sequence where its nearer part keeps its object.
+fn both_sides(alloc: Global, near: &Side, far: &Side) -> Result<Side, AllocError>
+    ensures scope { IfOk result (λ side. side.scope ≡ met near.now.scope far.now.scope) }
+    ensures keeps { IfOk result (λ side. side.keeps ≡ far.now.keeps) }
+{
+    Ok(Side {
+        scope: near.scope.meet(alloc, &far.scope)?,
+        keeps: far.keeps,
+    })
+}
+
+// The side of a choice.
+fn either_side(alloc: Global, one: &Side, other: &Side) -> Result<Side, AllocError>
+    ensures scope { IfOk result (λ side. side.scope ≡ joined one.now.scope other.now.scope) }
+    ensures keeps { IfOk result (λ side. side.keeps ≡ (one.now.keeps && other.now.keeps)) }
+{
+    Ok(Side {
+        scope: one.scope.join(alloc, &other.scope)?,
+        keeps: one.keeps && other.keeps,
+    })
+}
+
+// The side of a repetition, by that of its body.
+fn repeated_side(once: Side, least: u64) -> Side
+    ensures scope { result.scope ≡ unless_never least once.scope }
+    ensures keeps { result.keeps ≡ once.keeps }
+{
+    if least > 0 {
+        once
+    } else {
+        anywhere(once.keeps)
+    }
+}
 
 /// The scope in which the path can start.
 ///
@@ -17,25 +104,11 @@ use std::alloc::{AllocError, Global};
 ///     (:Person/N)[0,3]      All: it may be repeated no time
 ///     (:Person/N)[1,3]      {Person}
 /// ```
-#[cycle(sources)]
 pub fn src(alloc: Global, path: &Path) -> Result<Scope, AllocError>
     ensures { IfOk result (λ scope. scope ≡ source_scope (path_term path.now)) }
 {
-    match path {
-        Path::Test(test) => test_src(alloc, test),
-        Path::F | Path::B | Path::N | Path::P => Ok(Scope::All),
-        Path::Seq(first, second) => {
-            let own = src(alloc, first)?;
-            if keeps(first) {
-                own.meet(alloc, &src(alloc, second)?)
-            } else {
-                Ok(own)
-            }
-        }
-        Path::Alt(one, other) => src(alloc, one)?.join(alloc, &src(alloc, other)?),
-        Path::Repeat { body, least, .. } if *least > 0 => src(alloc, body),
-        Path::Repeat { .. } => Ok(Scope::All),
-    }
+    let Side { scope, .. } = source_side(alloc, path)?;
+    Ok(scope)
 }
 
 // The scope in which the test can hold.
@@ -45,10 +118,46 @@ fn test_src(alloc: Global, test: &Test) -> Result<Scope, AllocError>
 {
     match test {
         Test::Label(label) => Scope::one(alloc, *label),
-        Test::Cond(path) => src(alloc, path),
+        Test::Cond(path) => {
+            let Side { scope, .. } = source_side(alloc, path)?;
+            Ok(scope)
+        }
         Test::And(one, other) => test_src(alloc, one)?.meet(alloc, &test_src(alloc, other)?),
         Test::Or(one, other) => test_src(alloc, one)?.join(alloc, &test_src(alloc, other)?),
         _ => Ok(Scope::All),
+    }
+}
+
+// The end at which the path ends.
+fn target_side(alloc: Global, path: &Path) -> Result<Side, AllocError>
+    ensures scope { IfOk result (λ side. side.scope ≡ target_scope (path_term path.now)) }
+    ensures keeps { IfOk result (λ side. side.keeps ≡ keeps_object (path_term path.now)) }
+{
+    match path {
+        Path::Test(test) => Ok(Side {
+            scope: test_src(alloc, test)?,
+            keeps: true,
+        }),
+        Path::N | Path::P => Ok(anywhere(true)),
+        Path::F | Path::B => Ok(anywhere(false)),
+        Path::Seq(first, second) => {
+            let own = target_side(alloc, second)?;
+            if own.keeps {
+                let before = target_side(alloc, first)?;
+                both_sides(alloc, &own, &before)
+            } else {
+                Ok(own)
+            }
+        }
+        Path::Alt(one, other) => {
+            let by_one = target_side(alloc, one)?;
+            let by_other = target_side(alloc, other)?;
+            either_side(alloc, &by_one, &by_other)
+        }
+        Path::Repeat { body, least, .. } => {
+            let once = target_side(alloc, body)?;
+            Ok(repeated_side(once, *least))
+        }
     }
 }
 
@@ -56,21 +165,8 @@ fn test_src(alloc: Global, test: &Test) -> Result<Scope, AllocError>
 pub fn tgt(alloc: Global, path: &Path) -> Result<Scope, AllocError>
     ensures { IfOk result (λ scope. scope ≡ target_scope (path_term path.now)) }
 {
-    match path {
-        Path::Test(test) => test_src(alloc, test),
-        Path::F | Path::B | Path::N | Path::P => Ok(Scope::All),
-        Path::Seq(first, second) => {
-            let own = tgt(alloc, second)?;
-            if keeps(second) {
-                own.meet(alloc, &tgt(alloc, first)?)
-            } else {
-                Ok(own)
-            }
-        }
-        Path::Alt(one, other) => tgt(alloc, one)?.join(alloc, &tgt(alloc, other)?),
-        Path::Repeat { body, least, .. } if *least > 0 => tgt(alloc, body),
-        Path::Repeat { .. } => Ok(Scope::All),
-    }
+    let Side { scope, .. } = target_side(alloc, path)?;
+    Ok(scope)
 }
 
 /// Whether the path keeps its object by its form: neither F nor B stands in it, but in a condition. It takes no memory.
@@ -101,9 +197,10 @@ pub fn narrow(
     ensures sources { IfOk result (λ pair. pair.0 ≡ (narrowed (path_term path.now) a.now b.now).sources) }
     ensures targets { IfOk result (λ pair. pair.1 ≡ (narrowed (path_term path.now) a.now b.now).targets) }
 {
-    let sources = a.meet(alloc, &src(alloc, path)?)?;
+    let start = source_side(alloc, path)?;
+    let sources = a.meet(alloc, &start.scope)?;
     let targets = b.meet(alloc, &tgt(alloc, path)?)?;
-    if keeps(path) {
+    if start.keeps {
         let both = sources.meet(alloc, &targets)?;
         Ok((both.copy(alloc)?, both))
     } else {

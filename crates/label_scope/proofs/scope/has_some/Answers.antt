@@ -1,4 +1,4 @@
-use Rattle.std.proofs.Common.{◌≡◌, ◌≤◌, length, take, sym, subst, rules, true≢false, arith}
+use Rattle.std.proofs.Common.{◌≡◌, take, sym, subst, true≢false, arith}
 use Rattle.std.specs.Prelude.{Contains}
 use Rattle.std.proofs.lemmas.List.{take_all}
 use Rattle.label_scope.proofs.scope.has_some.Goals as goal

@@ -1,4 +1,4 @@
-use Rattle.std.proofs.Common.{List, take}
+use Rattle.std.proofs.Common.{take}
 use Rattle.std.specs.Prelude.{Contains}
 use Rattle.itpg_base.specs.Words.{Word}
 use Rattle.label_scope.proofs.scope.has_some.Given as goal

@@ -1,6 +1,6 @@
 use Rattle.std.proofs.Common.{◌≡◌, ◌<◌, ◌≤◌, length, get_or, sym, ap, subst, ◌∙◌, rules, filter, take, ◌++◌, ◌∷◌, [], true≢false}
 use Rattle.std.proofs.lemmas.List.{take_all}
-use Rattle.itpg_base.specs.Words.{Word, IsRising}
+use Rattle.itpg_base.specs.Words.{IsRising}
 use Rattle.label_scope.specs.Labels.{has_label}
 use Rattle.label_scope.proofs.Placing.{kept_more, left_more, filter-rising}
 use Rattle.label_scope.proofs.labels.Labels.of_both.Goals as goal
