@@ -1,5 +1,5 @@
 -- Labels at their places in rising lists.
-use Rattle.std.proofs.Common.{◌≡◌, ℕ, zero, suc, List, [], ◌∷◌, ◌++◌, Bool, true, false, filter, take, drop, inl, inr, refl, sym, ap, subst, ◌∙◌, cond, length, ◌<◌, ◌+◌, get_or, arith}
+use Rattle.std.proofs.Common.{◌≡◌, ℕ, zero, suc, List, [], ◌∷◌, ◌++◌, Bool, true, false, ◌⊎◌, filter, take, drop, inl, inr, refl, sym, ap, subst, ◌∙◌, cond, length, ◌<◌, ◌+◌, get_or, arith}
 use Rattle.std.specs.Prelude.{Contains, insert}
 use Rattle.std.specs.Ordering.{nat_cmp, ordering_reverse}
 use Rattle.std.specs.Cmp.Lexicographic.{slice_cmp, nat_list_cmp_total}
@@ -69,6 +69,30 @@ has_second_list ls (m ∷ ms) label h = elim (first_or_more label m ms h) [
   | inl same ↦ has_first_list (with_label ls m) ms label (subst (Contains (with_label ls m)) same (has_placed ls m))
   | inr later ↦ has_second_list (with_label ls m) ms label later
 ]
+
+-- and no other label is
+was_placed : (ls : List Word) (m label : Word) → Contains (with_label ls m) label → Contains ls label ⊎ (m ≡ label)
+was_placed [] m label h = elim (first_or_more label m [] h) [ inl same ↦ inr same | inr later ↦ inl later ]
+was_placed (x ∷ rest) m label h = by_order (slice_cmp nat_cmp m x) (was_placed rest m label) h
+  where
+    by_order : (o : Ordering) → (Contains (with_label rest m) label → Contains rest label ⊎ (m ≡ label)) → Contains (placed o m x rest (with_label rest m)) label → Contains (x ∷ rest) label ⊎ (m ≡ label)
+    by_order Less behind k = elim (first_or_more label m (x ∷ rest) k) [ inl same ↦ inr same | inr later ↦ inl later ]
+    by_order Equal behind k = inl k
+    by_order Greater behind k = elim (first_or_more label x (with_label rest m) k) [
+      | inl same ↦ inl (subst (Contains (x ∷ rest)) same (first x rest))
+      | inr later ↦ elim (behind later) [ inl before ↦ inl (more label x rest before) | inr same ↦ inr same ]
+    ]
+
+pub from_either : (ls ms : List Word) (label : Word) → Contains (labels_of_either ls ms) label → Contains ls label ⊎ Contains ms label
+from_either ls [] label h = inl h
+from_either ls (m ∷ ms) label h = elim (from_either (with_label ls m) ms label h) [
+  | inl one ↦ elim (was_placed ls m label one) [ inl before ↦ inl before | inr same ↦ inr (subst (Contains (m ∷ ms)) same (first m ms)) ]
+  | inr later ↦ inr (more label m ms later)
+]
+
+pub either-rising : (ls ms : List Word) → IsRising ls → IsRising (labels_of_either ls ms)
+either-rising ls [] h = h
+either-rising ls (m ∷ ms) h = either-rising (with_label ls m) ms (with_label-rising ls m h)
 
 -- a list of which some labels are left rises still
 starts_before_kept : (p : Word → Bool) (a : Word) (ls : List Word) → StartsBefore a ls → IsRising ls → StartsBefore a (filter p ls)

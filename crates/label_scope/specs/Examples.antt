@@ -1,6 +1,6 @@
 -- The worked members of some questions, listed by hand.
 use Rattle.std.specs.Prelude.{ℕ, List, [], ◌∷◌, Some, None, codes}
-use Rattle.path_ast.specs.Terms.{PathTerm, OfTest, Forward, Next, Sequence, Repetition, IsNode, HasLabel, DoesExist, Conjunction}
+use Rattle.path_ast.specs.Terms.{PathTerm, OfTest, Forward, Next, Sequence, Choice, Repetition, IsNode, HasLabel, DoesExist, Condition, Conjunction, Negation}
 use Rattle.label_scope.specs.declared.scope.Scope.{Scope}
 use Rattle.label_scope.specs.declared.scope.Scope.TheVariants.{All, These}
 use Rattle.label_scope.specs.Scopes.{one_label}
@@ -25,6 +25,10 @@ from_to_anything start path = Sequence (Sequence start path) anything
 -- the path at most so many times
 abbrev pub at_most : ℕ → PathTerm → PathTerm
 at_most m path = Repetition path 0 (Some m)
+
+-- the path exactly so many times
+abbrev pub exactly : ℕ → PathTerm → PathTerm
+exactly n path = Repetition path n (Some n)
 
 -- N/N
 abbrev pub two_steps : PathTerm
@@ -59,6 +63,23 @@ wait_members =
     ∷ at_most 12 Next
     ∷ Next
     ∷ at_most 1 Next ∷ at_most 2 Next ∷ at_most 3 Next ∷ at_most 6 Next ∷ at_most 6 Next ∷ at_most 12 Next ∷ at_most 12 Next
+    ∷ anything
+    ∷ []
+
+-- N[2,5]
+abbrev pub two_to_five_steps : PathTerm
+two_to_five_steps = Repetition Next 2 (Some 5)
+
+-- the members of (x)-/N[2,5]/-(y)
+abbrev pub later_wait_members : List PathTerm
+later_wait_members =
+    from_to_anything anything two_to_five_steps
+    ∷ Sequence anything two_to_five_steps
+    ∷ anything
+    ∷ two_to_five_steps
+    ∷ Next
+    ∷ exactly 1 Next ∷ exactly 2 Next ∷ exactly 2 Next
+    ∷ at_most 1 Next ∷ at_most 2 Next ∷ at_most 3 Next
     ∷ anything
     ∷ []
 
@@ -139,6 +160,33 @@ meeting_members =
     ∷ between persons_and_rooms persons_and_rooms (at_most 2 meeting)
     ∷ between persons_and_rooms persons_and_rooms (at_most 2 meeting)
     ∷ between persons persons person
+    ∷ []
+
+-- F/:meets
+abbrev pub into_meeting : PathTerm
+into_meeting = Sequence Forward at_meets
+
+-- {NOT ?(F/:meets + N)}
+abbrev pub without_meeting_or_step : PathTerm
+without_meeting_or_step = OfTest (Negation (Condition (Choice into_meeting Next)))
+
+-- (x:Person)-/{NOT ?(F/:meets + N)}/-(y)
+abbrev pub persons_without_meeting : PathTerm
+persons_without_meeting = from_to_anything person without_meeting_or_step
+
+-- the members of (x:Person)-/{NOT ?(F/:meets + N)}/-(y)
+abbrev pub without_meeting_members : List Member
+without_meeting_members =
+    between persons persons persons_without_meeting
+    ∷ between persons persons (Sequence person without_meeting_or_step)
+    ∷ between persons persons person
+    ∷ between persons persons without_meeting_or_step
+    ∷ between persons All (Choice into_meeting Next)
+    ∷ between persons meetings into_meeting
+    ∷ between persons meetings Forward
+    ∷ between meetings meetings at_meets
+    ∷ between persons persons Next
+    ∷ between persons persons anything
     ∷ []
 
 -- the members of start -/(N/N)[0,3]/-(y)

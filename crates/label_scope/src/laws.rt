@@ -1,14 +1,24 @@
 //! The laws of scopes. Each is the contract of a function that does nothing.
-ghost use Rattle.std.specs.Prelude.{◌≡◌, ◌↔◌, ℕ, IsTrue};
+ghost use Rattle.std.specs.Prelude.{◌≡◌, ◌↔◌, ◌⊎◌, ℕ, List, IsTrue, Contains};
 ghost use Rattle.itpg_base.specs.Decided.{Decided};
+ghost use Rattle.itpg_base.specs.Words.{Word, IsRising};
 ghost use Rattle.itpg_base.specs.Graphs.{Graph, Good};
 ghost use Rattle.itpg_base.specs.Points.{Point, IsAt};
 ghost use Rattle.path_ast.specs.Terms.{PathTerm, TestTerm};
 ghost use Rattle.path_ast.specs.Meaning.{Rel, Sat, keeps_object};
 ghost use Rattle.label_scope.specs.declared.scope.Scope.{Scope};
 ghost use Rattle.label_scope.specs.declared.scope.Scope.TheVariants.{All};
+ghost use Rattle.label_scope.specs.Labels.{labels_of_both, labels_of_either};
 ghost use Rattle.label_scope.specs.Scopes.{IsWithin, source_scope, target_scope, test_scope};
 ghost use Rattle.label_scope.specs.Narrowing.{Cut, narrowed};
+
+/// Of two lists of labels, the labels of both are those that stand in the one and in the other, and the labels of either those
+/// that stand in the one or in the other. Where the lists rise, so do these.
+pub fn law_of_labels()
+    ensures both { (these others : List Word) (label : Word) → Contains (labels_of_both these others) label ↔ (Contains these label × Contains others label) }
+    ensures either { (these others : List Word) (label : Word) → Contains (labels_of_either these others) label ↔ (Contains these label ⊎ Contains others label) }
+    ensures rising { (these others : List Word) → IsRising these → IsRising (labels_of_both these others) × IsRising (labels_of_either these others) }
+{}
 
 /// On a good graph a path leads from an object within its source scope to one within its target scope, and a test holds
 /// at points of objects within its scope alone. A path that keeps its object leads to the same object.

@@ -2,12 +2,17 @@
 ghost use Rattle.std.specs.Prelude.{◌≡◌, List, [], ◌∷◌, ◌++◌};
 ghost use Rattle.label_scope.specs.declared.scope.Scope.TheVariants.{All};
 ghost use Rattle.label_scope.specs.Members.{Member, worked};
-ghost use Rattle.label_scope.specs.Examples.{anything, person, persons, from_to_anything, at_most, two_steps, contacts, within, wait_members, double_step_members, step_to_an_edge, step_members, meetings_from_a_room, meeting_members};
+ghost use Rattle.label_scope.specs.Examples.{anything, person, persons, from_to_anything, at_most, two_steps, contacts, within, wait_members, double_step_members, step_to_an_edge, step_members, meetings_from_a_room, meeting_members, two_to_five_steps, later_wait_members, persons_without_meeting, without_meeting_members};
 ghost use Rattle.path_ast.specs.Terms.{Next};
 
 /// `(x)-/N[0,12]/-(y)`: the repetition goes through the powers up to 1, 2, 3, 6 and 12.
 pub fn members_of_a_wait()
     ensures { worked (from_to_anything anything (at_most 12 Next)) All All ≡ within All wait_members }
+{}
+
+/// `(x)-/N[2,5]/-(y)`: first the powers on the way to 2, then the powers up to those on the way to 3, which are left.
+pub fn members_of_a_later_wait()
+    ensures { worked (from_to_anything anything two_to_five_steps) All All ≡ within All later_wait_members }
 {}
 
 /// `(x)-/(N/N)[0,3]/-(y)`: every member lies between `All` and `All`.
@@ -34,4 +39,10 @@ pub fn members_of_a_step_to_an_edge()
 /// of its start, of its end, or between two meetings.
 pub fn members_of_meetings_from_a_room()
     ensures { worked meetings_from_a_room All All ≡ meeting_members }
+{}
+
+/// `(x:Person)-/{NOT ?(F/:meets + N)}/-(y)`: the condition is worked from the label Person to `All`, and so are both of its
+/// paths, each between what its own labels leave of that.
+pub fn members_of_persons_without_meeting()
+    ensures { worked persons_without_meeting All All ≡ without_meeting_members }
 {}

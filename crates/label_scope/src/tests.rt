@@ -1,3 +1,4 @@
+//! Scopes of a path, and scopes met and joined, with labels that were worked out by hand.
 use super::*;
 use itpg_base::{LabelSet, Name};
 use path_ast::{Path, Test};
