@@ -8,6 +8,7 @@ pub mod Leading
 pub mod Working
 pub mod Inner
 pub mod Walking
+pub mod Bounded
 pub mod Diagonals
 pub mod MembersWithin
 pub mod Composing

@@ -1,9 +1,9 @@
 //! The relation of a path between two scopes, worked out on a graph, and the answer of a query.
 //!
-//! Stands on `condition_eval`, by which tests are worked out, on `relation_rows`, by whose operations paths are, and on
-//! `label_scope`, whose scopes say between which objects. It promises that each path gives the normal rows of exactly what it
-//! means, and that a limit of rows refuses it exactly where some member that is worked out on the way has more. By its laws
-//! each question has one answer.
+//! Stands on `condition_eval`, by which tests are worked out, on `relation_rows`, by whose operations paths are, on
+//! `repeat_engine`, by which repetitions are, and on `label_scope`, whose scopes say between which objects. It promises that
+//! each path gives the normal rows of exactly what it means, and that a limit of rows refuses it exactly where some member
+//! that is worked out on the way has more. By its laws each question has one answer.
 #![tactic(auto)]
 
 mod answering;
@@ -20,4 +20,4 @@ mod tests;
 pub use answering::answer;
 pub use evaluation::{EvalFault, relation_of};
 pub use laws::{law_of_cuts, law_of_members, law_of_times};
-pub use passing::law_of_passing;
+pub use passing::{law_of_many_times, law_of_passing};

@@ -1,8 +1,8 @@
-//! What a repetition passes, as the contract of a function that does nothing.
-ghost use Rattle.std.specs.Prelude.{List, ◌∷◌};
+//! The laws of repetitions. Each is the contract of a function that does nothing.
+ghost use Rattle.std.specs.Prelude.{◌↔◌, ℕ, ◌^◌, ◌≤◌, List, ◌∷◌, Some, None};
 ghost use Rattle.itpg_base.specs.Graphs.{Graph, Good};
 ghost use Rattle.itpg_base.specs.Points.{Point};
-ghost use Rattle.path_ast.specs.Terms.{PathTerm};
+ghost use Rattle.path_ast.specs.Terms.{PathTerm, Repetition};
 ghost use Rattle.itpg_base.specs.Walks.{IsWalk};
 ghost use Rattle.path_ast.specs.Meaning.{Rel};
 ghost use Rattle.label_scope.specs.declared.scope.Scope.{Scope};
@@ -15,4 +15,12 @@ ghost use Rattle.path_eval.specs.Passing.{AllWithin};
 pub fn law_of_passing()
     ensures { (r : PathTerm) (a b : Scope) (g : Graph) (x y : Point) (points : List Point) → Good g → IsWithin a g x.object → IsWithin b g y.object →
         IsWalk (Rel r g) x points y → AllWithin (passed r (record { sources = a; targets = b })) g (x ∷ points) }
+{}
+
+/// On a good graph a path that is repeated any number of times, or up to a number of 2^60 or more, leads between the same points
+/// as up to 2^60 times: there are fewer points, so a longer walk comes to some point twice.
+pub fn law_of_many_times()
+    ensures any { (p : PathTerm) (g : Graph) (x y : Point) → Good g → Rel (Repetition p 0 None) g x y ↔ Rel (Repetition p 0 (Some (2 ^ 60))) g x y }
+    ensures many { (p : PathTerm) (g : Graph) (n : ℕ) (x y : Point) → Good g → 2 ^ 60 ≤ n →
+        Rel (Repetition p 0 (Some n)) g x y ↔ Rel (Repetition p 0 (Some (2 ^ 60))) g x y }
 {}
