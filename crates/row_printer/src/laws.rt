@@ -1,7 +1,9 @@
 //! Printed forms, written by hand. Each is a clause of a function that does nothing.
-ghost use Rattle.std.specs.Prelude.{◌≡◌, pos, neg_ℤ, codes};
+ghost use Rattle.std.specs.Prelude.{◌≡◌, [], ◌∷◌, pos, neg_ℤ, codes};
 ghost use Rattle.band_normal.specs.declared.band.End.TheVariants.{Fixed, Moving};
-ghost use Rattle.row_printer.specs.Texts.{span_text, end_text, ends_text};
+ghost use Rattle.relation_rows.specs.Answered.{pairs, times};
+ghost use Rattle.row_printer.specs.Texts.{span_text, end_text, ends_text, answer_text};
+ghost use Rattle.row_printer.specs.Examples.{two_nodes, a_for_a_while, b_for_a_while, a_to_b, b_to_a};
 
 /// How moments and ends of bands are printed.
 #[tactic(auto, unfolding(crate::specs::Texts::span_text, crate::specs::Texts::end_text, crate::specs::Texts::ends_text, crate::specs::Texts::moving_text))]
@@ -13,4 +15,11 @@ pub fn law_of_forms()
     ensures later { end_text (Moving (pos 12)) ≡ codes "t+12" }
     ensures before { end_text (Moving (neg_ℤ (pos 2))) ≡ codes "t-2" }
     ensures ends { ends_text (Moving (pos 0)) (Fixed (pos 20)) ≡ codes "t..20" }
+{}
+
+/// How answers are printed: a line for each row, in order, each after its lead, and a dropped object by its name.
+pub fn law_of_lines()
+    ensures one_time { answer_text two_nodes (codes "+ ") (times (a_for_a_while ∷ b_for_a_while ∷ [])) ≡ codes "+ a 0..20\n+ b 5..30\n" }
+    ensures two_times { answer_text two_nodes [] (pairs (a_to_b ∷ b_to_a ∷ [])) ≡ codes "a 0..8 b t..t+12\nb -4..-2 a t-2..20\n" }
+    ensures none { answer_text two_nodes (codes "- ") (pairs []) ≡ [] }
 {}

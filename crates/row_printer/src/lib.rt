@@ -10,6 +10,6 @@ mod lines;
 mod page;
 mod printing;
 
-pub use laws::law_of_forms;
+pub use laws::{law_of_forms, law_of_lines};
 pub use page::{PAGE, Page};
 pub use printing::print_rows;

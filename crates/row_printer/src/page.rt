@@ -1,4 +1,4 @@
-// Text on its way to a sink, gathered without memory.
+//! Text on its way to a sink, gathered without memory.
 ghost use Rattle.std.specs.Prelude.{◌≡◌, ◌+◌, ◌≤◌, [], ◌++◌, length, take, OnOk, OnErr};
 ghost use Rattle.std.specs.Fmt.{decimal, signed_decimal};
 ghost use Rattle.std.specs.Io.KnownBytes.{Appends};
@@ -80,11 +80,13 @@ impl Page {
         self.add(digits.format(moment).as_bytes());
     }
 
-    /// Writes the text of the page, which then has none.
+    /// Writes the text of the page, which then has none. Where the sink fails, a front part was written, and the page has its
+    /// text still.
     pub fn write<K: Sink>(&mut self, out: &mut K) -> Result<(), Failed>
         ensures written { OnOk result (Appends (K.held out.old) (K.held out.new) self.old) }
         ensures none { OnOk result (self.new ≡ []) }
         ensures some { OnErr result (AppendsSome (K.held out.old) (K.held out.new) self.old) }
+        ensures err { OnErr result (self.new ≡ self.old) }
         ensures cause { HasCause (K.faults out.old) (K.faults out.new) result }
     {
         out.write(&self.bytes[..self.size])?;
