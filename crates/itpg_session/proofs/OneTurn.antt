@@ -26,7 +26,8 @@ use Rattle.itpg_session.specs.Machine.{Machine, IsGood, Turn, Refuses, AsksText,
 use Rattle.itpg_session.specs.MachineLaws.{OneReply, SomeReply, GoodReply, FrontReplies}
 use Rattle.itpg_session.proofs.Decided.{first_or_none, decide_watch, decide_named, decide_tick, some_watch}
 use Rattle.itpg_session.proofs.Replying.{TextLaws, one_asked, some_asked, one_found, some_found}
-use Rattle.itpg_session.proofs.Watching.{one_named, differ_added, differ_without, among_without, kind_at_first, each_added}
+use Rattle.standing_queries.proofs.Watching.{without_among}
+use Rattle.itpg_session.proofs.Watching.{one_named, differ_added, differ_without, kind_at_first, each_added}
 use Rattle.itpg_session.proofs.TickSteps.{among_moved, differ_moved}
 use Rattle.itpg_session.proofs.Changing.{kinds_moved, one_tick, some_tick}
 use Rattle.itpg_session.proofs.Answering.{replies_read, replies_bad, blank_answers, asks_answers, asked_asks, watches_answers, watch_bad, watch_read, shows_answers, unwatches_answers, ticks_answers, edit_refused, edit_made, refusal}
@@ -160,8 +161,8 @@ module _ (below : Below) (limit : ℕ) (m : Machine) (number : ℕ) (good : IsGo
   good_dropped name t a = subst (λ (u : Turn). IsGood u.next) (sym a.is) (record {
     graph = good.graph;
     differ = differ_without name m.watches good.differ;
-    asks = λ w h. good.asks w (among_without name m.watches w h);
-    kinds = λ w h. good.kinds w (among_without name m.watches w h);
+    asks = λ w h. good.asks w (without_among name m.watches w h);
+    kinds = λ w h. good.kinds w (without_among name m.watches w h);
   })
 
   -- other bases

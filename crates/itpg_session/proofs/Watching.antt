@@ -10,6 +10,7 @@ use Rattle.relation_rows.specs.Answered.{Answered, pairs, times}
 use Rattle.path_ast.specs.Terms.{QueryTerm}
 use Rattle.row_printer.specs.Texts.{AreDeclared}
 use Rattle.standing_queries.specs.Watches.{Watch, IsWatched, IsOfKind, asks_for_both, no_rows, new_watch, without}
+use Rattle.standing_queries.proofs.Watching.{without_among}
 use Rattle.itpg_session.specs.Watching.{NamesDiffer, BasesDeclared}
 
 -- the watch at a place, of which this holds, is one of the watches
@@ -40,22 +41,13 @@ differ_added (x ∷ xs) n d free = (
   differ_added xs n d.1 (λ h. free (h.0, inr h.1, h.2)),
 )
 
-pub among_without : (name : Word) (ws : List Watch) (w : Watch) → Among (without name ws) w → Among ws w
-among_without name [] w a = absurd a
-among_without name (x ∷ xs) w a = by_test (pointwise nat_eq x.name name) (among_without name xs w) a
-  where
-    by_test : (b : Bool) → (Among (without name xs) w → Among xs w) → Among (if b then without name xs else x ∷ without name xs) w → Among (x ∷ xs) w
-    by_test true rest h = inr (rest h)
-    by_test false rest (inl e) = inl e
-    by_test false rest (inr h) = inr (rest h)
-
 pub differ_without : (name : Word) (ws : List Watch) → NamesDiffer ws → NamesDiffer (without name ws)
 differ_without name [] d = tt
 differ_without name (x ∷ xs) d = by_test (pointwise nat_eq x.name name) (differ_without name xs d.1)
   where
     by_test : (b : Bool) → NamesDiffer (without name xs) → NamesDiffer (if b then without name xs else x ∷ without name xs)
     by_test true rest = rest
-    by_test false rest = ((λ h. d.0 (h.0, among_without name xs h.0 h.1, h.2)), rest)
+    by_test false rest = ((λ h. d.0 (h.0, without_among name xs h.0 h.1, h.2)), rest)
 
 -- ---- kinds, and declared objects
 
@@ -74,7 +66,7 @@ pub declared_added : (g : Graph) (ws : List Watch) (name : Word) (q : QueryTerm)
 declared_added g ws name q all = λ w a. ⊎_elim (λ h. all w h) (λ l. ⊎_elim (λ e. subst (λ (v : Watch). AreDeclared (length g.objects) v.base) e (none_declared g (asks_for_both q))) (λ k. absurd k) l) (among_append ws (new_watch name q ∷ []) w a)
 
 pub declared_without : (g : Graph) (ws : List Watch) (name : Word) → BasesDeclared g ws → BasesDeclared g (without name ws)
-declared_without g ws name all = λ w a. all w (among_without name ws w a)
+declared_without g ws name all = λ w a. all w (without_among name ws w a)
 
 -- as many objects were declared, or more
 more_declared : (n m : ℕ) → n ≤ m → (answer : Answered) → AreDeclared n answer → AreDeclared m answer

@@ -1,6 +1,6 @@
 -- A text that is written in two parts, and results.
 use Rattle.std.proofs.Common.{List, ℕ, Option, ◌++◌, sym, ap, ◌∙◌, append_assoc}
-use Rattle.std.specs.Prelude.{Result, Ok, Err, IfOk, OnErr}
+use Rattle.std.specs.Prelude.{Result, Ok, Err, IfOk}
 use Rattle.std.specs.Io.KnownBytes.{Appends}
 use Rattle.std.proofs.KnownBytes.{Appends-trans}
 use Rattle.itpg_base.specs.Outside.{AppendsSome}
@@ -22,11 +22,6 @@ some_second a b c xs ys w s = record {
   split = append_assoc xs s.taken s.rest ∙ ap (λ t. xs ++ t) s.split;
   appends = Appends-trans a b c xs s.taken w s.appends;
 }
-
--- what holds at all holds on an error
-pub on_err : {T E : Type 0} (r : Result T E) (P : Type 0) → P → OnErr r P
-on_err (Ok x) P p = tt
-on_err (Err e) P p = p
 
 -- what follows for each value follows for that of a result
 pub if_ok : {T E : Type 0} {P Q : T → Type 0} → ((x : T) → P x → Q x) → (r : Result T E) → IfOk r P → IfOk r Q

@@ -1,4 +1,4 @@
-// The replies to a line.
+//! The texts of replies, each formed on a page without memory, and the rows of an answer behind their head.
 ghost use Rattle.std.specs.Prelude.{◌≡◌, length, OnOk, OnErr};
 ghost use Rattle.std.specs.Io.KnownBytes.{Appends};
 ghost use Rattle.itpg_base.specs.Outside.{AppendsSome, HasCause};

@@ -1,4 +1,7 @@
-// One line at a time.
+//! The session, and what a step of it does with a line.
+//!
+//! `Session` has the graph, the watches and the limit of rows. A step changes the graph by an edit, and the watches by `watch`,
+//! `unwatch` and `tick`; it writes to the sink that it is lent, and touches nothing else. `Seen` and `StepFault` say how it ended.
 ghost use Rattle.std.specs.Prelude.{◌≡◌, ◌≤◌, ℕ, List, map, IfOk, OnOk, OnErr, IsErrOf};
 ghost use Rattle.std.specs.Io.KnownBytes.{Appends, Keeps};
 ghost use Rattle.itpg_base.specs.Outside.{AppendsSome, HasCause, Rose};

@@ -7,7 +7,8 @@ use Rattle.itpg_session.specs.Ticks.{ticked_of, ticked_text, tick_text}
 use Rattle.itpg_session.specs.Watching.{IsTickDeclared}
 use Rattle.itpg_session.proofs.Watching.{watch_at}
 use Rattle.itpg_session.proofs.TickSteps.{map_among, map_at, text_more, text_split}
-use Rattle.itpg_session.proofs.Written.{some_first, some_second, on_err}
+use Rattle.row_printer.proofs.Saying.{on_err}
+use Rattle.itpg_session.proofs.Written.{some_first, some_second}
 use Rattle.itpg_session.proofs.ticking.write_all.Goals as goal
 
 pub write_one-requires : goal.write_one-requires

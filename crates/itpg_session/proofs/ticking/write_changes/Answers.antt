@@ -5,7 +5,8 @@ use Rattle.itpg_base.specs.Outside.{AppendsSome}
 use Rattle.relation_rows.specs.Answered.{answered, row_number}
 use Rattle.row_printer.specs.Texts.{answer_text}
 use Rattle.itpg_session.specs.Texts.{tick_head_text}
-use Rattle.itpg_session.proofs.Written.{some_first, some_second, on_err}
+use Rattle.row_printer.proofs.Saying.{on_err}
+use Rattle.itpg_session.proofs.Written.{some_first, some_second}
 use Rattle.itpg_session.proofs.ticking.write_changes.Goals as goal
 
 pub returns-in_err-write-clause-some : goal.returns-in_err-write-clause-some
