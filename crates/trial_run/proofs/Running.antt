@@ -16,10 +16,10 @@ use Rattle.trial_run.specs.declared.run.Running.{Running}
 use Rattle.trial_run.proofs.Telling.{Laws, joined_assoc, joined-nothing, some_told}
 
 -- what lines tell from here on, behind a question
-behind_question : (limit : ℕ) (r : Running) (line query : List ℕ) (reply : Reply) (lines : List (List ℕ)) (rest : Told) → Asks line query → IsReply r.session.machine.graph r.session.limit query reply
+behind_question : (r : Running) (line query : List ℕ) (reply : Reply) (lines : List (List ℕ)) (rest : Told) → Asks line query → IsReply r.session.machine.graph r.session.limit query reply
     → Tells r.session.limit r.session.machine (r.number + 1) (r.question + 1) lines rest → TellsFrom r (line ∷ lines) (joined (told_of r.question reply) rest)
 unfolding Tells
-behind_question limit r line query reply lines rest asks replies goes = inl (record { query = query; asks = asks; reply = reply; replies = replies; rest = rest; goes_on = goes; is = refl })
+behind_question r line query reply lines rest asks replies goes = inl (record { query = query; asks = asks; reply = reply; replies = replies; rest = rest; goes_on = goes; is = refl })
 
 behind_other : (r : Running) (line : List ℕ) (turn : Turn) (lines : List (List ℕ)) (rest : Told) → ((query : List ℕ) → ¬ Asks line query) → Replies r.session.limit r.session.machine r.number line turn
     → Tells r.session.limit turn.next (r.number + 1) r.question lines rest → TellsFrom r (line ∷ lines) (joined nothing rest)
@@ -32,14 +32,13 @@ pub takes_question : (held now : Option (List ℕ)) (old new : Running) (line qu
 takes_question held now old new line query text reply asks replies is written session number question wide = record {
   told = told_of old.question reply;
   goes_on = λ lines rest goes.
-      behind_question 0 old line query reply lines rest asks replies
+      behind_question old line query reply lines rest asks replies
       (subst (λ k. Tells old.session.limit old.session.machine (old.number + 1) k lines rest) question (subst (λ n. Tells old.session.limit old.session.machine n new.question lines rest) number (subst (λ s. Tells s.limit s.machine new.number new.question lines rest) session goes)));
   written = subst (Appends held now) is written;
   wide = wide;
   good = λ good. subst (λ s. IsGood s.machine) (sym session) good;
   number = number;
   question = omega (arith, question);
-  limit = ap (λ s. s.limit) session;
 }
 
 pub takes_some : Laws → (held now : Option (List ℕ)) (old : Running) (line query text : List ℕ) (reply : Reply) → Asks line query → IsReply old.session.machine.graph old.session.limit query reply
@@ -48,7 +47,7 @@ takes_some laws held now old line query text reply asks replies is some = record
   told = told_of old.question reply;
   goes_on = λ lines good.
       let rest = some_told laws old.session.limit old.session.machine (old.number + 1) (old.question + 1) lines good in
-      (rest.0, behind_question 0 old line query reply lines rest.0 asks replies rest.1);
+      (rest.0, behind_question old line query reply lines rest.0 asks replies rest.1);
   some = subst (AppendsSome held now) is some;
 }
 
@@ -64,7 +63,6 @@ takes_other good_reply held old new line turn others replies session number ques
   good = λ good. subst (λ s. IsGood s.machine) (sym session) (good_reply old.session.limit old.session.machine old.number line turn good replies);
   number = number;
   question = omega (arith, question);
-  limit = ap (λ s. s.limit) session;
 }
   where
     or_false : (a : Bool) → a ≡ (a || false)

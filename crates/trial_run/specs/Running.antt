@@ -20,7 +20,6 @@ pub record Takes (held now : Option (List ℕ)) (old new : Running) (line : List
   pub good : IsGood old.session.machine → IsGood new.session.machine
   pub number : new.number ≡ old.number + 1
   pub question : new.question ≤ old.question + 1
-  pub limit : new.session.limit ≡ old.session.limit
 
 -- a front part of what is told of a line was written
 pub record TakesSome (held now : Option (List ℕ)) (old : Running) (line : List ℕ) : Type 0 where
