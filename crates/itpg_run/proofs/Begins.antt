@@ -2,10 +2,10 @@
 use Rattle.std.proofs.Common.{◌≡◌, ℕ, Bool, Some, None, List, [], ◌++◌, IfSome, take, drop, refl, ap, ◌∙◌, sym, subst, append_assoc, append-nil, take-append-drop, false, true}
 use Rattle.std.specs.declared.option.Option.{Option}
 use Rattle.itpg_base.specs.Outside.{AppendsSome}
-use Rattle.itpg_session.specs.Machine.{Turn, opening}
+use Rattle.itpg_session.specs.Machine.{Turn, opening, quiet_turn}
 use Rattle.itpg_run.specs.Lines.{lines, whole}
 use Rattle.std.proofs.KnownBytes.{Appends-nil, Consumes-nil}
-use Rattle.itpg_run.specs.Out.{none, Runs, IsOut}
+use Rattle.itpg_run.specs.Out.{Runs, IsOut}
 use Rattle.itpg_run.specs.Served.{longest, Served, WritesAs, WritesWithin, WritesOut, BeginsEach, IsIdle}
 use Rattle.itpg_run.specs.Tried.{Tried}
 use Rattle.trial_run.specs.SummaryLaws.{SomeSummary}
@@ -57,7 +57,7 @@ unfolding Runs lines whole
 nothing_served limit left held = record {
   bytes = [];
   taken = Consumes-nil left;
-  writes = record { front = []; rest = []; split = refl; writes = record { turn = none opening; out = refl; written = Appends-nil held } };
+  writes = record { front = []; rest = []; split = refl; writes = record { turn = quiet_turn opening; out = refl; written = Appends-nil held } };
 }
 
 pub nothing_tried : SomeSummary → (limit number : ℕ) (left held : Option (List ℕ)) → Tried Memory limit number left left held held

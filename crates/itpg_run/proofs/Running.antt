@@ -1,8 +1,8 @@
 -- The machine over more lines.
 use Rattle.std.proofs.Common.{◌≡◌, ℕ, ◌+◌, List, [], ◌∷◌, ◌++◌, Bool, true, false, ◌||◌, length, refl, ap, ◌∙◌, sym, subst, append_assoc, append-nil, arith}
-use Rattle.itpg_session.specs.Machine.{Machine, IsGood, Turn, Replies}
+use Rattle.itpg_session.specs.Machine.{Machine, IsGood, Turn, Replies, quiet_turn}
 use Rattle.itpg_run.proofs.MachineLaws.{Laws}
-use Rattle.itpg_run.specs.Out.{none, both, Runs}
+use Rattle.itpg_run.specs.Out.{both, Runs}
 
 or_assoc : (a b c : Bool) → (a || (b || c)) ≡ ((a || b) || c)
 or_assoc false b c = refl
@@ -15,8 +15,8 @@ or-false true = refl
 both_assoc : (x y z : Turn) → both x (both y z) ≡ both (both x y) z
 both_assoc x y z = let e = sym (append_assoc x.text y.text z.text) in let f = or_assoc x.failing y.failing z.failing in cc
 
-both-none : (x : Turn) (m : Machine) → m ≡ x.next → both x (none m) ≡ x
-both-none x m h = rw (append-nil x.text, or-false x.failing, h) refl
+both-quiet : (x : Turn) (m : Machine) → m ≡ x.next → both x (quiet_turn m) ≡ x
+both-quiet x m h = rw (append-nil x.text, or-false x.failing, h) refl
 
 pub runs-append : (limit : ℕ) (m : Machine) (number : ℕ) (xs ys : List (List ℕ)) (t u : Turn) → Runs limit m number xs t → Runs limit t.next (number + length xs) ys u → Runs limit m number (xs ++ ys) (both t u)
 unfolding Runs
@@ -38,7 +38,7 @@ runs-append limit m number (x ∷ xs) ys t u r s =
 -- one more line
 pub runs-push : (limit : ℕ) (m : Machine) (number : ℕ) (xs : List (List ℕ)) (x : List ℕ) (t u : Turn) → Runs limit m number xs t → Replies limit t.next (number + length xs) x u → Runs limit m number (xs ++ x ∷ []) (both t u)
 unfolding Runs
-runs-push limit m number xs x t u r s = runs-append limit m number xs (x ∷ []) t u r (record { first = u; rest = none u.next; begins = s; goes_on = refl; is = sym (both-none u u.next refl) })
+runs-push limit m number xs x t u r s = runs-append limit m number xs (x ∷ []) t u r (record { first = u; rest = quiet_turn u.next; begins = s; goes_on = refl; is = sym (both-quiet u u.next refl) })
 
 -- a run over a front part and one over the rest
 pub record Parted (limit : ℕ) (m : Machine) (number : ℕ) (xs ys : List (List ℕ)) (t : Turn) : Type 0 where
@@ -50,7 +50,7 @@ pub record Parted (limit : ℕ) (m : Machine) (number : ℕ) (xs ys : List (List
 
 pub runs-part : (limit : ℕ) (m : Machine) (number : ℕ) (xs ys : List (List ℕ)) (t : Turn) → Runs limit m number (xs ++ ys) t → Parted limit m number xs ys t
 unfolding Runs
-runs-part limit m number [] ys t r = record { front = none m; rest = t; runs = refl; goes_on = subst (λ k. Runs limit m k ys t) (let n : number ≡ number + 0 = omega arith in n) r; is = refl }
+runs-part limit m number [] ys t r = record { front = quiet_turn m; rest = t; runs = refl; goes_on = subst (λ k. Runs limit m k ys t) (let n : number ≡ number + 0 = omega arith in n) r; is = refl }
 runs-part limit m number (x ∷ xs) ys t r =
     let p = runs-part limit r.first.next (number + 1) xs ys r.rest r.goes_on in
     let n : number + 1 + length xs ≡ number + length (x ∷ xs) = omega arith in
@@ -75,7 +75,7 @@ one_run laws limit m number (x ∷ xs) t u good r s =
 -- and there is one
 pub some_run : Laws → (limit : ℕ) (m : Machine) (number : ℕ) (xs : List (List ℕ)) → IsGood m → (t : Turn) × Runs limit m number xs t
 unfolding Runs
-some_run laws limit m number [] good = (none m, refl)
+some_run laws limit m number [] good = (quiet_turn m, refl)
 some_run laws limit m number (x ∷ xs) good =
     let first = laws.some limit m number x good in
     let rest = some_run laws limit first.0.next (number + 1) xs (laws.good limit m number x first.0 good first.1) in

@@ -1,11 +1,7 @@
 -- What the plain machine may write over a script.
-use Rattle.std.specs.Prelude.{◌≡◌, ℕ, ◌+◌, List, [], ◌∷◌, ◌++◌, false, ◌||◌}
-use Rattle.itpg_session.specs.Machine.{Machine, Turn, opening, Replies}
+use Rattle.std.specs.Prelude.{◌≡◌, ℕ, ◌+◌, List, [], ◌∷◌, ◌++◌, ◌||◌}
+use Rattle.itpg_session.specs.Machine.{Machine, Turn, opening, quiet_turn, Replies}
 use Rattle.itpg_run.specs.Lines.{lines}
-
--- nothing is written
-abbrev pub none : Machine → Turn
-none m = record { text = []; failing = false; next = m }
 
 -- a turn and then another
 abbrev pub both : Turn → Turn → Turn
@@ -19,9 +15,9 @@ pub record Then (First : Turn → Type 0) (Rest : Machine → Turn → Type 0) (
   pub goes_on : Rest first.next rest
   pub is : all ≡ both first rest
 
--- the turns of lines numbered from here on
+-- the turns of lines numbered from here on; without a line nothing is written
 unfoldable pub Runs : ℕ → Machine → ℕ → List (List ℕ) → Turn → Type 0
-Runs limit m number [] t = t ≡ none m
+Runs limit m number [] t = t ≡ quiet_turn m
 Runs limit m number (l ∷ ls) t = Then (Replies limit m number l) (λ next rest. Runs limit next (number + 1) ls rest) t
 
 -- the machine's output over a script

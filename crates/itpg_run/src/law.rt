@@ -1,4 +1,4 @@
-// Laws of the output.
+//! Laws of the output. Each is the contract of a function that does nothing of use when it runs.
 ghost use Rattle.itpg_run.specs.OutputLaws.{OneOutput, SomeOutput, OutputGrows, OutputBegins};
 
 use itpg_session::law_of_replies;

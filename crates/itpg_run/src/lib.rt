@@ -17,6 +17,7 @@ mod tests;
 
 pub use law::{one_output, output_begins, output_grows, some_output};
 pub use run::serve;
+pub use trial_script::{Trial, trial_line};
 
 /// How a run ended.
 #[derive(Clone, Copy, Debug, PartialEq, Eq)]

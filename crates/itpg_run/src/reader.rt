@@ -1,4 +1,7 @@
-// Lines out of bytes.
+//! Lines out of bytes.
+//!
+//! A `Reader` has the session, the front of the line that is being read, its number, and whether a reply failed so far. It takes
+//! bytes as they come, has the session answer each line at its end, and touches no source.
 ghost use Rattle.std.specs.Prelude.{◌≡◌, ◌+◌, ◌-◌, ◌^◌, ◌≤◌, ◌<◌, [], ◌∷◌, ◌++◌, ◌||◌, take, length, false, true, IfOk, OnOk, OnErr, IfErr, IsErrOf, ℕ, List};
 ghost use Rattle.std.specs.Io.KnownBytes.{Appends, Keeps};
 ghost use Rattle.std.specs.declared.option.Option.{Option};

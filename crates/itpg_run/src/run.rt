@@ -1,4 +1,5 @@
-// The top call.
+//! The top call: reads the words, and then the source to its end, a fault or the limit of the input; or runs a trial, which reads
+//! nothing.
 ghost use Rattle.std.specs.Prelude.{◌≡◌, ◌+◌, ◌-◌, ◌^◌, ◌≤◌, ◌<◌, ◌⊎◌, ℕ, List, [], Some, length, map, string_bytes, OnOk, IfErr, IsErrOf};
 ghost use Rattle.std.specs.declared.option.Option.{Option};
 ghost use Rattle.itpg_base.specs.Outside.{Rose};
