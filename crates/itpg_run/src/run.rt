@@ -38,10 +38,12 @@ pub fn serve<S: Source, K: Sink>(
     // The table of what was taken and written at each status.
     ensures served { (limit : ℕ) → AskForScript (map string_bytes words.entry.now) limit → Served result limit (S.left source.old) (S.left source.new) (K.held sink.old) (K.held sink.new) }
 
-    // With a trial: nothing is taken, and what was written of its summary at each status.
+    // With a trial: the source stays as it is, and what was written of the summary at each status.
     ensures tried { (limit number : ℕ) → AskForTrial (map string_bytes words.entry.now) limit number → Tried result limit number (S.left source.old) (S.left source.new) (K.held sink.old) (K.held sink.new) }
+    ensures unread { (limit number : ℕ) → AskForTrial (map string_bytes words.entry.now) limit number → source.new ≡ source.old }
 
-    // Words that ask for nothing: nothing is read or written.
+    // Words that ask for nothing: source and sink stay as they are, so nothing is read or written.
+    ensures alone { ¬ AskForSome (map string_bytes words.entry.now) → (source.new ≡ source.old) × (sink.new ≡ sink.old) }
     ensures idle { ¬ AskForSome (map string_bytes words.entry.now) → IsIdle (S.left source.old) (S.left source.new) (K.held sink.old) (K.held sink.new) }
     ensures told { ¬ AskForSome (map string_bytes words.entry.now) → (result ≡ Status.Usage) ⊎ (result ≡ Status.Memory) }
     ensures usage { result ≡ Status.Usage → ¬ AskForSome (map string_bytes words.entry.now) }
