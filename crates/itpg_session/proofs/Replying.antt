@@ -24,7 +24,7 @@ use Rattle.label_scope.specs.declared.scope.Scope.TheVariants.{All}
 use Rattle.label_scope.specs.Narrowing.{Cut}
 use Rattle.label_scope.specs.Members.{worked}
 use Rattle.label_scope.proofs.Within.{cut_all}
-use Rattle.path_eval.specs.Answering.{LeadsFrom, LeadsTo, IsAnswer, IsAnswerFrom, AnswersQuery}
+use Rattle.path_eval.specs.Answering.{DepartsAt, ArrivesAt, IsAnswer, IsAnswerFrom, AnswersQuery}
 use Rattle.path_eval.specs.Evaluated.{AllFit}
 use Rattle.path_eval.proofs.Answers.{answer_from}
 use Rattle.path_eval.proofs.Finite.{cut_rows, departures, arrivals, fit_or_wide, fit_apart}
@@ -41,10 +41,10 @@ pub one_answer : (first last : Bool) (R : Relation) (x y : Answered) → IsAnswe
 one_answer true true R (pairs x) (pairs y) a b = ap pairs (rows_unique R x y a b)
 one_answer true true R (pairs x) (times y) a b = absurd b
 one_answer true true R (times x) y a b = absurd a
-one_answer true false R (times x) (times y) a b = ap times (times_unique (LeadsFrom R) x y a b)
+one_answer true false R (times x) (times y) a b = ap times (times_unique (DepartsAt R) x y a b)
 one_answer true false R (times x) (pairs y) a b = absurd b
 one_answer true false R (pairs x) y a b = absurd a
-one_answer false true R (times x) (times y) a b = ap times (times_unique (LeadsTo R) x y a b)
+one_answer false true R (times x) (times y) a b = ap times (times_unique (ArrivesAt R) x y a b)
 one_answer false true R (times x) (pairs y) a b = absurd b
 one_answer false true R (pairs x) y a b = absurd a
 one_answer false false R (pairs x) y a b = absurd a

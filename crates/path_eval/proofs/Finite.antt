@@ -27,7 +27,8 @@ use Rattle.label_scope.specs.declared.scope.Scope.{Scope}
 use Rattle.label_scope.specs.Narrowing.{Cut}
 use Rattle.label_scope.specs.Members.{Member}
 use Rattle.label_scope.proofs.Within.{decide_within_scope}
-use Rattle.path_eval.specs.Evaluated.{member_relation, AllFit, SomeIsWide, DepartsAt, ArrivesAt}
+use Rattle.path_eval.specs.Evaluated.{member_relation, AllFit, SomeIsWide}
+use Rattle.path_eval.specs.Answering.{DepartsAt, ArrivesAt}
 
 -- the moments between which all points lie
 first_of : Option Begun → ℤ
@@ -88,20 +89,20 @@ module _ (g : Graph) where
   fit_apart limit members all w = wide_apart (member_relation g w.member) limit (all w.member w.among) w.wide
 
   module _ (p : PathTerm) where
-    departs_decided : (o : ℕ) (t : ℤ) → Decided (DepartsAt p g o t)
+    departs_decided : (o : ℕ) (t : ℤ) → Decided (DepartsAt (Rel p g) o t)
     departs_decided o t = decide_sat (Condition p) g (record { object = o; moment = t })
 
-    arrives_decided : (o : ℕ) (t : ℤ) → Decided (ArrivesAt p g o t)
+    arrives_decided : (o : ℕ) (t : ℤ) → Decided (ArrivesAt (Rel p g) o t)
     arrives_decided o t =
         let y : Point = record { object = o; moment = t } in
         some_point g (λ x. Rel p g x y) (λ x. decide_rel p g x y) (λ x h. starts_at p g x y h)
 
-    pub departures : (rows : List OneRow) × AreTimes (DepartsAt p g) rows
-    departures = times_exist (DepartsAt p g)
-        (λ o. runs_exist (DepartsAt p g o) (first_of g.begun) (last_of g.begun) (λ t h. (near _ (starts_at p g _ h.0 h.1)).above) (λ t h. (near _ (starts_at p g _ h.0 h.1)).below) (departs_decided o))
+    pub departures : (rows : List OneRow) × AreTimes (DepartsAt (Rel p g)) rows
+    departures = times_exist (DepartsAt (Rel p g))
+        (λ o. runs_exist (DepartsAt (Rel p g) o) (first_of g.begun) (last_of g.begun) (λ t h. (near _ (starts_at p g _ h.0 h.1)).above) (λ t h. (near _ (starts_at p g _ h.0 h.1)).below) (departs_decided o))
         (length g.objects) (λ o t h. few _ (starts_at p g _ h.0 h.1))
 
-    pub arrivals : (rows : List OneRow) × AreTimes (ArrivesAt p g) rows
-    arrivals = times_exist (ArrivesAt p g)
-        (λ o. runs_exist (ArrivesAt p g o) (first_of g.begun) (last_of g.begun) (λ t h. (near _ (ends_at p g h.0 _ h.1)).above) (λ t h. (near _ (ends_at p g h.0 _ h.1)).below) (arrives_decided o))
+    pub arrivals : (rows : List OneRow) × AreTimes (ArrivesAt (Rel p g)) rows
+    arrivals = times_exist (ArrivesAt (Rel p g))
+        (λ o. runs_exist (ArrivesAt (Rel p g) o) (first_of g.begun) (last_of g.begun) (λ t h. (near _ (ends_at p g h.0 _ h.1)).above) (λ t h. (near _ (ends_at p g h.0 _ h.1)).below) (arrives_decided o))
         (length g.objects) (λ o t h. few _ (ends_at p g h.0 _ h.1))

@@ -10,12 +10,12 @@ use Rattle.path_ast.specs.Terms.{QueryTerm}
 use Rattle.path_ast.specs.Meaning.{Rel}
 
 -- the relation leads from the object at the moment to some point
-abbrev pub LeadsFrom : Relation → ℕ → ℤ → Type 0
-LeadsFrom R o t = (y : Point) × R (record { object = o; moment = t }) y
+abbrev pub DepartsAt : Relation → ℕ → ℤ → Type 0
+DepartsAt R o t = (y : Point) × R (record { object = o; moment = t }) y
 
 -- the relation leads from some point to the object at the moment
-abbrev pub LeadsTo : Relation → ℕ → ℤ → Type 0
-LeadsTo R o t = (x : Point) × R x (record { object = o; moment = t })
+abbrev pub ArrivesAt : Relation → ℕ → ℤ → Type 0
+ArrivesAt R o t = (x : Point) × R x (record { object = o; moment = t })
 
 -- the answer of a relation: where both ends are asked for its normal rows, where one is the runs of each object's moments at
 -- which it departs, or arrives. Where none is, nothing is the answer
@@ -23,9 +23,9 @@ abbrev pub IsAnswer : Bool → Bool → Relation → Answered → Type 0
 IsAnswer true true R (pairs rows) = NormalRows R rows
 IsAnswer true true R (times rows) = ⊥
 IsAnswer true false R (pairs rows) = ⊥
-IsAnswer true false R (times rows) = AreTimes (LeadsFrom R) rows
+IsAnswer true false R (times rows) = AreTimes (DepartsAt R) rows
 IsAnswer false true R (pairs rows) = ⊥
-IsAnswer false true R (times rows) = AreTimes (LeadsTo R) rows
+IsAnswer false true R (times rows) = AreTimes (ArrivesAt R) rows
 IsAnswer false false R (pairs rows) = ⊥
 IsAnswer false false R (times rows) = ⊥
 

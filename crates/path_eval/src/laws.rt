@@ -6,10 +6,12 @@ ghost use Rattle.relation_rows.specs.declared.times.OneRow.{OneRow};
 ghost use Rattle.relation_rows.specs.Rows.{NormalRows};
 ghost use Rattle.relation_rows.specs.Times.{AreTimes};
 ghost use Rattle.path_ast.specs.Terms.{PathTerm};
+ghost use Rattle.path_ast.specs.Meaning.{Rel};
 ghost use Rattle.label_scope.specs.declared.scope.Scope.{Scope};
 ghost use Rattle.label_scope.specs.Narrowing.{Cut};
 ghost use Rattle.label_scope.specs.Members.{Member};
-ghost use Rattle.path_eval.specs.Evaluated.{AllFit, SomeIsWide, DepartsAt, ArrivesAt};
+ghost use Rattle.path_eval.specs.Evaluated.{AllFit, SomeIsWide};
+ghost use Rattle.path_eval.specs.Answering.{DepartsAt, ArrivesAt};
 
 /// On every graph the relation of a path, repetitions among them, between two scopes has exactly one normal list of rows.
 pub fn law_of_cuts()
@@ -25,8 +27,8 @@ pub fn law_of_members()
 
 /// On every graph the departures of a path have exactly one list of one-time rows, and so have its arrivals.
 pub fn law_of_times()
-    ensures departures { (g : Graph) (p : PathTerm) → (rows : List OneRow) × AreTimes (DepartsAt p g) rows }
-    ensures arrivals { (g : Graph) (p : PathTerm) → (rows : List OneRow) × AreTimes (ArrivesAt p g) rows }
-    ensures one_departing { (g : Graph) (p : PathTerm) (xs ys : List OneRow) → AreTimes (DepartsAt p g) xs → AreTimes (DepartsAt p g) ys → xs ≡ ys }
-    ensures one_arriving { (g : Graph) (p : PathTerm) (xs ys : List OneRow) → AreTimes (ArrivesAt p g) xs → AreTimes (ArrivesAt p g) ys → xs ≡ ys }
+    ensures departures { (g : Graph) (p : PathTerm) → (rows : List OneRow) × AreTimes (DepartsAt (Rel p g)) rows }
+    ensures arrivals { (g : Graph) (p : PathTerm) → (rows : List OneRow) × AreTimes (ArrivesAt (Rel p g)) rows }
+    ensures one_departing { (g : Graph) (p : PathTerm) (xs ys : List OneRow) → AreTimes (DepartsAt (Rel p g)) xs → AreTimes (DepartsAt (Rel p g)) ys → xs ≡ ys }
+    ensures one_arriving { (g : Graph) (p : PathTerm) (xs ys : List OneRow) → AreTimes (ArrivesAt (Rel p g)) xs → AreTimes (ArrivesAt (Rel p g)) ys → xs ≡ ys }
 {}
