@@ -26,8 +26,8 @@ use Rattle.itpg_session.specs.Machine.{Machine, IsGood, Turn, Refuses, AsksText,
 use Rattle.itpg_session.specs.MachineLaws.{OneReply, SomeReply, GoodReply, FrontReplies}
 use Rattle.itpg_session.proofs.Decided.{first_or_none, decide_watch, decide_named, decide_tick, some_watch}
 use Rattle.itpg_session.proofs.Replying.{TextLaws, one_asked, some_asked, one_found, some_found}
-use Rattle.standing_queries.proofs.Watching.{without_among}
-use Rattle.itpg_session.proofs.Watching.{one_named, differ_added, differ_without, kind_at_first, each_added}
+use Rattle.standing_queries.proofs.Watching.{more_ordered, without_among, without_ordered}
+use Rattle.itpg_session.proofs.Watching.{one_named, kind_at_first, each_added}
 use Rattle.itpg_session.proofs.TickSteps.{among_moved, differ_moved}
 use Rattle.itpg_session.proofs.Changing.{kinds_moved, one_tick, some_tick}
 use Rattle.itpg_session.proofs.Answering.{replies_read, replies_bad, blank_answers, asks_answers, asked_asks, watches_answers, watch_bad, watch_read, shows_answers, unwatches_answers, ticks_answers, edit_refused, edit_made, refusal}
@@ -133,7 +133,7 @@ module _ (below : Below) (limit : ℕ) (m : Machine) (number : ℕ) (good : IsGo
       let free : IsWatched m.watches name → ⊥ = a.unbroken.1.1.0 in
       subst (λ (u : Turn). IsGood u.next) (sym a.is) (record {
         graph = good.graph;
-        differ = differ_added m.watches (new_watch name q) good.differ free;
+        differ = more_ordered m.watches (new_watch name q) good.differ free;
         asks = each_added (λ (w : Watch). AsksForOne w.query) m.watches (new_watch name q) good.asks (asks_for_one text q reads);
         kinds = each_added (λ (w : Watch). IsOfKind w.query w.base) m.watches (new_watch name q) good.kinds (kind_at_first q);
       })
@@ -160,7 +160,7 @@ module _ (below : Below) (limit : ℕ) (m : Machine) (number : ℕ) (good : IsGo
   good_dropped : (name : Word) (t : Turn) → DropsWatch m name t → IsGood t.next
   good_dropped name t a = subst (λ (u : Turn). IsGood u.next) (sym a.is) (record {
     graph = good.graph;
-    differ = differ_without name m.watches good.differ;
+    differ = without_ordered name m.watches good.differ;
     asks = λ w h. good.asks w (without_among name m.watches w h);
     kinds = λ w h. good.kinds w (without_among name m.watches w h);
   })

@@ -6,12 +6,12 @@ use Rattle.std.proofs.lemmas.List.{map-append}
 use Rattle.std.proofs.lemmas.Option.{slice_get_within}
 use Rattle.itpg_base.specs.Words.{Word}
 use Rattle.itpg_base.specs.Graphs.{Graph}
-use Rattle.band_normal.specs.Lists.{Among}
+use Rattle.band_normal.specs.Lists.{Among, Ordered}
 use Rattle.relation_rows.specs.Answered.{Answered as Answers}
-use Rattle.standing_queries.specs.Watches.{Watch, rebased}
+use Rattle.standing_queries.specs.Watches.{Watch, NamesDiffer, rebased}
 use Rattle.itpg_session.specs.declared.ticking.Ticked.{Ticked as TickedValue}
 use Rattle.itpg_session.specs.Ticks.{Ticked, ticked_of, StaysWide, Moves, IsTicked, AreTicked, ticked_text, tick_text, some_wide, moved, moved_at, all_moved}
-use Rattle.itpg_session.specs.Watching.{NamesDiffer, IsMoveOfKind, AreMovesOfKind}
+use Rattle.itpg_session.specs.Watching.{IsMoveOfKind, AreMovesOfKind}
 use Rattle.itpg_session.specs.Texts.{tick_wide_text, tick_head_text}
 use Rattle.itpg_session.specs.Steps.{Sees}
 use Rattle.itpg_session.specs.declared.session.Seen.TheVariants.{Quiet, Answered, Refused}
@@ -153,11 +153,11 @@ same_name : (w : Watch) (x : Ticked) → (moved w x).name ≡ w.name
 same_name w StaysWide = refl
 same_name w (Moves now gained lost) = refl
 
-pub differ_moved : (ws : List Watch) (xs : List Ticked) → NamesDiffer ws → NamesDiffer (all_moved ws xs)
+pub differ_moved : (ws : List Watch) (xs : List Ticked) → Ordered NamesDiffer ws → Ordered NamesDiffer (all_moved ws xs)
 differ_moved [] xs d = tt
 differ_moved (w ∷ ws) [] d = d
 differ_moved (w ∷ ws) (x ∷ xs) d = (
-  λ h. let v = among_moved ws xs h.0 h.1 in d.0 (v.0, v.1, v.2 ∙ h.2 ∙ same_name w x),
+  λ y a e. let v = among_moved ws xs y a in d.0 v.0 v.1 (sym (same_name w x) ∙ e ∙ sym v.2),
   differ_moved ws xs d.1,
 )
 

@@ -1,17 +1,16 @@
 -- What holds of the watches of a machine, after each line.
 use Rattle.std.proofs.Common.{◌≡◌, inl, inr, ⊎_elim, ℕ, zero, suc, ◌≤◌, List, [], ◌∷◌, ◌++◌, length, Bool, true, false, refl, sym, ap, subst, ◌∙◌, arith}
-use Rattle.std.specs.Prelude.{slice_get, IsSomeAnd, Some, nat_eq, if◌then◌else◌}
-use Rattle.std.specs.Cmp.Lexicographic.{pointwise}
+use Rattle.std.specs.Prelude.{slice_get, IsSomeAnd, Some, if◌then◌else◌}
 use Rattle.itpg_base.specs.Words.{Word}
 use Rattle.itpg_base.specs.Graphs.{Graph}
-use Rattle.band_normal.specs.Lists.{Among}
+use Rattle.band_normal.specs.Lists.{Among, Ordered}
 use Rattle.band_normal.proofs.Lists.{among_append}
 use Rattle.relation_rows.specs.Answered.{Answered, pairs, times}
 use Rattle.path_ast.specs.Terms.{QueryTerm}
 use Rattle.row_printer.specs.Texts.{AreDeclared}
-use Rattle.standing_queries.specs.Watches.{Watch, IsWatched, IsOfKind, asks_for_both, no_rows, new_watch, without}
+use Rattle.standing_queries.specs.Watches.{Watch, IsOfKind, NamesDiffer, asks_for_both, no_rows, new_watch, without}
 use Rattle.standing_queries.proofs.Watching.{without_among}
-use Rattle.itpg_session.specs.Watching.{NamesDiffer, BasesDeclared}
+use Rattle.itpg_session.specs.Watching.{BasesDeclared}
 
 -- the watch at a place, of which this holds, is one of the watches
 pub watch_at : (ws : List Watch) (i : ℕ) (P : Watch → Type 0) → IsSomeAnd (slice_get ws i) P → (w : Watch) × Among ws w × (slice_get ws i ≡ Some w) × P w
@@ -27,27 +26,12 @@ of_watch ws i w P is h = subst (λ o. IsSomeAnd o P) is h
 
 -- ---- no two have one name
 
-pub one_named : (ws : List Watch) → NamesDiffer ws → (v w : Watch) → Among ws v → Among ws w → v.name ≡ w.name → v ≡ w
+pub one_named : (ws : List Watch) → Ordered NamesDiffer ws → (v w : Watch) → Among ws v → Among ws w → v.name ≡ w.name → v ≡ w
 one_named [] d v w a b e = absurd a
 one_named (x ∷ xs) d v w (inl a) (inl b) e = sym a ∙ b
-one_named (x ∷ xs) d v w (inl a) (inr b) e = absurd (d.0 (w, b, sym e ∙ ap (λ (y : Watch). y.name) (sym a)))
-one_named (x ∷ xs) d v w (inr a) (inl b) e = absurd (d.0 (v, a, e ∙ ap (λ (y : Watch). y.name) (sym b)))
+one_named (x ∷ xs) d v w (inl a) (inr b) e = absurd (d.0 w b (ap (λ (y : Watch). y.name) a ∙ e))
+one_named (x ∷ xs) d v w (inr a) (inl b) e = absurd (d.0 v a (ap (λ (y : Watch). y.name) b ∙ sym e))
 one_named (x ∷ xs) d v w (inr a) (inr b) e = one_named xs d.1 v w a b e
-
-pub differ_added : (ws : List Watch) (n : Watch) → NamesDiffer ws → (IsWatched ws n.name → ⊥) → NamesDiffer (ws ++ n ∷ [])
-differ_added [] n d free = ((λ h. absurd h.1), tt)
-differ_added (x ∷ xs) n d free = (
-  λ h. ⊎_elim (λ a. d.0 (h.0, a, h.2)) (λ l. ⊎_elim (λ e. free (x, inl refl, sym (ap (λ (y : Watch). y.name) e ∙ h.2))) (λ k. k) l) (among_append xs (n ∷ []) h.0 h.1),
-  differ_added xs n d.1 (λ h. free (h.0, inr h.1, h.2)),
-)
-
-pub differ_without : (name : Word) (ws : List Watch) → NamesDiffer ws → NamesDiffer (without name ws)
-differ_without name [] d = tt
-differ_without name (x ∷ xs) d = by_test (pointwise nat_eq x.name name) (differ_without name xs d.1)
-  where
-    by_test : (b : Bool) → NamesDiffer (without name xs) → NamesDiffer (if b then without name xs else x ∷ without name xs)
-    by_test true rest = rest
-    by_test false rest = ((λ h. d.0 (h.0, without_among name xs h.0 h.1, h.2)), rest)
 
 -- ---- kinds, and declared objects
 

@@ -11,14 +11,14 @@ use Rattle.edit_reader.specs.Readings.{Reading, Nothing, Changes, Asks, Watches,
 use Rattle.edit_reader.specs.Lines.{LineOf}
 use Rattle.path_ast.specs.Terms.{QueryTerm}
 use Rattle.match_parser.specs.Reading.{Reads, FaultOf}
-use Rattle.band_normal.specs.Lists.{Among}
+use Rattle.band_normal.specs.Lists.{Among, Ordered}
 use Rattle.relation_rows.specs.Answered.{Answered}
-use Rattle.standing_queries.specs.Watches.{Watch, IsOfKind, new_watch, without}
+use Rattle.standing_queries.specs.Watches.{Watch, IsOfKind, NamesDiffer, new_watch, without}
 use Rattle.itpg_session.specs.Rules.{watch_rules, name_rules, tick_rules, WatchBreaks, NameBreaks, TickBreaks}
 use Rattle.itpg_session.specs.Questions.{Found, TooWide, Answer, IsFound}
 use Rattle.itpg_session.specs.Replies.{Reply, Bad, Refused, Wide, Rows, IsReply}
 use Rattle.itpg_session.specs.Ticks.{Ticked, AreTicked, tick_text, some_wide, all_moved}
-use Rattle.itpg_session.specs.Watching.{NamesDiffer, AsksForOne}
+use Rattle.itpg_session.specs.Watching.{AsksForOne}
 use Rattle.itpg_session.specs.Texts.{bad_text, refused_text, wide_text, rows_text}
 
 -- a machine has a graph and the watches that stand, in order of declaration
@@ -30,7 +30,7 @@ pub record Machine : Type 0 where
 -- base of its kind
 pub record IsGood (m : Machine) : Type 0 where
   pub graph : Good m.graph
-  pub differ : NamesDiffer m.watches
+  pub differ : Ordered NamesDiffer m.watches
   pub asks : (w : Watch) → Among m.watches w → AsksForOne w.query
   pub kinds : (w : Watch) → Among m.watches w → IsOfKind w.query w.base
 

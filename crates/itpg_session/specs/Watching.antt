@@ -4,14 +4,9 @@ use Rattle.itpg_base.specs.Graphs.{Graph}
 use Rattle.band_normal.specs.Lists.{Among}
 use Rattle.path_ast.specs.Terms.{QueryTerm}
 use Rattle.row_printer.specs.Texts.{AreDeclared}
-use Rattle.standing_queries.specs.Watches.{Watch, IsWatched, IsOfKind}
+use Rattle.standing_queries.specs.Watches.{Watch, IsOfKind}
 use Rattle.itpg_session.specs.Questions.{Found, TooWide, Answer}
 use Rattle.itpg_session.specs.Ticks.{Ticked, StaysWide, Moves}
-
--- no two of the watches have one name
-abbrev pub NamesDiffer : List Watch → Type 0
-NamesDiffer [] = Unit {0}
-NamesDiffer (w ∷ rest) = (¬ IsWatched rest w.name) × NamesDiffer rest
 
 -- an end of its path is asked for, or both are
 abbrev pub AsksForOne : QueryTerm → Type 0

@@ -8,8 +8,8 @@ use Rattle.itpg_base.proofs.Objects.{word_same, word_refl}
 use Rattle.band_normal.specs.Lists.{Among, Ordered}
 use Rattle.band_normal.proofs.Lists.{among_append, append_ordered}
 use Rattle.relation_rows.specs.Answered.{Answered}
-use Rattle.standing_queries.specs.Watches.{Watch, IsWatched, IsOfKind, without, rebased}
-use Rattle.standing_queries.specs.Stores.{NamesDiffer, IsSound, AreSound}
+use Rattle.standing_queries.specs.Watches.{Watch, IsWatched, IsOfKind, NamesDiffer, without, rebased}
+use Rattle.standing_queries.specs.Stores.{IsSound, AreSound}
 
 -- what is in a mapped list is of something in the list
 among_map : {X Y : Type 0} (f : X → Y) (xs : List X) (y : Y) → Among (map f xs) y → (x : X) × Among xs x × (f x ≡ y)
@@ -31,11 +31,14 @@ get_among (y ∷ ys) (suc i) x e = inr (get_among ys i x e)
 pub sound_none : AreSound []
 sound_none = record { few = omega arith; differ = tt; each = λ w a. absurd a }
 
+pub more_ordered : (ws : List Watch) (w : Watch) → Ordered NamesDiffer ws → (IsWatched ws w.name → ⊥) → Ordered NamesDiffer (ws ++ w ∷ [])
+more_ordered ws w o none = append_ordered NamesDiffer ws (w ∷ []) o ((λ y a. absurd a), tt)
+    (λ x y a b. ⊎_elim (λ (e : w ≡ y). λ (same : x.name ≡ y.name). none (x, a, same ∙ ap (λ (v : Watch). v.name) (sym e))) (λ no. absurd no) b)
+
 pub sound_more : (ws : List Watch) (w : Watch) → AreSound ws → IsSound w → (IsWatched ws w.name → ⊥) → length ws < 32 → AreSound (ws ++ w ∷ [])
 sound_more ws w s k none few = record {
   few = omega (arith, length-append ws (w ∷ []));
-  differ = append_ordered NamesDiffer ws (w ∷ []) s.differ ((λ y a. absurd a), tt)
-      (λ x y a b. ⊎_elim (λ (e : w ≡ y). λ (same : x.name ≡ y.name). none (x, a, same ∙ ap (λ (v : Watch). v.name) (sym e))) (λ no. absurd no) b);
+  differ = more_ordered ws w s.differ none;
   each = λ x a. ⊎_elim (λ b. s.each x b) (λ b. ⊎_elim (λ (e : w ≡ x). subst IsSound e k) (λ no. absurd no) b) (among_append ws (w ∷ []) x a);
 }
 
@@ -72,7 +75,7 @@ without_among name (w ∷ ws) x a = elim (same_names w.name name) [
   | inr h ↦ ⊎_elim (λ e. inl e) (λ b. inr (without_among name ws x b)) (subst (λ (v : List Watch). Among v x) (without_other name w ws h.1) a)
 ]
 
-without_ordered : (name : Word) (ws : List Watch) → Ordered NamesDiffer ws → Ordered NamesDiffer (without name ws)
+pub without_ordered : (name : Word) (ws : List Watch) → Ordered NamesDiffer ws → Ordered NamesDiffer (without name ws)
 without_ordered name [] o = tt
 without_ordered name (w ∷ ws) o = elim (same_names w.name name) [
   | inl h ↦ subst (λ (v : List Watch). Ordered NamesDiffer v) (sym (without_here name w ws h.1)) (without_ordered name ws o.1)

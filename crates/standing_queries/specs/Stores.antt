@@ -1,19 +1,15 @@
 -- What is kept of the watches.
-use Rattle.std.specs.Prelude.{◌≢◌, ◌||◌, ◌≤◌, IsTrue, List, length}
+use Rattle.std.specs.Prelude.{◌||◌, ◌≤◌, IsTrue, List, length}
 use Rattle.band_normal.specs.Lists.{Among, Ordered}
 use Rattle.path_ast.specs.Terms.{query_term}
 use Rattle.path_ast.specs.Sizes.{IsPathInRange}
 use Rattle.relation_rows.specs.Answered.{answered}
-use Rattle.standing_queries.specs.Watches.{Watch, most_watches, IsOfKind}
+use Rattle.standing_queries.specs.Watches.{Watch, most_watches, IsOfKind, NamesDiffer}
 use Rattle.standing_queries.specs.declared.watches.Kept.{Kept}
 
 -- the watch that is kept
 abbrev pub watch_of : Kept → Watch
 watch_of k = record { name = k.name; query = query_term k.query; base = answered k.base }
-
--- the two have different names
-abbrev pub NamesDiffer : Watch → Watch → Type 0
-NamesDiffer v w = v.name ≢ w.name
 
 -- the query's numbers are in range, it asks for an end, and the base is of its kind
 pub record IsSound (w : Watch) : Type 0 where

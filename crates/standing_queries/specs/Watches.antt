@@ -1,5 +1,5 @@
 -- Watches: the queries that stand, in order of declaration.
-use Rattle.std.specs.Prelude.{◌≡◌, ℕ, zero, suc, List, [], ◌∷◌, ◌&&◌, Bool, true, false, nat_eq, if◌then◌else◌}
+use Rattle.std.specs.Prelude.{◌≡◌, ◌≢◌, ℕ, zero, suc, List, [], ◌∷◌, ◌&&◌, Bool, true, false, nat_eq, if◌then◌else◌}
 use Rattle.std.specs.Cmp.Lexicographic.{pointwise}
 use Rattle.itpg_base.specs.Words.{Word}
 use Rattle.band_normal.specs.Lists.{Among}
@@ -19,6 +19,10 @@ most_watches = 32
 -- a watch of this name stands
 abbrev pub IsWatched : List Watch → Word → Type 0
 IsWatched watches name = (w : Watch) × Among watches w × (w.name ≡ name)
+
+-- the two have different names
+abbrev pub NamesDiffer : Watch → Watch → Type 0
+NamesDiffer v w = v.name ≢ w.name
 
 -- both ends of the query are asked for
 abbrev pub asks_for_both : QueryTerm → Bool
