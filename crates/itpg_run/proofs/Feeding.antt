@@ -1,21 +1,21 @@
 -- More bytes, one piece behind the other.
 use Rattle.std.proofs.Common.{◌≡◌, ℕ, List, [], ◌++◌, append-nil, take, ◌∙◌, ap, sym, subst, append_assoc}
 use Rattle.std.specs.declared.option.Option.{Option}
-use Rattle.itpg_run.specs.Stands.{Stands, Feeds, StopsWhole, StopsWithin}
+use Rattle.itpg_run.specs.Fed.{Fed, Feeds, StopsWhole, StopsWithin}
 use Rattle.itpg_run.specs.Served.{WritesWithin}
 use Rattle.itpg_run.specs.Lines.{kept}
 use Rattle.itpg_run.specs.Split.{NoEnd}
 use Rattle.itpg_run.specs.declared.reader.Reader.{Reader}
-use Rattle.itpg_run.proofs.Stands.{stands_piece, writes_longer}
+use Rattle.itpg_run.proofs.Fed.{fed_piece, writes_longer}
 
 pub feeds_piece : (held : Option (List ℕ)) (old new : Reader) (piece : List ℕ) → NoEnd piece
     → new.session ≡ old.session → new.number ≡ old.number → new.failing ≡ old.failing → new.line.items ≡ take kept (old.line.items ++ piece)
     → Feeds held held old new piece
-feeds_piece held old new piece e session number failing line = λ limit start bytes s. stands_piece limit start held old new bytes piece s e session number failing line
+feeds_piece held old new piece e session number failing line = λ limit start bytes s. fed_piece limit start held old new bytes piece s e session number failing line
 
 pub feeds_then : (a b c : Option (List ℕ)) (p q r : Reader) (xs ys all : List ℕ) → Feeds a b p q xs → Feeds b c q r ys → xs ++ ys ≡ all → Feeds a c p r all
 feeds_then a b c p q r xs ys all f g e = λ limit start bytes s.
-    subst (Stands limit start c r) (append_assoc bytes xs ys ∙ ap (λ t. bytes ++ t) e) (g limit start (bytes ++ xs) (f limit start bytes s))
+    subst (Fed limit start c r) (append_assoc bytes xs ys ∙ ap (λ t. bytes ++ t) e) (g limit start (bytes ++ xs) (f limit start bytes s))
 
 pub stops_whole_then : (a b c : Option (List ℕ)) (p q : Reader) (xs ys tail all : List ℕ) → Feeds a b p q xs → StopsWhole b c q ys → xs ++ (ys ++ tail) ≡ all → StopsWhole a c p all
 stops_whole_then a b c p q xs ys tail all f g e = λ limit start bytes s.
@@ -29,4 +29,4 @@ stops_within_then a b c p q xs ys tail all f g e = λ limit start bytes s rest.
     (g limit start (bytes ++ xs) (f limit start bytes s) (tail ++ rest))
 
 pub feeds_none : (held : Option (List ℕ)) (r : Reader) → Feeds held held r r []
-feeds_none held r = λ limit start bytes s. subst (Stands limit start held r) (sym (append-nil bytes)) s
+feeds_none held r = λ limit start bytes s. subst (Fed limit start held r) (sym (append-nil bytes)) s

@@ -8,7 +8,7 @@ use Rattle.itpg_session.specs.MachineLaws.{FrontReplies}
 use Rattle.itpg_session.specs.Steps.{Stepped, StepsWithin}
 use Rattle.itpg_session.specs.declared.session.Seen.{Seen}
 use Rattle.itpg_run.specs.Lines.{kept}
-use Rattle.itpg_run.specs.Stands.{RepliesTo, AnswersWithin}
+use Rattle.itpg_run.specs.Fed.{RepliesTo, AnswersWithin}
 use Rattle.itpg_run.specs.declared.reader.Reader.{Reader}
 
 pub take_past : (xs ys : List ℕ) (n : ℕ) → length xs ≤ n → take n (xs ++ ys) ≡ xs ++ take (n - length xs) ys

@@ -2,7 +2,7 @@ pub mod MachineLaws
 pub mod Kept
 pub mod Split
 pub mod Running
-pub mod Stands
+pub mod Fed
 pub mod Feeding
 pub mod Pumped
 pub mod Output

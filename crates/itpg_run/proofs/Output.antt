@@ -9,7 +9,7 @@ use Rattle.itpg_run.specs.OutputLaws.{OneOutput, SomeOutput, OutputGrows, Output
 use Rattle.itpg_run.proofs.Split.{lines-joined}
 use Rattle.itpg_run.proofs.MachineLaws.{Laws}
 use Rattle.itpg_run.proofs.Running.{runs-part, one_run, some_run}
-use Rattle.itpg_run.proofs.Stands.{lines_joined, whole_joined}
+use Rattle.itpg_run.proofs.Fed.{lines_joined, whole_joined}
 
 record Parts (bytes : List ℕ) : Type 0 where
   lines : List (List ℕ)

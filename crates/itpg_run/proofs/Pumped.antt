@@ -7,7 +7,7 @@ use Rattle.itpg_run.specs.Lines.{kept, whole}
 use Rattle.itpg_run.specs.Out.{Runs}
 use Rattle.itpg_session.specs.Machine.{opening, quiet_turn}
 use Rattle.itpg_run.specs.Served.{longest, Served, WritesWithin, WritesOut, EndsWell}
-use Rattle.itpg_run.specs.Stands.{Stands, Feeds, Stops, Ends}
+use Rattle.itpg_run.specs.Fed.{Fed, Feeds, Stops, Ends}
 use Rattle.itpg_run.specs.Pumped.{Pumped, Pumping, status_of}
 use Rattle.itpg_run.specs.declared.reader.Reader.{Reader}
 use Rattle.itpg_run.specs.declared.reader.Stop.{Stop}
@@ -15,7 +15,7 @@ use Rattle.itpg_run.specs.declared.reader.Stop.TheVariants as stop
 use Rattle.itpg_run.specs.declared.Status.{Status}
 use Rattle.itpg_run.specs.declared.Status.TheVariants.{Done, DoneRefused, Usage, ReadFault, WriteFault, Memory, TooLong}
 use Rattle.itpg_run.proofs.Kept.{take_past, take_nothing}
-use Rattle.itpg_run.proofs.Stands.{stands_out_whole}
+use Rattle.itpg_run.proofs.Fed.{fed_out_whole}
 
 pub pumped : (limit : ℕ) (before mid left start now : Option (List ℕ)) (r : Reader) (count : ℕ) → Pumping limit before mid start now r count → count ≤ longest → Consumes mid left [] → IsAtEnd left → Pumped limit before left start now r
 pumped limit before mid left start now r count p fits consumes ended = record {
@@ -23,14 +23,14 @@ pumped limit before mid left start now r count p fits consumes ended = record {
   taken = subst (Consumes before left) (append-nil p.bytes) (Consumes-trans before mid left p.bytes [] p.taken consumes);
   fits = omega (arith, p.counted);
   ended = ended;
-  stands = p.stands;
+  fed = p.fed;
 }
 
 pub read_fault : (limit : ℕ) (before mid left start now : Option (List ℕ)) (r : Reader) (count : ℕ) → Pumping limit before mid start now r count → count ≤ longest → Keeps mid left → Served ReadFault limit before left start now
 read_fault limit before mid left start now r count p fits keeps = record {
   bytes = p.bytes;
   taken = Consumes-kept before mid left p.bytes p.taken keeps;
-  writes = (omega (arith, p.counted), stands_out_whole limit start now r p.bytes p.stands);
+  writes = (omega (arith, p.counted), fed_out_whole limit start now r p.bytes p.fed);
 }
 
 pub pumping_more : (limit : ℕ) (before mid left start held now : Option (List ℕ)) (old new : Reader) (count : ℕ) (more : List ℕ) → Pumping limit before mid start held old count → Consumes mid left more → Feeds held now old new more → Pumping limit before left start now new (count + length more)
@@ -38,7 +38,7 @@ pumping_more limit before mid left start held now old new count more p consumes 
   bytes = p.bytes ++ more;
   taken = Consumes-trans before mid left p.bytes more p.taken consumes;
   counted = omega (arith, p.counted, length-append p.bytes more);
-  stands = feeds limit start p.bytes p.stands;
+  fed = feeds limit start p.bytes p.fed;
 }
 
 -- known bytes that are consumed are those bytes and what is left
@@ -51,14 +51,14 @@ pub stopped : (limit : ℕ) (stop : Stop) (before mid left start held now : Opti
 stopped limit stop.Memory before mid left start held now r count more p fits consumes stops = record {
   bytes = p.bytes ++ more;
   taken = Consumes-trans before mid left p.bytes more p.taken consumes;
-  writes = stops limit start p.bytes p.stands;
+  writes = stops limit start p.bytes p.fed;
 }
 stopped limit stop.Write before mid left start held now r count more p fits consumes stops =
     let taken = Consumes-trans before mid left p.bytes more p.taken consumes in
     record {
       bytes = p.bytes ++ more;
       taken = taken;
-      writes = within_all limit before left start now (p.bytes ++ more) taken (λ rest. subst (λ t. WritesWithin limit start now t) (sym (append_assoc p.bytes more rest)) (stops limit start p.bytes p.stands rest));
+      writes = within_all limit before left start now (p.bytes ++ more) taken (λ rest. subst (λ t. WritesWithin limit start now t) (sym (append_assoc p.bytes more rest)) (stops limit start p.bytes p.fed rest));
     }
 stopped limit stop.TooLong before mid left start held now r count more p fits consumes stops =
     let long : longest < length (p.bytes ++ more) = omega (arith, stops.0, p.counted, length-append p.bytes more) in
@@ -66,7 +66,7 @@ stopped limit stop.TooLong before mid left start held now r count more p fits co
     record {
       bytes = p.bytes ++ more;
       taken = Consumes-trans before mid left p.bytes more p.taken consumes;
-      writes = (long, subst (λ t. WritesOut limit start now (whole t)) (sym front) (stops.1 limit start p.bytes p.stands));
+      writes = (long, subst (λ t. WritesOut limit start now (whole t)) (sym front) (stops.1 limit start p.bytes p.fed));
     }
 
 -- all was read, and then answered
@@ -84,8 +84,8 @@ finished limit WriteFault before left start mid now r p e = record { bytes = p.b
 finished limit Memory before left start mid now r p e = record { bytes = p.bytes; taken = p.taken; writes = e }
 finished limit TooLong before left start mid now r p e = absurd e
 
--- a new reader stands at the start
-pub begins : (limit : ℕ) (held : Option (List ℕ)) (r : Reader) → r.session ≡ record { machine = opening; limit = limit } → r.number ≡ 1 → r.line.items ≡ [] → r.failing ≡ false → Stands limit held held r []
+-- a new reader was fed nothing
+pub begins : (limit : ℕ) (held : Option (List ℕ)) (r : Reader) → r.session ≡ record { machine = opening; limit = limit } → r.number ≡ 1 → r.line.items ≡ [] → r.failing ≡ false → Fed limit held held r []
 unfolding Runs
 begins limit held r session number line failing = record {
   lines = [];

@@ -3,7 +3,7 @@ pub mod Out
 pub mod Split
 pub mod Served
 pub mod Tried
-pub mod Stands
+pub mod Fed
 pub mod Pumped
 pub mod OutputLaws
 pub mod Codes

@@ -46,7 +46,7 @@ impl Reader {
 }
 
 impl Reader {
-    ghost use Rattle.itpg_run.specs.Stands.{RepliesTo, AnswersWithin, EndsLine, Stands, Feeds, StopsWhole, StopsWithin, Stops, Ends};
+    ghost use Rattle.itpg_run.specs.Fed.{RepliesTo, AnswersWithin, EndsLine, Fed, Feeds, StopsWhole, StopsWithin, Stops, Ends};
     ghost use Rattle.itpg_run.specs.Served.{WritesAs, WritesWithin};
     ghost use Rattle.itpg_run.specs.Split.{NoEnd};
     ghost use Rattle.itpg_session.specs.Steps.{Stepped};
@@ -162,9 +162,9 @@ impl Reader {
     /// Answers a last line without an end, if it has a byte.
     pub(crate) fn end_last<K: Sink>(&mut self, out: &mut K) -> Result<(), StepFault>
         requires { self.old.number < 2 ^ 64 - 1 }
-        ensures ended { OnOk result ((limit : ℕ) (start : Option (List ℕ)) (bytes : List ℕ) → Stands limit start (K.held out.old) self.old bytes → WritesAs limit start (K.held out.new) bytes self.new.failing) }
+        ensures ended { OnOk result ((limit : ℕ) (start : Option (List ℕ)) (bytes : List ℕ) → Fed limit start (K.held out.old) self.old bytes → WritesAs limit start (K.held out.new) bytes self.new.failing) }
         ensures memory { IsErrOf result StepFault.Memory → StopsWhole (K.held out.old) (K.held out.new) self.old [] }
-        ensures write { IsErrOf result StepFault.Write → (limit : ℕ) (start : Option (List ℕ)) (bytes : List ℕ) → Stands limit start (K.held out.old) self.old bytes → WritesWithin limit start (K.held out.new) bytes }
+        ensures write { IsErrOf result StepFault.Write → (limit : ℕ) (start : Option (List ℕ)) (bytes : List ℕ) → Fed limit start (K.held out.old) self.old bytes → WritesWithin limit start (K.held out.new) bytes }
         ensures rose { IsErrOf result StepFault.Write → Rose (K.faults out.old) (K.faults out.new) }
         ensures later { K.faults out.old ≤ K.faults out.new }
     {
@@ -178,7 +178,7 @@ impl Reader {
     /// Answers a last line without an end, if it has a byte, and says how all ended.
     pub(crate) fn finish<K: Sink>(&mut self, out: &mut K) -> Status
         requires { self.old.number < 2 ^ 64 - 1 }
-        ensures ends { (limit : ℕ) (start : Option (List ℕ)) (bytes : List ℕ) → Stands limit start (K.held out.old) self.old bytes → Ends result limit start (K.held out.new) bytes }
+        ensures ends { (limit : ℕ) (start : Option (List ℕ)) (bytes : List ℕ) → Fed limit start (K.held out.old) self.old bytes → Ends result limit start (K.held out.new) bytes }
         ensures rose { result ≡ Status.WriteFault → Rose (K.faults out.old) (K.faults out.new) }
         ensures later { K.faults out.old ≤ K.faults out.new }
     {

@@ -5,7 +5,7 @@ ghost use Rattle.std.specs.declared.option.Option.{Option};
 ghost use Rattle.itpg_base.specs.Outside.{Rose};
 ghost use Rattle.itpg_run.specs.Served.{Served, BeginsEach, EndsWell, IsIdle, AskForScript, AskForTrial, AskForSome, longest};
 ghost use Rattle.itpg_run.specs.Tried.{Tried, WritesSummary};
-ghost use Rattle.itpg_run.specs.Stands.{Stands};
+ghost use Rattle.itpg_run.specs.Fed.{Fed};
 ghost use Rattle.itpg_run.specs.Pumped.{Pumped};
 
 use crate::Status;
@@ -110,9 +110,9 @@ fn run_number<K: Sink>(alloc: Global, limits: Limits, number: u64, sink: &mut K)
 // Reads to the end of the input.
 fn pump<S: Source, K: Sink>(reader: &mut Reader, source: &mut S, sink: &mut K) -> Result<(), Status>
     requires { reader.old.number ≤ 1 }
-    ensures ended { OnOk result ((limit : ℕ) → (start : Option (List ℕ)) → Stands limit start (K.held sink.old) reader.old [] → Pumped limit (S.left source.old) (S.left source.new) start (K.held sink.new) reader.new) }
+    ensures ended { OnOk result ((limit : ℕ) → (start : Option (List ℕ)) → Fed limit start (K.held sink.old) reader.old [] → Pumped limit (S.left source.old) (S.left source.new) start (K.held sink.new) reader.new) }
     ensures number { OnOk result (reader.new.number < 2 ^ 64 - 1) }
-    ensures stopped { IfErr result (λ status. (limit : ℕ) → (start : Option (List ℕ)) → Stands limit start (K.held sink.old) reader.old [] → Served status limit (S.left source.old) (S.left source.new) start (K.held sink.new)) }
+    ensures stopped { IfErr result (λ status. (limit : ℕ) → (start : Option (List ℕ)) → Fed limit start (K.held sink.old) reader.old [] → Served status limit (S.left source.old) (S.left source.new) start (K.held sink.new)) }
     ensures read { IsErrOf result Status.ReadFault → Rose (S.faults source.old) (S.faults source.new) }
     ensures write { IsErrOf result Status.WriteFault → Rose (K.faults sink.old) (K.faults sink.new) }
     ensures later { K.faults sink.old ≤ K.faults sink.new }

@@ -11,7 +11,7 @@ use Rattle.itpg_session.specs.Machine.{Turn, IsGood, Replies, opening}
 use Rattle.itpg_session.specs.MachineLaws.{GoodReply}
 use Rattle.trial_script.specs.Script.{Asks, script}
 use Rattle.trial_run.specs.Summary.{Told, nothing, joined, told_of, Tells, IsSummary, TellsAll, TellsSome}
-use Rattle.trial_run.specs.Running.{TellsFrom, Takes, TakesSome, Stands}
+use Rattle.trial_run.specs.Running.{TellsFrom, Takes, TakesSome, Underway}
 use Rattle.trial_run.specs.declared.run.Running.{Running}
 use Rattle.trial_run.proofs.Telling.{Laws, joined_assoc, joined-nothing, some_told}
 
@@ -69,8 +69,8 @@ takes_other good_reply held old new line turn others replies session number ques
     or_false true = refl
     or_false false = refl
 
-pub stands_first : Laws → (limit number : ℕ) (held : Option (List ℕ)) (r : Running) → r.session ≡ record { machine = opening; limit = limit } → r.number ≡ 1 → r.question ≡ 1 → r.wide ≡ false → Stands limit number held held r (script number)
-stands_first laws limit number held r session line question wide = record {
+pub underway_first : Laws → (limit number : ℕ) (held : Option (List ℕ)) (r : Running) → r.session ≡ record { machine = opening; limit = limit } → r.number ≡ 1 → r.question ≡ 1 → r.wide ≡ false → Underway limit number held held r (script number)
+underway_first laws limit number held r session line question wide = record {
   told = nothing;
   closes = λ rest goes.
       subst (λ k. Tells limit opening 1 k (script number) rest) question (subst (λ n. Tells limit opening n r.question (script number) rest) line (subst (λ s. Tells s.limit s.machine r.number r.question (script number) rest) session goes));
@@ -79,9 +79,9 @@ stands_first laws limit number held r session line question wide = record {
   good = subst (λ s. IsGood s.machine) (sym session) laws.opening;
 }
 
-pub stands_more : (limit number : ℕ) (start mid now : Option (List ℕ)) (old new : Running) (line : List ℕ) (left : List (List ℕ))
-    → Stands limit number start mid old (line ∷ left) → Takes mid now old new line → Stands limit number start now new left
-stands_more limit number start mid now old new line left s t = record {
+pub underway_more : (limit number : ℕ) (start mid now : Option (List ℕ)) (old new : Running) (line : List ℕ) (left : List (List ℕ))
+    → Underway limit number start mid old (line ∷ left) → Takes mid now old new line → Underway limit number start now new left
+underway_more limit number start mid now old new line left s t = record {
   told = joined s.told t.told;
   closes = λ rest goes. subst (IsSummary limit number) (joined_assoc s.told t.told rest) (s.closes (joined t.told rest) (t.goes_on left rest goes));
   written = Appends-trans start mid now _ _ s.written t.written;
@@ -89,16 +89,16 @@ stands_more limit number start mid now old new line left s t = record {
   good = t.good s.good;
 }
 
-pub stands_last : (limit number : ℕ) (start now : Option (List ℕ)) (r : Running) → Stands limit number start now r [] → TellsAll limit number start now r.wide
+pub underway_last : (limit number : ℕ) (start now : Option (List ℕ)) (r : Running) → Underway limit number start now r [] → TellsAll limit number start now r.wide
 unfolding Tells
-stands_last limit number start now r s = record {
+underway_last limit number start now r s = record {
   told = s.told;
   summary = subst (IsSummary limit number) (joined-nothing s.told) (s.closes nothing refl);
   written = s.written;
   is_wide = sym s.wide;
 }
 
-pub stops_whole : Laws → (limit number : ℕ) (start mid now : Option (List ℕ)) (r : Running) (left : List (List ℕ)) → Stands limit number start mid r left → Keeps mid now → TellsSome limit number start now
+pub stops_whole : Laws → (limit number : ℕ) (start mid now : Option (List ℕ)) (r : Running) (left : List (List ℕ)) → Underway limit number start mid r left → Keeps mid now → TellsSome limit number start now
 stops_whole laws limit number start mid now r left s keeps =
     let rest = some_told laws r.session.limit r.session.machine r.number r.question left s.good in
     record {
@@ -108,7 +108,7 @@ stops_whole laws limit number start mid now r left s keeps =
     }
 
 pub stops_within : (limit number : ℕ) (start mid now : Option (List ℕ)) (r : Running) (line : List ℕ) (left : List (List ℕ))
-    → Stands limit number start mid r (line ∷ left) → TakesSome mid now r line → TellsSome limit number start now
+    → Underway limit number start mid r (line ∷ left) → TakesSome mid now r line → TellsSome limit number start now
 stops_within limit number start mid now r line left s t =
     let rest = t.goes_on left s.good in
     record {
@@ -122,7 +122,7 @@ stops_within limit number start mid now r line left s t =
       };
     }
 
-pub stops : Laws → (fault : StepFault) (limit number : ℕ) (start mid now : Option (List ℕ)) (r : Running) (line : List ℕ) (left : List (List ℕ)) → Stands limit number start mid r (line ∷ left)
+pub stops : Laws → (fault : StepFault) (limit number : ℕ) (start mid now : Option (List ℕ)) (r : Running) (line : List ℕ) (left : List (List ℕ)) → Underway limit number start mid r (line ∷ left)
     → (IsErrOf {T = Unit {0}} (Err fault) Memory → Keeps mid now) → (IsErrOf {T = Unit {0}} (Err fault) Write → TakesSome mid now r line) → TellsSome limit number start now
 stops laws Memory limit number start mid now r line left s memory write = stops_whole laws limit number start mid now r (line ∷ left) s (memory refl)
 stops laws Write limit number start mid now r line left s memory write = stops_within limit number start mid now r line left s (write refl)

@@ -28,7 +28,7 @@ pub record TakesSome (held now : Option (List ℕ)) (old : Running) (line : List
   pub some : AppendsSome held now told.text
 
 -- behind the lines that were taken, with these left
-pub record Stands (limit number : ℕ) (start now : Option (List ℕ)) (r : Running) (left : List (List ℕ)) : Type 0 where
+pub record Underway (limit number : ℕ) (start now : Option (List ℕ)) (r : Running) (left : List (List ℕ)) : Type 0 where
   pub told : Told
   pub closes : (rest : Told) → TellsFrom r left rest → IsSummary limit number (joined told rest)
   pub written : Appends start now told.text

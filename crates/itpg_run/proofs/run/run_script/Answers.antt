@@ -1,5 +1,5 @@
 use Rattle.std.proofs.Common.{Err, ap, subst, arith}
-use Rattle.itpg_run.specs.Stands.{Ends}
+use Rattle.itpg_run.specs.Fed.{Ends}
 use Rattle.itpg_run.proofs.Pumped.{begins, finished, ends_well, never_usage}
 use Rattle.itpg_run.proofs.Begins.{served_each}
 use Rattle.itpg_run.proofs.run.run_script.Goals as goal
@@ -10,7 +10,7 @@ returns-clause-served g c = c.in-Err.ensures.stopped c.args.limits _ (begins c.a
 pub returns-in-Ok-clause-served : goal.returns-in-Ok-clause-served
 returns-in-Ok-clause-served g c =
     let p = c.in-Ok.ensures.ended c.args.limits _ (begins c.args.limits (g.K.Sink.held c.args.sink.now) _ c.new-reader.ensures.session c.new-reader.ensures.number c.new-reader.ensures.line c.new-reader.ensures.failing) in
-    finished c.args.limits c.finish.result _ _ _ (g.K.Sink.held c.pump.new.sink) _ c.pump.new.reader p (c.finish.ensures.ends c.args.limits _ p.bytes p.stands)
+    finished c.args.limits c.finish.result _ _ _ (g.K.Sink.held c.pump.new.sink) _ c.pump.new.reader p (c.finish.ensures.ends c.args.limits _ p.bytes p.fed)
 
 pub returns-clause-each : goal.returns-clause-each
 returns-clause-each g c = served_each (record { one = c.law_of_replies.ensures.one; some = c.law_of_replies.ensures.some; good = c.law_of_replies.ensures.good; opening = c.law_of_replies.ensures.opening }) c.args.limits c.in-Err.status _ (g.S.Source.left c.pump.new.source) _ _ (returns-clause-served g c)
@@ -21,7 +21,7 @@ returns-in-Ok-clause-each g c = served_each (record { one = c.law_of_replies.ens
 pub returns-in-Ok-clause-read : goal.returns-in-Ok-clause-read
 returns-in-Ok-clause-read g c = λ is.
     let p = c.in-Ok.ensures.ended c.args.limits _ (begins c.args.limits (g.K.Sink.held c.args.sink.now) _ c.new-reader.ensures.session c.new-reader.ensures.number c.new-reader.ensures.line c.new-reader.ensures.failing) in
-    absurd (subst (λ t. Ends t c.args.limits (g.K.Sink.held c.args.sink.now) (g.K.Sink.held c.finish.new.out) p.bytes) is (c.finish.ensures.ends c.args.limits _ p.bytes p.stands))
+    absurd (subst (λ t. Ends t c.args.limits (g.K.Sink.held c.args.sink.now) (g.K.Sink.held c.finish.new.out) p.bytes) is (c.finish.ensures.ends c.args.limits _ p.bytes p.fed))
 
 pub returns-clause-complete : goal.returns-clause-complete
 returns-clause-complete g c = ends_well c.args.limits c.in-Err.status _ _ _ _ _ _ (returns-clause-served g c) (λ is. c.in-Err.ensures.read (ap Err is)) (λ is. c.in-Err.ensures.write (ap Err is))

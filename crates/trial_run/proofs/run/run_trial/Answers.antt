@@ -2,10 +2,10 @@ use Rattle.std.proofs.Common.{◌≡◌, ◌∷◌, length, ap, sym, subst, arit
 use Rattle.std.proofs.KnownBytes.{Keeps-refl}
 use Rattle.row_printer.proofs.Saying.{on_err}
 use Rattle.trial_script.specs.Script.{script}
-use Rattle.trial_run.specs.Running.{Stands}
+use Rattle.trial_run.specs.Running.{Underway}
 use Rattle.trial_run.proofs.Telling.{Laws}
 use Rattle.trial_run.proofs.Length.{few_lines}
-use Rattle.trial_run.proofs.Running.{stands_first, stands_more, stands_last, stops, stops_whole, taken_none, taken_some}
+use Rattle.trial_run.proofs.Running.{underway_first, underway_more, underway_last, stops, stops_whole, taken_none, taken_some}
 use Rattle.trial_run.proofs.run.run_trial.Goals as goal
 
 pub loop-running-init : goal.loop-running-init
@@ -15,7 +15,7 @@ loop-running-init g c =
     let held = g.K.Sink.held c.args.out.now in
     let count : length c.new-trial.result ≡ length (script c.args.number) = ap length c.new-trial.ensures in
     record {
-      stands = subst (Stands c.args.limits c.args.number held held c.new-running.result) (sym c.new-trial.ensures) (stands_first laws c.args.limits c.args.number held c.new-running.result ready.session ready.number ready.question ready.wide);
+      underway = subst (Underway c.args.limits c.args.number held held c.new-running.result) (sym c.new-trial.ensures) (underway_first laws c.args.limits c.args.number held c.new-running.result ready.session ready.number ready.question ready.wide);
       few = omega (arith, ready.number, count, few_lines c.args.number);
       questions = omega (arith, ready.number, ready.question);
       later = omega arith;
@@ -24,7 +24,7 @@ loop-running-init g c =
 pub returns-in_err-line-clause-some : goal.returns-in_err-line-clause-some
 returns-in_err-line-clause-some g c =
     let laws : Laws = record { one_asked = c.law_of_asked.ensures.one; some_asked = c.law_of_asked.ensures.some; one = c.law_of_replies.ensures.one; some = c.law_of_replies.ensures.some; good = c.law_of_replies.ensures.good; opening = c.law_of_replies.ensures.opening } in
-    on_err _ _ (stops_whole laws c.args.limits c.args.number _ _ (g.K.Sink.held c.loop-running.out) c.loop-running.running c.loop-running.trial c.loop-running.invariant.stands (Keeps-refl _))
+    on_err _ _ (stops_whole laws c.args.limits c.args.number _ _ (g.K.Sink.held c.loop-running.out) c.loop-running.running c.loop-running.trial c.loop-running.invariant.underway (Keeps-refl _))
 
 pub returns-in_err-take-clause-some : goal.returns-in_err-take-clause-some
 returns-in_err-take-clause-some g c =
@@ -32,19 +32,19 @@ returns-in_err-take-clause-some g c =
     let taken = taken_some _ _ _ _ c.in-Some.is c.in_ok-line.ensures.taken in
     let value = c.deref.ensures.value in
     let split : c.loop-running.trial ≡ c.deref.result.now ∷ c.next_line.new.trial = cc in
-    let stands = subst (Stands c.args.limits c.args.number (g.K.Sink.held c.args.out.now) (g.K.Sink.held c.loop-running.out) c.loop-running.running) split c.loop-running.invariant.stands in
-    on_err _ _ (stops laws _ c.args.limits c.args.number _ _ _ c.loop-running.running c.deref.result.now c.next_line.new.trial stands c.in_err-take.ensures.memory c.in_err-take.ensures.some)
+    let underway = subst (Underway c.args.limits c.args.number (g.K.Sink.held c.args.out.now) (g.K.Sink.held c.loop-running.out) c.loop-running.running) split c.loop-running.invariant.underway in
+    on_err _ _ (stops laws _ c.args.limits c.args.number _ _ _ c.loop-running.running c.deref.result.now c.next_line.new.trial underway c.in_err-take.ensures.memory c.in_err-take.ensures.some)
 
 pub loop-running-preserved : goal.loop-running-preserved
 loop-running-preserved g c =
     let taken = taken_some _ _ _ _ c.in-Some.is c.in_ok-line.ensures.taken in
     let value = c.deref.ensures.value in
     let split : c.loop-running.trial ≡ c.deref.result.now ∷ c.next_line.new.trial = cc in
-    let stands = subst (Stands c.args.limits c.args.number (g.K.Sink.held c.args.out.now) (g.K.Sink.held c.loop-running.out) c.loop-running.running) split c.loop-running.invariant.stands in
+    let underway = subst (Underway c.args.limits c.args.number (g.K.Sink.held c.args.out.now) (g.K.Sink.held c.loop-running.out) c.loop-running.running) split c.loop-running.invariant.underway in
     let takes = c.in_ok-take.ensures.takes in
     let count = ap length split in
     record {
-      stands = stands_more c.args.limits c.args.number _ _ (g.K.Sink.held c.take.new.out) c.loop-running.running c.take.new.self c.deref.result.now c.next_line.new.trial stands takes;
+      underway = underway_more c.args.limits c.args.number _ _ (g.K.Sink.held c.take.new.out) c.loop-running.running c.take.new.self c.deref.result.now c.next_line.new.trial underway takes;
       few = omega (arith, takes.number, count, c.loop-running.invariant.few);
       questions = omega (arith, takes.number, takes.question, c.loop-running.invariant.questions);
       later = omega (arith, c.take.ensures.later, c.loop-running.invariant.later);
@@ -53,4 +53,4 @@ loop-running-preserved g c =
 pub returns-clause-told : goal.returns-clause-told
 returns-clause-told g c =
     let none = taken_none _ _ _ c.in_default.is c.in_ok-line.ensures.taken in
-    stands_last c.args.limits c.args.number _ _ c.loop-running.running (subst (Stands c.args.limits c.args.number (g.K.Sink.held c.args.out.now) (g.K.Sink.held c.loop-running.out) c.loop-running.running) none.0 c.loop-running.invariant.stands)
+    underway_last c.args.limits c.args.number _ _ c.loop-running.running (subst (Underway c.args.limits c.args.number (g.K.Sink.held c.args.out.now) (g.K.Sink.held c.loop-running.out) c.loop-running.running) none.0 c.loop-running.invariant.underway)

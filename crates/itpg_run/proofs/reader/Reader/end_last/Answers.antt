@@ -1,8 +1,8 @@
 use Rattle.std.proofs.Common.{◌≢◌, [], rules, arith}
 use Rattle.std.proofs.lemmas.Grind.{common_steps}
 use Rattle.std.specs.Io.KnownBytes.{Keeps}
-use Rattle.itpg_run.specs.Stands.{AnswersWithin}
-use Rattle.itpg_run.proofs.Stands.{stands_whole, ends_whole, ends_line, ends_within}
+use Rattle.itpg_run.specs.Fed.{AnswersWithin}
+use Rattle.itpg_run.proofs.Fed.{fed_whole, ends_whole, ends_line, ends_within}
 use Rattle.itpg_run.proofs.reader.Reader.end_last.Goals as goal
 
 pub returns-then-is_empty-clause-ended : goal.returns-then-is_empty-clause-ended
@@ -16,7 +16,7 @@ returns-clause-ended g c = λ limit start bytes s.
 pub returns-in_err-end_line-clause-memory : goal.returns-in_err-end_line-clause-memory
 returns-in_err-end_line-clause-memory g c = λ is limit start bytes s.
     let keeps : Keeps (g.K.Sink.held c.args.out.now) (g.K.Sink.held c.end_line.new.out) = search rules in
-    stands_whole limit start _ _ _ bytes _ s keeps
+    fed_whole limit start _ _ _ bytes _ s keeps
 
 pub returns-in_err-end_line-clause-write : goal.returns-in_err-end_line-clause-write
 returns-in_err-end_line-clause-write g c = λ is limit start bytes s.

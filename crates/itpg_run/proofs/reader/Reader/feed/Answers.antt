@@ -1,8 +1,8 @@
 use Rattle.std.proofs.Common.{◌≡◌, ◌+◌, ◌-◌, ◌++◌, ◌∷◌, [], length, length-append, take, drop, refl, ap, ◌∙◌, append_assoc, append-nil, rules, arith}
 use Rattle.std.proofs.lemmas.Grind.{common_steps}
-use Rattle.itpg_run.specs.Stands.{StopsWhole, StopsWithin}
+use Rattle.itpg_run.specs.Fed.{StopsWhole, StopsWithin}
 use Rattle.itpg_run.proofs.Split.{first_end, no_end}
-use Rattle.itpg_run.proofs.Stands.{stands_whole}
+use Rattle.itpg_run.proofs.Fed.{fed_whole}
 use Rattle.std.proofs.KnownBytes.{Keeps-refl}
 use Rattle.itpg_run.proofs.Feeding.{feeds_then, stops_whole_then, stops_within_then}
 use Rattle.itpg_run.proofs.reader.Reader.feed.Goals as goal
@@ -44,5 +44,5 @@ take_piece-requires g c =
 
 pub returns-in_err-take_piece-clause-memory : goal.returns-in_err-take_piece-clause-memory
 returns-in_err-take_piece-clause-memory g c = λ is.
-    stops_whole_then _ _ _ _ _ c.loop-end.invariant.done c.loop-end.rest.now [] _ c.loop-end.invariant.fed (λ limit start bytes s. stands_whole limit start _ _ _ bytes _ s (Keeps-refl _))
+    stops_whole_then _ _ _ _ _ c.loop-end.invariant.done c.loop-end.rest.now [] _ c.loop-end.invariant.fed (λ limit start bytes s. fed_whole limit start _ _ _ bytes _ s (Keeps-refl _))
     (ap (λ t. c.loop-end.invariant.done ++ t) (append-nil c.loop-end.rest.now) ∙ c.loop-end.invariant.split)

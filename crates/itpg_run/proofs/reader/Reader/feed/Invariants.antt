@@ -1,5 +1,5 @@
 use Rattle.std.proofs.Common.{◌≡◌, ◌+◌, ◌≤◌, ℕ, List, ◌++◌, length}
-use Rattle.itpg_run.specs.Stands.{Feeds}
+use Rattle.itpg_run.specs.Fed.{Feeds}
 use Rattle.itpg_run.proofs.reader.Reader.feed.Given as goal
 
 abbrev pub invariant-loop-end : goal.invariant-loop-end

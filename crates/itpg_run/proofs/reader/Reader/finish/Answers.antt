@@ -1,6 +1,6 @@
 use Rattle.std.proofs.Common.{[], subst, append-nil, rules}
 use Rattle.itpg_run.specs.Served.{WritesLines, WritesAs}
-use Rattle.itpg_run.specs.Stands.{StopsWhole}
+use Rattle.itpg_run.specs.Fed.{StopsWhole}
 use Rattle.itpg_run.proofs.reader.Reader.finish.Goals as goal
 
 pub returns-in-Ok-clause-ends : goal.returns-in-Ok-clause-ends

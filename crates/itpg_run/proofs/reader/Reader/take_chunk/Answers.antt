@@ -1,8 +1,8 @@
 use Rattle.std.proofs.Common.{◌≡◌, ◌++◌, take, drop, sym, ap, ◌∙◌, subst, append_assoc, take-append-drop, rules, arith}
 use Rattle.itpg_run.specs.Lines.{whole}
 use Rattle.itpg_run.specs.Served.{WritesOut, WritesWithin}
-use Rattle.itpg_run.specs.Stands.{StopsWhole, StopsWithin}
-use Rattle.itpg_run.proofs.Stands.{stands_out_whole, writes_longer}
+use Rattle.itpg_run.specs.Fed.{StopsWhole, StopsWithin}
+use Rattle.itpg_run.proofs.Fed.{fed_out_whole, writes_longer}
 use Rattle.itpg_run.proofs.reader.Reader.take_chunk.Goals as goal
 
 pub returns-in-Ok-clause-stops : goal.returns-in-Ok-clause-stops
@@ -10,7 +10,7 @@ returns-in-Ok-clause-stops g c = (
   search rules,
   λ limit start bytes s.
       let e : c.min.result ≡ c.args.room = omega arith in
-      subst (λ n. WritesOut limit start (g.K.Sink.held c.feed.new.out) (whole (bytes ++ take n c.args.bytes.now))) e (stands_out_whole limit start _ _ _ (c.in-Ok.ensures.fed limit start bytes s)),
+      subst (λ n. WritesOut limit start (g.K.Sink.held c.feed.new.out) (whole (bytes ++ take n c.args.bytes.now))) e (fed_out_whole limit start _ _ _ (c.in-Ok.ensures.fed limit start bytes s)),
 )
 
 pub returns-in-Err-Memory-clause-stops : goal.returns-in-Err-Memory-clause-stops

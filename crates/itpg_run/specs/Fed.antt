@@ -1,4 +1,4 @@
--- Where a reader stands behind the bytes that it was given.
+-- What a reader was fed, and what was written by then.
 use Rattle.std.specs.Prelude.{◌≡◌, ℕ, ◌+◌, List, [], ◌++◌, length, take, ◌<◌, ◌||◌, true, false}
 use Rattle.std.specs.declared.option.Option.{Option}
 use Rattle.std.specs.Io.KnownBytes.{Appends}
@@ -33,7 +33,7 @@ abbrev pub AnswersWithin : Option (List ℕ) → Option (List ℕ) → Reader �
 AnswersWithin before now r = StepsWithin (RepliesTo r) before now
 
 -- the reader was given these bytes, and the replies to the whole lines in them were written
-pub record Stands (limit : ℕ) (start now : Option (List ℕ)) (r : Reader) (bytes : List ℕ) : Type 0 where
+pub record Fed (limit : ℕ) (start now : Option (List ℕ)) (r : Reader) (bytes : List ℕ) : Type 0 where
   pub lines : List (List ℕ)
   pub rest : List ℕ
   pub split : joined lines ++ rest ≡ bytes
@@ -49,21 +49,21 @@ pub record Stands (limit : ℕ) (start now : Option (List ℕ)) (r : Reader) (by
 
 -- more bytes were given
 abbrev pub Feeds : Option (List ℕ) → Option (List ℕ) → Reader → Reader → List ℕ → Type 0
-Feeds before now old new more = (limit : ℕ) (start : Option (List ℕ)) (bytes : List ℕ) → Stands limit start before old bytes → Stands limit start now new (bytes ++ more)
+Feeds before now old new more = (limit : ℕ) (start : Option (List ℕ)) (bytes : List ℕ) → Fed limit start before old bytes → Fed limit start now new (bytes ++ more)
 
 -- whole replies were written, and no further one
 abbrev pub StopsWhole : Option (List ℕ) → Option (List ℕ) → Reader → List ℕ → Type 0
-StopsWhole before now old more = (limit : ℕ) (start : Option (List ℕ)) (bytes : List ℕ) → Stands limit start before old bytes → WritesLines limit start now (bytes ++ more)
+StopsWhole before now old more = (limit : ℕ) (start : Option (List ℕ)) (bytes : List ℕ) → Fed limit start before old bytes → WritesLines limit start now (bytes ++ more)
 
 -- a front part of the output was written, whatever follows
 abbrev pub StopsWithin : Option (List ℕ) → Option (List ℕ) → Reader → List ℕ → Type 0
-StopsWithin before now old more = (limit : ℕ) (start : Option (List ℕ)) (bytes : List ℕ) → Stands limit start before old bytes → (rest : List ℕ) → WritesWithin limit start now (bytes ++ (more ++ rest))
+StopsWithin before now old more = (limit : ℕ) (start : Option (List ℕ)) (bytes : List ℕ) → Fed limit start before old bytes → (rest : List ℕ) → WritesWithin limit start now (bytes ++ (more ++ rest))
 
 -- a chunk was not taken whole
 abbrev pub Stops : Stop → Option (List ℕ) → Option (List ℕ) → Reader → List ℕ → ℕ → Type 0
 Stops stop.Memory before now old more room = StopsWhole before now old more
 Stops stop.Write before now old more room = StopsWithin before now old more
-Stops stop.TooLong before now old more room = (room < length more) × ((limit : ℕ) (start : Option (List ℕ)) (bytes : List ℕ) → Stands limit start before old bytes → WritesOut limit start now (whole (bytes ++ take room more)))
+Stops stop.TooLong before now old more room = (room < length more) × ((limit : ℕ) (start : Option (List ℕ)) (bytes : List ℕ) → Fed limit start before old bytes → WritesOut limit start now (whole (bytes ++ take room more)))
 
 -- all bytes were taken
 abbrev pub Ends : Status → ℕ → Option (List ℕ) → Option (List ℕ) → List ℕ → Type 0

@@ -1,4 +1,4 @@
--- What a byte and a line do to where a reader stands.
+-- What a byte and a line more do to a reader that was fed.
 use Rattle.std.proofs.Common.{◌≡◌, ℕ, ◌+◌, Some, None, List, [], ◌∷◌, ◌++◌, ◌≢◌, ◌||◌, length, take, refl, ap, ◌∙◌, sym, subst, append_assoc, append-nil, length-append, arith}
 use Rattle.std.specs.declared.option.Option.{Option}
 use Rattle.std.specs.Io.KnownBytes.{Appends, Keeps}
@@ -8,7 +8,7 @@ use Rattle.itpg_run.specs.Lines.{kept, lines, whole}
 use Rattle.itpg_run.specs.Out.{both, Runs}
 use Rattle.itpg_run.specs.Split.{NoEnd, NoEnds, joined, last_line}
 use Rattle.itpg_run.specs.Served.{WritesLines, WritesOut, WritesAs, WritesWithin}
-use Rattle.itpg_run.specs.Stands.{RepliesTo, AnswersWithin, Stands, EndsLine}
+use Rattle.itpg_run.specs.Fed.{RepliesTo, AnswersWithin, Fed, EndsLine}
 use Rattle.itpg_run.specs.declared.reader.Reader.{Reader}
 use Rattle.itpg_run.proofs.Split.{NoEnd-append, NoEnds-push, joined-push, lines-joined, lines-line, lines-rest, whole-joined, whole-rest}
 use Rattle.itpg_run.proofs.Kept.{take_take, take_none, take_nothing, kept_is}
@@ -22,11 +22,11 @@ Appends-kept (Some x) (Some y) None bs p q = absurd q
 Appends-kept (Some x) (Some y) (Some z) bs p q = q ∙ p
 
 -- a piece in which no line ends
-pub stands_piece : (limit : ℕ) (start now : Option (List ℕ)) (old new : Reader) (bytes piece : List ℕ)
-    → Stands limit start now old bytes → NoEnd piece
+pub fed_piece : (limit : ℕ) (start now : Option (List ℕ)) (old new : Reader) (bytes piece : List ℕ)
+    → Fed limit start now old bytes → NoEnd piece
     → new.session ≡ old.session → new.number ≡ old.number → new.failing ≡ old.failing → new.line.items ≡ take kept (old.line.items ++ piece)
-    → Stands limit start now new (bytes ++ piece)
-stands_piece limit start now old new bytes piece s e session number failing line = record {
+    → Fed limit start now new (bytes ++ piece)
+fed_piece limit start now old new bytes piece s e session number failing line = record {
   lines = s.lines;
   rest = s.rest ++ piece;
   split = sym (append_assoc (joined s.lines) s.rest piece) ∙ ap (λ t. t ++ piece) s.split;
@@ -42,17 +42,17 @@ stands_piece limit start now old new bytes piece s e session number failing line
 }
 
 -- what the session answers is what the machine answers to the whole line
-replies_rest : (limit : ℕ) (start now : Option (List ℕ)) (r : Reader) (bytes : List ℕ) → (s : Stands limit start now r bytes) → (t : Turn) → RepliesTo r t → Replies limit s.turn.next (1 + length s.lines) s.rest t
+replies_rest : (limit : ℕ) (start now : Option (List ℕ)) (r : Reader) (bytes : List ℕ) → (s : Fed limit start now r bytes) → (t : Turn) → RepliesTo r t → Replies limit s.turn.next (1 + length s.lines) s.rest t
 replies_rest limit start now r bytes s t a =
     subst (λ n. Replies limit s.turn.next n s.rest t) s.number (subst (λ m. Replies m.limit m.machine r.number s.rest t) s.session (a s.rest s.line))
 
-runs_rest : (limit : ℕ) (start now : Option (List ℕ)) (r : Reader) (bytes : List ℕ) → (s : Stands limit start now r bytes) → (t : Turn) → RepliesTo r t → Runs limit opening 1 (s.lines ++ s.rest ∷ []) (both s.turn t)
+runs_rest : (limit : ℕ) (start now : Option (List ℕ)) (r : Reader) (bytes : List ℕ) → (s : Fed limit start now r bytes) → (t : Turn) → RepliesTo r t → Runs limit opening 1 (s.lines ++ s.rest ∷ []) (both s.turn t)
 runs_rest limit start now r bytes s t a = runs-push limit opening 1 s.lines s.rest s.turn t s.runs (replies_rest limit start now r bytes s t a)
 
 -- the end of a line
-pub stands_line : (limit : ℕ) (start before now : Option (List ℕ)) (old new : Reader) (bytes : List ℕ)
-    → Stands limit start before old bytes → EndsLine before now old new → Stands limit start now new (bytes ++ 10 ∷ [])
-stands_line limit start before now old new bytes s e = record {
+pub fed_line : (limit : ℕ) (start before now : Option (List ℕ)) (old new : Reader) (bytes : List ℕ)
+    → Fed limit start before old bytes → EndsLine before now old new → Fed limit start now new (bytes ++ 10 ∷ [])
+fed_line limit start before now old new bytes s e = record {
   lines = s.lines ++ s.rest ∷ [];
   rest = [];
   split = append-nil _ ∙ joined-push s.lines s.rest ∙ sym (append_assoc (joined s.lines) s.rest (10 ∷ [])) ∙ ap (λ t. t ++ 10 ∷ []) s.split;
@@ -75,24 +75,24 @@ pub whole_joined : (ls : List (List ℕ)) (rest : List ℕ) → NoEnds ls → No
 whole_joined ls rest ended open_end = whole-joined ls rest ended ∙ ap (λ t. joined ls ++ t) (whole-rest rest open_end) ∙ append-nil (joined ls)
 
 -- the lines of the whole lines
-lines_whole : (limit : ℕ) (start now : Option (List ℕ)) (r : Reader) (bytes : List ℕ) → (s : Stands limit start now r bytes) → lines (whole bytes) ≡ s.lines
+lines_whole : (limit : ℕ) (start now : Option (List ℕ)) (r : Reader) (bytes : List ℕ) → (s : Fed limit start now r bytes) → lines (whole bytes) ≡ s.lines
 lines_whole limit start now r bytes s = ap (λ t. lines (whole t)) (sym s.split) ∙ ap lines (whole_joined s.lines s.rest s.ended s.open_end) ∙ lines_joined s.lines s.ended
 
 -- the replies to whole lines are the output over them
-pub stands_out_whole : (limit : ℕ) (start now : Option (List ℕ)) (r : Reader) (bytes : List ℕ) → Stands limit start now r bytes → WritesOut limit start now (whole bytes)
-stands_out_whole limit start now r bytes s = record { turn = s.turn; out = subst (λ ls. Runs limit opening 1 ls s.turn) (sym (lines_whole limit start now r bytes s)) s.runs; written = s.written }
+pub fed_out_whole : (limit : ℕ) (start now : Option (List ℕ)) (r : Reader) (bytes : List ℕ) → Fed limit start now r bytes → WritesOut limit start now (whole bytes)
+fed_out_whole limit start now r bytes s = record { turn = s.turn; out = subst (λ ls. Runs limit opening 1 ls s.turn) (sym (lines_whole limit start now r bytes s)) s.runs; written = s.written }
 
 -- nothing more was written
-pub stands_whole : (limit : ℕ) (start before now : Option (List ℕ)) (r : Reader) (bytes more : List ℕ) → Stands limit start before r bytes → Keeps before now → WritesLines limit start now (bytes ++ more)
-stands_whole limit start before now r bytes more s keeps = record {
+pub fed_whole : (limit : ℕ) (start before now : Option (List ℕ)) (r : Reader) (bytes more : List ℕ) → Fed limit start before r bytes → Keeps before now → WritesLines limit start now (bytes ++ more)
+fed_whole limit start before now r bytes more s keeps = record {
   front = bytes;
   rest = more;
   split = refl;
-  writes = let w = stands_out_whole limit start before r bytes s in record { turn = w.turn; out = w.out; written = Appends-kept start before now _ w.written keeps };
+  writes = let w = fed_out_whole limit start before r bytes s in record { turn = w.turn; out = w.out; written = Appends-kept start before now _ w.written keeps };
 }
 
 -- a front part of a reply was written behind what was written
-within : (limit : ℕ) (start before now : Option (List ℕ)) (r : Reader) (bytes all : List ℕ) (rest : List (List ℕ)) → (s : Stands limit start before r bytes)
+within : (limit : ℕ) (start before now : Option (List ℕ)) (r : Reader) (bytes all : List ℕ) (rest : List (List ℕ)) → (s : Fed limit start before r bytes)
     → (w : AnswersWithin before now r) → (s.lines ++ s.rest ∷ []) ++ rest ≡ lines all → WritesWithin limit start now all
 within limit start before now r bytes all rest s w e = record {
   front = s.lines ++ s.rest ∷ [];
@@ -108,9 +108,9 @@ within limit start before now r bytes all rest s w e = record {
   };
 }
 
-pub stands_within : (limit : ℕ) (start before now : Option (List ℕ)) (r : Reader) (bytes : List ℕ) → Stands limit start before r bytes → AnswersWithin before now r
+pub fed_within : (limit : ℕ) (start before now : Option (List ℕ)) (r : Reader) (bytes : List ℕ) → Fed limit start before r bytes → AnswersWithin before now r
     → (rest : List ℕ) → WritesWithin limit start now (bytes ++ 10 ∷ rest)
-stands_within limit start before now r bytes s w rest =
+fed_within limit start before now r bytes s w rest =
     within limit start before now r bytes (bytes ++ 10 ∷ rest) (lines rest) s w
     (append_assoc s.lines (s.rest ∷ []) (lines rest) ∙ sym (ap (λ t. lines (t ++ (10 ∷ rest))) (sym s.split) ∙ ap lines (append_assoc (joined s.lines) s.rest (10 ∷ rest)) ∙ lines-joined s.lines (s.rest ++ (10 ∷ rest)) s.ended ∙ ap (λ t. s.lines ++ t) (lines-line s.rest rest s.open_end)))
 
@@ -123,25 +123,25 @@ writes_longer limit start now xs more ys w e = record {
   writes = w.writes;
 }
 
-lines_of : (limit : ℕ) (start now : Option (List ℕ)) (r : Reader) (bytes : List ℕ) → (s : Stands limit start now r bytes) → lines bytes ≡ s.lines ++ last_line s.rest
+lines_of : (limit : ℕ) (start now : Option (List ℕ)) (r : Reader) (bytes : List ℕ) → (s : Fed limit start now r bytes) → lines bytes ≡ s.lines ++ last_line s.rest
 lines_of limit start now r bytes s = sym (ap lines s.split) ∙ lines-joined s.lines s.rest s.ended ∙ ap (λ t. s.lines ++ t) (lines-rest s.rest s.open_end)
 
 last_some : (r : List ℕ) → r ≢ [] → last_line r ≡ r ∷ []
 last_some [] some = absurd (some refl)
 last_some (x ∷ xs) some = refl
 
-lines_with_last : (limit : ℕ) (start now : Option (List ℕ)) (r : Reader) (bytes : List ℕ) → (s : Stands limit start now r bytes) → r.line.items ≢ [] → lines bytes ≡ s.lines ++ s.rest ∷ []
+lines_with_last : (limit : ℕ) (start now : Option (List ℕ)) (r : Reader) (bytes : List ℕ) → (s : Fed limit start now r bytes) → r.line.items ≢ [] → lines bytes ≡ s.lines ++ s.rest ∷ []
 lines_with_last limit start now r bytes s some = lines_of limit start now r bytes s ∙ ap (λ t. s.lines ++ t) (last_some s.rest (λ h. some (s.line ∙ ap (take kept) h ∙ take_nothing kept)))
 
 -- with no byte behind the last line end, all is answered
-pub ends_whole : (limit : ℕ) (start now : Option (List ℕ)) (r : Reader) (bytes : List ℕ) → Stands limit start now r bytes → r.line.items ≡ [] → WritesAs limit start now bytes r.failing
+pub ends_whole : (limit : ℕ) (start now : Option (List ℕ)) (r : Reader) (bytes : List ℕ) → Fed limit start now r bytes → r.line.items ≡ [] → WritesAs limit start now bytes r.failing
 ends_whole limit start now r bytes s e =
     let are : lines bytes ≡ s.lines = lines_of limit start now r bytes s ∙ ap (λ t. s.lines ++ last_line t) (take_none kept s.rest (omega (arith, kept_is)) (sym s.line ∙ e)) ∙ append-nil s.lines in
     record { turn = s.turn; out = subst (λ ls. Runs limit opening 1 ls s.turn) (sym are) s.runs; written = s.written; fails = sym s.failing }
 
 -- a last line without an end
 pub ends_line : (limit : ℕ) (start before now : Option (List ℕ)) (old new : Reader) (bytes : List ℕ)
-    → Stands limit start before old bytes → old.line.items ≢ [] → EndsLine before now old new → WritesAs limit start now bytes new.failing
+    → Fed limit start before old bytes → old.line.items ≢ [] → EndsLine before now old new → WritesAs limit start now bytes new.failing
 ends_line limit start before now old new bytes s some e = record {
   turn = both s.turn e.turn;
   out = subst (λ ls. Runs limit opening 1 ls (both s.turn e.turn)) (sym (lines_with_last limit start before old bytes s some)) (runs_rest limit start before old bytes s e.turn e.replies);
@@ -150,5 +150,5 @@ ends_line limit start before now old new bytes s some e = record {
 }
 
 pub ends_within : (limit : ℕ) (start before now : Option (List ℕ)) (r : Reader) (bytes : List ℕ)
-    → Stands limit start before r bytes → r.line.items ≢ [] → AnswersWithin before now r → WritesWithin limit start now bytes
+    → Fed limit start before r bytes → r.line.items ≢ [] → AnswersWithin before now r → WritesWithin limit start now bytes
 ends_within limit start before now r bytes s some w = within limit start before now r bytes bytes [] s w (append-nil _ ∙ sym (lines_with_last limit start before r bytes s some))
