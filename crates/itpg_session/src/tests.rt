@@ -1,7 +1,7 @@
 // That memory is there: one line of each kind that takes some, and a question. What a step writes, leaves and tells is proved,
-// and `itpg_rows` runs whole scripts. The replies were worked out by hand.
+// and `itpg_rows` runs whole scripts. Two questions are texts that no line has. The replies were worked out by hand.
 use super::*;
-use itpg_base::{Limits, MemSink};
+use itpg_base::{Limits, MemSink, TextCode};
 use relation_rows::Answer;
 use std::test::Fail;
 
@@ -30,5 +30,17 @@ fn each_kind_of_line_finds_memory(rt: HostRuntime) -> Result<(), Fail> {
     assert_eq!(rt; sink.held(), WRITTEN);
     let asked = session.ask(b"MATCH (x)")?;
     assert!(rt; matches!(&asked, Asked::Rows(Answer::Times(rows)) if rows.rows().len() == 1));
+    Ok(())
+}
+
+#[test]
+fn a_question_has_no_faults_of_a_line(rt: HostRuntime) -> Result<(), Fail> {
+    let alloc = rt.alloc();
+    let session = Session::new(alloc, Limits::new(1).ok_or("limit")?);
+    let marks = vec![in alloc; b'+'; 4097]?;
+    assert!(rt; matches!(&session.ask(&marks)?, Asked::Bad(TextCode::Tokens)));
+    let mut open = vec![in alloc; b'('; 65]?;
+    open.push(b'\'')?;
+    assert!(rt; matches!(&session.ask(&open)?, Asked::Bad(TextCode::Deep)));
     Ok(())
 }
