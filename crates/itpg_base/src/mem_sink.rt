@@ -66,6 +66,7 @@ impl Sink for MemSink {
         ensures written { OnOk result (Appends (Some self.old.held) (Some self.new.held) piece.now) }
         ensures some { OnErr result (AppendsSome (Some self.old.held) (Some self.new.held) piece.now) }
         ensures cause { HasCause self.old.faults self.new.faults result }
+        ensures calm { OnOk result (self.new.faults ≡ self.old.faults) }
         ensures failed { IsErr result ↔ (Contains self.old.fail (saturate (self.old.calls + 1)) ⊎ (self.old.room < length piece.now)) }
         ensures taken { OnErr result (self.new.held ≡ self.old.held ++ take (min self.old.most (min (length piece.now) self.old.room)) piece.now) }
         ensures calls { self.new.calls ≡ saturate (self.old.calls + 1) }

@@ -1,5 +1,5 @@
 // Sources in memory.
-ghost use Rattle.std.specs.Prelude.{◌≡◌, ◌+◌, ◌-◌, ◌^◌, ◌<◌, ◌≤◌, ◌↔◌, ℕ, List, [], min, length, take, drop, IfOk, IsErr, Contains, is_err, if◌then◌else◌};
+ghost use Rattle.std.specs.Prelude.{◌≡◌, ◌+◌, ◌-◌, ◌^◌, ◌<◌, ◌≤◌, ◌↔◌, ℕ, List, [], min, length, take, drop, IfOk, OnOk, IsErr, Contains, is_err, if◌then◌else◌};
 ghost use Rattle.std.specs.declared.option.Option.TheVariants.{Some};
 ghost use Rattle.std.specs.Io.{ReadsAtMost};
 ghost use Rattle.std.specs.Io.KnownBytes.{ReadConsumes};
@@ -114,6 +114,7 @@ impl Source for MemSource {
         ensures bound { ReadsAtMost result buf.new }
         ensures bytes { ReadConsumes (Some self.old.left) (Some self.new.left) result buf.new }
         ensures cause { HasCause self.old.faults self.new.faults result }
+        ensures calm { OnOk result (self.new.faults ≡ self.old.faults) }
         ensures failed { IsErr result ↔ Contains self.old.fail (saturate (self.old.calls + 1)) }
         ensures count { IfOk result (λ n. n ≡ min self.old.chunk (min (length buf.old) (length self.old.left))) }
         ensures calls { self.new.calls ≡ saturate (self.old.calls + 1) }

@@ -1,5 +1,5 @@
 // Where bytes come from, and where they go.
-ghost use Rattle.std.specs.Prelude.{ℕ, List, ◌<◌, length, OnOk, OnErr};
+ghost use Rattle.std.specs.Prelude.{◌≡◌, ℕ, List, ◌<◌, length, OnOk, OnErr};
 ghost use Rattle.std.specs.declared.option.Option.{Option};
 ghost use Rattle.std.specs.Io.{ReadsAtMost};
 ghost use Rattle.std.specs.Io.KnownBytes.{Appends, ReadConsumes};
@@ -14,7 +14,7 @@ pub trait Source {
     /// The bytes that are left, where the source tells them.
     ghost left: { Self → Option (List ℕ) };
 
-    /// How often it has failed. The count never falls, and stands still at 2^64 - 1.
+    /// How often it has failed. The count rises at a failure alone, and stands still at 2^64 - 1.
     ghost faults: { Self → ℕ };
 
     /// Takes the next bytes of what is left into the front of the buffer, and says how many.
@@ -24,7 +24,8 @@ pub trait Source {
         requires { 0 < length buf.old }
         ensures bound { ReadsAtMost result buf.new }
         ensures bytes { ReadConsumes (left self.old) (left self.new) result buf.new }
-        ensures cause { HasCause (faults self.old) (faults self.new) result };
+        ensures cause { HasCause (faults self.old) (faults self.new) result }
+        ensures calm { OnOk result (faults self.new ≡ faults self.old) };
 }
 
 /// Where bytes go.
@@ -32,7 +33,7 @@ pub trait Sink {
     /// The bytes that it holds, where the sink tells them.
     ghost held: { Self → Option (List ℕ) };
 
-    /// How often it has failed. The count never falls, and stands still at 2^64 - 1.
+    /// How often it has failed. The count rises at a failure alone, and stands still at 2^64 - 1.
     ghost faults: { Self → ℕ };
 
     /// Puts the whole piece behind what the sink holds.
@@ -41,5 +42,6 @@ pub trait Sink {
     fn write(&mut self, piece: &[u8]) -> Result<(), Failed>
         ensures written { OnOk result (Appends (held self.old) (held self.new) piece.now) }
         ensures some { OnErr result (AppendsSome (held self.old) (held self.new) piece.now) }
-        ensures cause { HasCause (faults self.old) (faults self.new) result };
+        ensures cause { HasCause (faults self.old) (faults self.new) result }
+        ensures calm { OnOk result (faults self.new ≡ faults self.old) };
 }

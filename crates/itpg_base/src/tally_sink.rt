@@ -1,5 +1,5 @@
 // A sink that counts.
-ghost use Rattle.std.specs.Prelude.{◌≡◌, ◌+◌, ◌%◌, ◌^◌, length, sum, OnOk, OnErr, IsOk};
+ghost use Rattle.std.specs.Prelude.{ℕ, ◌≡◌, ◌+◌, ◌%◌, ◌^◌, length, sum, OnOk, OnErr, IsOk};
 ghost use Rattle.std.specs.declared.option.Option.TheVariants.{None};
 ghost use Rattle.std.specs.Io.KnownBytes.{Appends};
 ghost use Rattle.itpg_base.specs.Outside.{HasCause, AppendsSome};
@@ -62,6 +62,7 @@ impl Sink for TallySink {
         ensures written { OnOk result (Appends None None piece.now) }
         ensures some { OnErr result (AppendsSome None None piece.now) }
         ensures cause { HasCause 0 0 result }
+        ensures calm { OnOk result (◌≡◌ {A = ℕ} 0 0) }
         ensures ok { IsOk result }
         ensures bytes { self.new.bytes ≡ (self.old.bytes + length piece.now) % 2 ^ 64 }
         ensures sum { self.new.sum ≡ (self.old.sum + sum piece.now) % 2 ^ 64 }
