@@ -1,6 +1,6 @@
 -- A name in its block of 64 bytes.
 use Rattle.std.specs.Prelude.{◌≡◌, ℕ, ◌-◌, ◌≤◌, List, ◌++◌, length, take, drop, replicate}
-use Rattle.std.proofs.Common.{ap, ap₂, ◌∙◌, take-append-drop, arith, sym}
+use Rattle.std.proofs.Common.{ap, ap₂, ◌∙◌, subst, sym, take-append-drop}
 use Rattle.std.proofs.lemmas.List.{length-take-le}
 use Rattle.itpg_base.specs.declared.name.Name.TheInside.{Inside}
 
@@ -18,7 +18,7 @@ padded xs = record { bytes = xs ++ replicate (64 - length xs) 0; size = length x
 
 pub padded_again : (n : Inside) → IsPadded n → padded (bytes_of n) ≡ n
 padded_again n h =
-    let size : length (take n.size n.bytes) ≡ n.size = length-take-le n.size n.bytes (omega (arith, h.block, h.fits)) in
+    let size : length (take n.size n.bytes) ≡ n.size = length-take-le n.size n.bytes (subst (λ k. n.size ≤ k) (sym h.block) h.fits) in
     let back : take n.size n.bytes ++ replicate (64 - length (take n.size n.bytes)) 0 ≡ n.bytes =
     ap (λ k. take n.size n.bytes ++ replicate (64 - k) 0) size ∙ ap (λ t. take n.size n.bytes ++ t) (sym h.zeros) ∙ take-append-drop n.size n.bytes in
     ap₂ (λ (b : List ℕ) (l : ℕ). let r : Inside = record { bytes = b; size = l } in r) back size

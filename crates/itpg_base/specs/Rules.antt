@@ -1,4 +1,4 @@
--- The rules that a line can break: their words and their order.
+-- The words of the rules that a line can break.
 use Rattle.std.specs.Prelude.{ℕ, List, codes}
 use Rattle.itpg_base.specs.declared.rule_code.RuleCode.{RuleCode}
 use Rattle.itpg_base.specs.declared.rule_code.RuleCode.TheVariants.{NoGraph, Again, Taken, Unknown, Kind, Backwards, Horizon, Ends, Absent, Held, Incident, Full, GraphName}
@@ -18,19 +18,3 @@ rule_word Held = codes "held"
 rule_word Incident = codes "incident"
 rule_word Full = codes "full"
 rule_word GraphName = codes "graphname"
-
--- the place of each rule in the order in which they are tried
-abbrev pub rule_place : RuleCode → ℕ
-rule_place NoGraph = 1
-rule_place Again = 2
-rule_place Taken = 3
-rule_place Unknown = 4
-rule_place Kind = 5
-rule_place Backwards = 6
-rule_place Horizon = 7
-rule_place Ends = 8
-rule_place Absent = 9
-rule_place Held = 10
-rule_place Incident = 11
-rule_place Full = 12
-rule_place GraphName = 13

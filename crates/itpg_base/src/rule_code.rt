@@ -2,7 +2,7 @@
 ghost use Rattle.std.specs.Prelude.{◌≡◌, ◌≤◌, length};
 ghost use Rattle.itpg_base.specs.Rules.{rule_word};
 
-/// The rule that a line breaks. The variants stand in the order in which rules are tried.
+/// The rule that a line breaks. Which of several comes first is the line's own affair, as `docs/REFERENCE.md` lists it.
 #[derive(Clone, Copy, Debug, PartialEq, Eq)]
 pub enum RuleCode {
     /// No graph was begun.
