@@ -3,3 +3,4 @@ pub mod Placing
 pub mod Scopes
 pub mod Within
 pub mod Listed
+pub mod ListedParts

@@ -3,3 +3,5 @@ pub mod Scopes
 pub mod Narrowing
 pub mod Members
 pub mod Examples
+pub mod ScopedPaths
+pub mod PartMembers

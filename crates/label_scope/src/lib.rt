@@ -5,6 +5,7 @@
 //! scopes of a path changes nothing. The worked members are a definition: the crate that evaluates paths answers by it.
 #![tactic(auto)]
 
+mod examples;
 mod labels;
 mod laws;
 mod members;
@@ -13,6 +14,9 @@ mod scope;
 #[cfg(test)]
 mod tests;
 
+pub use examples::{
+    members_of_repetitions, members_of_sequences, scopes_of_narrowed_paths, scopes_of_short_paths,
+};
 pub use labels::Labels;
 pub use laws::{law_of_cut, law_of_decided_scopes, law_of_labels, law_of_narrowing, law_of_scopes};
 pub use members::{
