@@ -14,3 +14,4 @@ pub mod MembersWithin
 pub mod Composing
 pub mod Taking
 pub mod Ending
+mod Beyond

@@ -14,8 +14,6 @@ mod middle;
 mod passing;
 mod powers;
 mod repeated;
-#[cfg(test)]
-mod tests;
 
 pub use answering::answer;
 pub use evaluation::{EvalFault, relation_of};

@@ -71,6 +71,20 @@ impl Composed for Powers<'_> {
         x.union(y, self.max_rows)
     }
 
+    fn beyond(&self, x: &Relation, y: &Relation) -> Result<Relation, RelFault> {
+        let rest = x.minus(y)?;
+        let count = rest.row_count();
+        if count <= self.max_rows as u64 {
+            Ok(rest)
+        } else {
+            Err(RelFault::Wide)
+        }
+    }
+
+    fn size(&self, x: &Relation) -> u64 {
+        x.row_count()
+    }
+
     fn same(&self, x: &Relation, y: &Relation) -> bool {
         let own = x.row_count();
         let other = y.row_count();

@@ -4,5 +4,8 @@ pub mod UnionLaws
 pub mod Results
 pub mod Squaring
 pub mod Uniting
-pub mod Closing
-pub mod PairBits
+pub mod Order
+pub mod Growth
+pub mod Steps
+pub mod Doubles
+pub mod LastPowers

@@ -1,6 +1,5 @@
 -- How powers add up.
-use Rattle.std.proofs.Common.{◌≡◌, ℕ, zero, suc, ◌+◌, ◌*◌, ◌^◌, sym, subst, arith, add-suc, add-zero}
-use Rattle.std.proofs.Math.Nat.{pow-succ'}
+use Rattle.std.proofs.Common.{◌≡◌, ℕ, zero, suc, ◌+◌, ◌*◌, sym, subst, arith, add-suc, add-zero}
 use Rattle.repeat_engine.specs.Powers.{Algebra, nth_power}
 use Rattle.repeat_engine.specs.Composed.{IsLawful}
 
@@ -38,12 +37,6 @@ module _ {M : Type 0} {Alike : M → M → Type 0} {Own Fits : M → Type 0} {al
   unfolding nth_power
   power_first x own = laws.one_left x own
 
-  -- the powers of alike meanings are alike
-  pub power_alike : (x y : M) → Alike x y → (n : ℕ) → Alike (Pow x n) (Pow y n)
-  unfolding nth_power
-  power_alike x y e zero = laws.same one
-  power_alike x y e (suc n) = laws.composed_alike _ _ _ _ (power_alike x y e n) e
-
   pub power_sum : (x : M) → Own x → (m n : ℕ) → Alike (compose (Pow x m) (Pow x n)) (Pow x (m + n))
   unfolding nth_power
   power_sum x own m zero = laws.one_right _ (own_power x own m) ~ same_at (Pow x) m (m + 0) (sym (add-zero m))
@@ -58,13 +51,3 @@ module _ {M : Type 0} {Alike : M → M → Type 0} {Own Fits : M → Type 0} {al
   pub power_next : (x : M) → Own x → (k n : ℕ) → n ≡ k + 1 → Alike (compose (Pow x k) x) (Pow x n)
   power_next x own k n e =
       second_arg (Pow x k) (back (power_first x own)) ~ power_sum x own k 1 ~ same_at (Pow x) (k + 1) n (sym e)
-
-  -- from where a square is alike to what was squared, all are
-  pub power_stays : (x : M) → Own x → (i : ℕ) → Alike (compose (Pow x (2 ^ i)) (Pow x (2 ^ i))) (Pow x (2 ^ i)) → (d : ℕ) → Alike (Pow x (2 ^ (d + i))) (Pow x (2 ^ i))
-  power_stays x own i e zero = same_at (λ k. Pow x (2 ^ k)) (0 + i) i (omega arith)
-  power_stays x own i e (suc d) =
-      same_at (λ k. Pow x (2 ^ k)) (suc d + i) (suc (d + i)) (omega arith)
-      ~ same_at (Pow x) (2 ^ suc (d + i)) (2 * 2 ^ (d + i)) (pow-succ' 2 (d + i))
-      ~ back (power_double x own (2 ^ (d + i)))
-      ~ squares_alike (power_stays x own i e d)
-      ~ e

@@ -1,9 +1,8 @@
 -- The union of the powers 0 to n is the n-th power of `one` united with x, and holds each of them.
-use Rattle.std.proofs.Common.{◌≡◌, ℕ, zero, suc, ◌+◌, ◌*◌, ◌^◌, ◌≤◌, ◌⊎◌, inl, inr, sym, subst, ap, ◌∙◌, arith}
-use Rattle.std.proofs.Math.Nat.{pow-succ'}
+use Rattle.std.proofs.Common.{◌≡◌, ℕ, zero, suc, ◌^◌, ◌≤◌, ◌⊎◌, inl, inr, sym, subst, arith}
 use Rattle.repeat_engine.specs.Powers.{Algebra, nth_power, union_of_powers}
 use Rattle.repeat_engine.specs.Composed.{IsLawful, Holds, HoldsPowers}
-use Rattle.repeat_engine.proofs.PowerLaws.{own_power, power_first, power_double, power_alike, same_at, first_arg, squares_alike}
+use Rattle.repeat_engine.proofs.PowerLaws.{own_power, power_first, first_arg}
 
 up_to_or_last : (k n : ℕ) → k ≤ suc n → (k ≤ n) ⊎ (k ≡ suc n)
 up_to_or_last k n h = grind arith
@@ -72,20 +71,8 @@ module _ {M : Type 0} {Alike : M → M → Type 0} {Own Fits : M → Type 0} {al
       ~ first_side (compose to x) (laws.one_right to own_to)
       ~ union_more x own n
 
-  -- the powers of what is alike to `one` united with x
-  pub union_is : (x y : M) → Own x → Alike y (unite one x) → (n : ℕ) → Alike (Pow y n) (To x n)
-  union_is x y own e n = power_alike laws y (unite one x) e n ~ power_of_first x own n
-
   pub union_first : (x : M) → Own x → Alike (unite one x) (To x 1)
   union_first x own = back (power_first laws (unite one x) (own_first x own)) ~ power_of_first x own 1
-
-  pub union_double : (x : M) → Own x → (i : ℕ) → Alike (compose (To x (2 ^ i)) (To x (2 ^ i))) (To x (2 ^ (i + 1)))
-  union_double x own i =
-      let next : suc i ≡ i + 1 = omega arith in
-      squares_alike laws (back (power_of_first x own (2 ^ i)))
-      ~ power_double laws (unite one x) (own_first x own) (2 ^ i)
-      ~ power_of_first x own (2 * 2 ^ i)
-      ~ same_at laws (To x) (2 * 2 ^ i) (2 ^ (i + 1)) (sym (pow-succ' 2 i) ∙ ap (λ (k : ℕ). 2 ^ k) next)
 
   union_holds : (x : M) → Own x → (k n : ℕ) → k ≤ n → Holds Alike algebra (To x n) (Pow x k)
   unfolding union_of_powers nth_power

@@ -1,12 +1,12 @@
--- The union of the powers 0 to n, as a power of `one` united with x.
+-- The unions of the powers 0 alone, and 0 and 1.
 use Rattle.std.proofs.Common.{◌≡◌, ℕ, ◌≤◌, sym, subst, All}
-use Rattle.std.proofs.lemmas.List.Elements.{All-weaker, All-from_recursion}
+use Rattle.std.proofs.lemmas.List.Elements.{All-from_recursion}
 use Rattle.itpg_base.specs.Chains.{chain}
-use Rattle.repeat_engine.specs.Powers.{Algebra, nth_power, union_of_powers}
+use Rattle.repeat_engine.specs.Powers.{Algebra, union_of_powers}
 use Rattle.repeat_engine.specs.Composed.{IsLawful}
 use Rattle.repeat_engine.proofs.ChainLaws.{chain_zero, chain_first}
 use Rattle.repeat_engine.proofs.PowerLaws.{same_at}
-use Rattle.repeat_engine.proofs.UnionLaws.{own_first, union_is, union_first}
+use Rattle.repeat_engine.proofs.UnionLaws.{own_first, union_first}
 
 module _ {M : Type 0} {Alike : M → M → Type 0} {Own Fits : M → Type 0} {algebra : Algebra M} (laws : IsLawful Alike Own Fits algebra) (x : M) (own : Own x) where
   open algebra use {one, compose, unite}
@@ -17,9 +17,6 @@ module _ {M : Type 0} {Alike : M → M → Type 0} {Own Fits : M → Type 0} {al
 
   back : {a b : M} → Alike a b → Alike b a
   back p = laws.turned _ _ p
-
-  abbrev Pow : M → ℕ → M
-  Pow y n = nth_power algebra y n
 
   abbrev To : ℕ → M
   To n = union_of_powers algebra x n
@@ -49,15 +46,3 @@ module _ {M : Type 0} {Alike : M → M → Type 0} {Own Fits : M → Type 0} {al
 
     pub first_must_fit : (n : ℕ) → 1 ≤ n → UpToFits n → Fits (unite o x)
     first_must_fit n some all = laws.fits_alike _ _ (back first_is) (chain_first FitsTo n some all.1)
-
-    module _ (y : M) (is_y : Alike y (unite o x)) where
-      pub power_is : (n : ℕ) → Alike (Pow y n) (To n)
-      power_is n = union_is laws x y own (is_y ~ is_first) n
-
-      pub powers_fit : (n : ℕ) → Fits one → All (λ k. Fits (Pow y k)) (chain n) → UpToFits n
-      powers_fit n fits all =
-          (fits, All-weaker (λ k. Fits (Pow y k)) FitsTo (λ k f. laws.fits_alike _ _ (power_is k) f) (chain n) all)
-
-      pub powers_must_fit : (n : ℕ) → UpToFits n → All (λ k. Fits (Pow y k)) (chain n)
-      powers_must_fit n all =
-          All-weaker FitsTo (λ k. Fits (Pow y k)) (λ k f. laws.fits_alike _ _ (back (power_is k)) f) (chain n) all.1

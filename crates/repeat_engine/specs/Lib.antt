@@ -1,4 +1,4 @@
 pub mod Powers
 pub mod Composed
+pub mod GrownUnions
 pub mod Relations
-pub mod Examples

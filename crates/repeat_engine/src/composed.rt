@@ -75,6 +75,23 @@ pub trait Composed {
         ensures exact { let both = (algebra self.now).unite (means x.now) (means y.now) in
             IsOkWhere wants_memory result (fits self.now both) };
 
+    /// What x has beyond y: together with y it means as much as x together with y. It may hold more, up to all of x.
+    ///
+    /// It is wanted for speed alone, so any fault may come at any time.
+    fn beyond(&self, x: &Self::Value, y: &Self::Value) -> Result<Self::Value, Self::Fault>
+        requires own_x { own self.now (means x.now) }
+        requires own_y { own self.now (means y.now) }
+        requires fits_x { fits self.now (means x.now) }
+        requires fits_y { fits self.now (means y.now) }
+        ensures value { let c = algebra self.now in
+            IfOk result (λ v. alike self.now (c.unite (means y.now) (means v)) (c.unite (means y.now) (means x.now))) }
+        ensures own { IfOk result (λ v. own self.now (means v)) }
+        ensures fits { IfOk result (λ v. fits self.now (means v)) };
+
+    /// How much there is of x, by which it is guessed how long its compositions take. No result depends on it, so any
+    /// number is right.
+    fn size(&self, x: &Self::Value) -> u64;
+
     /// Whether x and y mean the same.
     fn same(&self, x: &Self::Value, y: &Self::Value) -> bool
         ensures { IsTrue result ↔ alike self.now (means x.now) (means y.now) };

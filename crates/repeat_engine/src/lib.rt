@@ -7,10 +7,12 @@
 #![tactic(auto)]
 
 mod composed;
+mod doubling;
+mod grown_union;
+mod power_chain;
 mod powers;
+mod single_steps;
+mod union_chain;
 
 pub use composed::Composed;
 pub use powers::{closure, power, up_to};
-
-#[cfg(test)]
-mod tests;

@@ -1,0 +1,29 @@
+use Rattle.std.proofs.Common.{subst, IfSome, Option}
+use Rattle.repeat_engine.proofs.Results.{own_from, fits_from}
+use Rattle.repeat_engine.proofs.Steps.{kept, kept_twice, fits_where, square_is_new}
+use Rattle.repeat_engine.proofs.doubling.short_squared.Goals as goal
+
+pub returns-else-size-clause-own : goal.returns-else-size-clause-own
+returns-else-size-clause-own g c =
+    let m = g.C.Composed in
+    let laws = g.met.C.Composed.lawful c.args.c.now in
+    let d = m.means c.in-Some.newest in
+    let own = subst (λ (o : Option _). IfSome o (λ v. m.own c.args.c.now (m.means v))) c.in-Some.is c.requires.sound.own_newest in
+    kept _ _ (λ v h. own_from laws (m.means v) ((m.algebra c.args.c.now).compose d d) h (laws.own_composed d d own own))
+    c.compose.result c.ok.result c.ok.ensures.value c.compose.ensures.value
+
+pub returns-else-size-clause-fits : goal.returns-else-size-clause-fits
+returns-else-size-clause-fits g c =
+    let m = g.C.Composed in
+    let laws = g.met.C.Composed.lawful c.args.c.now in
+    let d = m.means c.in-Some.newest in
+    kept_twice _ _ _ (λ v h k. fits_from laws (m.means v) ((m.algebra c.args.c.now).compose d d) h k)
+    c.compose.result c.ok.result c.ok.ensures.value c.compose.ensures.value (fits_where m.wants_memory c.compose.result _ c.compose.ensures.exact)
+
+pub returns-else-size-clause-new : goal.returns-else-size-clause-new
+returns-else-size-clause-new g c x own k on =
+    let m = g.C.Composed in
+    let laws = g.met.C.Composed.lawful c.args.c.now in
+    let own_d = subst (λ (o : Option _). IfSome o (λ v. m.own c.args.c.now (m.means v))) c.in-Some.is c.requires.sound.own_newest in
+    kept _ _ (λ v h. square_is_new laws m.means x own k c.args.half.now on c.in-Some.newest (m.means v) c.in-Some.is own_d h)
+    c.compose.result c.ok.result c.ok.ensures.value c.compose.ensures.value

@@ -1,3 +1,0 @@
--- The two compositions that the tests use.
-pub mod Lengths
-pub mod PairSets

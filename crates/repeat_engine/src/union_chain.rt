@@ -1,0 +1,73 @@
+//! The union of the powers 0 to n, along the chain of n.
+ghost use Rattle.std.specs.Prelude.{◌≤◌, ◌+◌, ℕ, All, IfOk};
+ghost use Rattle.itpg_base.specs.Chains.{chain};
+ghost use Rattle.repeat_engine.specs.Powers.{union_of_powers};
+ghost use Rattle.repeat_engine.specs.Composed.{IsOkWhere};
+ghost use Rattle.repeat_engine.specs.GrownUnions.{IsSound, Grows};
+
+use crate::Composed;
+use crate::doubling::doubled;
+use crate::grown_union::Grown;
+use crate::single_steps::stepped;
+
+/// The union of the powers 0 to n, where `first` is that of 0 and 1.
+pub(crate) fn united<C: Composed>(
+    c: &C,
+    x: &C::Value,
+    first: &C::Value,
+    n: u64,
+) -> Result<Grown<C::Value>, C::Fault>
+    requires some { 1 ≤ n }
+    requires own_x { C.own c.now (C.means x.now) }
+    requires fits_x { C.fits c.now (C.means x.now) }
+    requires own_first { C.own c.now (C.means first.now) }
+    requires fits_first { C.fits c.now (C.means first.now) }
+    requires first { C.alike c.now (C.means first.now) (union_of_powers (C.algebra c.now) (C.means x.now) 1) }
+    ensures sound { IfOk result (IsSound (C.own c.now) (C.fits c.now) C.means) }
+    ensures grows { let At = Grows (C.alike c.now) (C.algebra c.now) (C.means x.now) C.means in
+        IfOk result (At n) }
+    ensures exact { let union = union_of_powers (C.algebra c.now) (C.means x.now) in
+        IsOkWhere C.wants_memory result (All (λ k. C.fits c.now (union k)) (chain n)) }
+{
+    if n == 1 {
+        return grown_first(c, x, first);
+    }
+    let half = united(c, x, first, n / 2)?;
+    if half.done {
+        return Ok(half);
+    }
+    let double = doubled(c, x, &half, n / 2)?;
+    if n % 2 == 0 {
+        return Ok(double);
+    }
+    if double.done {
+        return Ok(double);
+    }
+    stepped(c, x, first, &double)
+}
+
+fn grown_first<C: Composed>(
+    c: &C,
+    x: &C::Value,
+    first: &C::Value,
+) -> Result<Grown<C::Value>, C::Fault>
+    requires own_x { C.own c.now (C.means x.now) }
+    requires fits_x { C.fits c.now (C.means x.now) }
+    requires own_first { C.own c.now (C.means first.now) }
+    requires fits_first { C.fits c.now (C.means first.now) }
+    requires first { C.alike c.now (C.means first.now) (union_of_powers (C.algebra c.now) (C.means x.now) 1) }
+    ensures sound { IfOk result (IsSound (C.own c.now) (C.fits c.now) C.means) }
+    ensures grows { let At = Grows (C.alike c.now) (C.algebra c.now) (C.means x.now) C.means in
+        IfOk result (At 1) }
+    ensures exact { let union = union_of_powers (C.algebra c.now) (C.means x.now) in
+        IsOkWhere C.wants_memory result (C.fits c.now (union 1)) }
+{
+    // No call copies a value, but the union of a value with itself is that value.
+    let all = c.union(first, first)?;
+    let newest = c.union(x, x).ok();
+    Ok(Grown {
+        all,
+        newest,
+        done: false,
+    })
+}
