@@ -13,6 +13,3 @@ mod reading;
 pub use laws::law_of_one_reading;
 pub use options::{Options, WordsFault};
 pub use reading::read_words;
-
-#[cfg(test)]
-mod tests;

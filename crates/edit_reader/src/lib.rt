@@ -16,6 +16,3 @@ mod reading;
 pub use laws::{law_of_labels, law_of_lines, law_of_long_lines, law_of_moments};
 pub use line::Line;
 pub use reading::read_line;
-
-#[cfg(test)]
-mod tests;

@@ -13,8 +13,6 @@ mod set;
 mod span;
 mod splice;
 mod sweep;
-#[cfg(test)]
-mod tests;
 mod values;
 
 pub use laws::{

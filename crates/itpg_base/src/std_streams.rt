@@ -77,29 +77,3 @@ impl<W: Write> Sink for StdSink<W> {
         Ok(())
     }
 }
-
-#[cfg(test)]
-mod tests {
-    use super::*;
-    use std::test::Fail;
-
-    #[test]
-    fn reads_to_the_end(rt: HostRuntime) -> Result<(), Fail> {
-        let mut source = StdSource::new(b"abc".as_slice());
-        let mut buf = [0; 2];
-        assert_eq!(rt; source.read(&mut buf), Ok(2));
-        assert_eq!(rt; buf.as_slice(), b"ab".as_slice());
-        assert_eq!(rt; source.read(&mut buf), Ok(1));
-        assert_eq!(rt; source.read(&mut buf), Ok(0));
-        Ok(())
-    }
-
-    #[test]
-    fn writes_all(rt: HostRuntime) -> Result<(), Fail> {
-        let mut sink = StdSink::new(Vec::new(rt.alloc()));
-        assert_eq!(rt; sink.write(b"abc"), Ok(()));
-        assert_eq!(rt; sink.write(b"d"), Ok(()));
-        assert_eq!(rt; sink.inner.as_slice(), b"abcd".as_slice());
-        Ok(())
-    }
-}

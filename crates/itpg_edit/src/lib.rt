@@ -12,8 +12,6 @@ mod fault;
 mod laws;
 mod making;
 mod site;
-#[cfg(test)]
-mod tests;
 
 pub use checks::broken;
 pub use edit::Edit;

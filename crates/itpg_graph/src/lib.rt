@@ -14,6 +14,3 @@ mod stored;
 
 pub use graph::{Graph, Kind, MAX_OBJECTS};
 pub use laws::law_of_unique_changes;
-
-#[cfg(test)]
-mod tests;

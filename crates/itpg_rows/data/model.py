@@ -20,7 +20,7 @@ import sys
 sys.dont_write_bytecode = True
 import trial_model  # noqa: E402
 
-MOST_MOMENTS = 2_000
+MOST_MOMENTS = 10_001
 BOUND = 10**12
 ALL = None  # the scope of all objects; another scope is a set of labels
 

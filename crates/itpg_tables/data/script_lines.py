@@ -302,6 +302,7 @@ by_hand = [
     ([(1, "# contacts"), (1, "\r")], "blank"),
     ([(1, "live a 0 20"), (1, "\r")], "live a 0 20"),
     ([(1, "graph g 0 1000000000001")], "fault number"),
+    ([(1, "live a 0 99999999999999999999")], "fault number"),
     ([(1, f"node {A65} T")], "fault name"),
     ([(1, "node a"), (1, "\x01"), (1, " "), (1, "T")], "fault byte"),
     ([(1, "ask MATCH x")], "ask 3 11"),

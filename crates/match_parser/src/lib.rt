@@ -22,6 +22,3 @@ mod words;
 pub use fault::QueryFault;
 pub use laws::{law_of_queries, law_of_read_queries};
 pub use reading::read_query;
-
-#[cfg(test)]
-mod tests;

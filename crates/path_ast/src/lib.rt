@@ -9,8 +9,6 @@ mod ast;
 mod copies;
 mod counts;
 mod laws;
-#[cfg(test)]
-mod tests;
 
 pub use ast::{Path, Query, Test};
 pub use counts::terms;

@@ -17,6 +17,3 @@ pub use lexing::next_token;
 pub use mark::Mark;
 pub use numbers::value_of;
 pub use token::{Token, What};
-
-#[cfg(test)]
-mod tests;

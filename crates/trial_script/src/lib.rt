@@ -14,6 +14,3 @@ mod trial;
 pub use asks::asked;
 pub use laws::{law_of_draws, law_of_questions};
 pub use trial::{Trial, trial_line};
-
-#[cfg(test)]
-mod tests;
