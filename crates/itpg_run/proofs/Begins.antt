@@ -8,7 +8,8 @@ use Rattle.std.proofs.KnownBytes.{Appends-nil, Consumes-nil}
 use Rattle.itpg_run.specs.Out.{Runs, IsOut}
 use Rattle.itpg_run.specs.Served.{longest, Served, WritesAs, WritesWithin, WritesOut, BeginsEach, IsIdle}
 use Rattle.itpg_run.specs.Tried.{Tried}
-use Rattle.trial_run.specs.SummaryLaws.{SomeSummary}
+use Rattle.trial_script.specs.Script.{script}
+use Rattle.trial_run.specs.Summary.{Tells, nothing}
 use Rattle.itpg_run.specs.declared.Status.{Status}
 use Rattle.itpg_run.specs.declared.Status.TheVariants.{Done, DoneRefused, Usage, ReadFault, WriteFault, Memory, TooLong}
 use Rattle.itpg_run.proofs.MachineLaws.{Laws}
@@ -60,13 +61,12 @@ nothing_served limit left held = record {
   writes = record { front = []; rest = []; split = refl; writes = record { turn = quiet_turn opening; out = refl; written = Appends-nil held } };
 }
 
-pub nothing_tried : SomeSummary → (limit number : ℕ) (left held : Option (List ℕ)) → Tried Memory limit number left left held held
-nothing_tried some limit number left held =
-    let summary = some limit number in
-    record {
-      taken = Consumes-nil left;
-      writes = record { told = summary.0; summary = summary.1; some = record { taken = []; rest = summary.0.text; split = refl; appends = Appends-nil held } };
-    }
+pub nothing_tried : (limit number : ℕ) (left held : Option (List ℕ)) → Tried Memory limit number left left held held
+unfolding Tells
+nothing_tried limit number left held = record {
+  taken = Consumes-nil left;
+  writes = record { first = []; behind = script number; lines = refl; told = nothing; tells = refl; written = Appends-nil held };
+}
 
 -- where nothing was written too
 pub idle_each : (limit : ℕ) (before left held now : Option (List ℕ)) → IsIdle before left held now → BeginsEach limit before held now

@@ -2,7 +2,7 @@
 use Rattle.std.specs.Prelude.{ℕ, List, [], true, false}
 use Rattle.std.specs.declared.option.Option.{Option}
 use Rattle.std.specs.Io.KnownBytes.{Consumes}
-use Rattle.trial_run.specs.Summary.{TellsAll, TellsSome}
+use Rattle.trial_run.specs.Summary.{TellsAll, TellsWhole, TellsSome}
 use Rattle.itpg_run.specs.declared.Status.{Status}
 use Rattle.itpg_run.specs.declared.Status.TheVariants.{Done, DoneRefused, Usage, ReadFault, WriteFault, Memory, TooLong}
 
@@ -13,7 +13,7 @@ WritesSummary DoneRefused limit number held now = TellsAll limit number held now
 WritesSummary Usage limit number held now = ⊥
 WritesSummary ReadFault limit number held now = ⊥
 WritesSummary WriteFault limit number held now = TellsSome limit number held now
-WritesSummary Memory limit number held now = TellsSome limit number held now
+WritesSummary Memory limit number held now = TellsWhole limit number held now
 WritesSummary TooLong limit number held now = ⊥
 
 -- nothing was taken, and of the summary was written what the status says

@@ -14,7 +14,7 @@ use command_words::{WordsFault, law_of_one_reading, read_words};
 use itpg_base::{Failed, Limits, Sink, Source};
 use itpg_session::{StepFault, law_of_replies};
 use std::alloc::Global;
-use trial_run::{law_of_summaries, run_trial};
+use trial_run::run_trial;
 
 // How many bytes a script may have.
 const LONGEST: usize = 268_435_456;
@@ -60,7 +60,6 @@ pub fn serve<S: Source, K: Sink>(
         → ¬ Rose (S.faults source.old) (S.faults source.new) → ¬ Rose (K.faults sink.old) (K.faults sink.new) → EndsWell result }
 {
     law_of_one_reading();
-    law_of_summaries();
     match read_words(alloc, words) {
         Ok(options) => match options.trial {
             None => run_script(alloc, options.limits, source, sink),

@@ -1,16 +1,17 @@
 -- A trial, line by line.
-use Rattle.std.proofs.Common.{◌≡◌, inl, inr, ℕ, ◌+◌, Bool, true, false, ◌||◌, List, [], ◌∷◌, ◌++◌, Some, None, Err, IsErrOf, MatchOption, refl, ap, ◌∙◌, sym, subst, append_assoc, arith}
+use Rattle.std.proofs.Common.{◌≡◌, inl, inr, ℕ, ◌+◌, Bool, true, false, ◌||◌, List, [], ◌∷◌, ◌++◌, Some, None, Result, Ok, Err, IsErrOf, MatchOption, refl, ap, ◌∙◌, sym, subst, append_assoc, arith}
 use Rattle.std.specs.declared.option.Option.{Option}
 use Rattle.itpg_session.specs.declared.session.StepFault.{StepFault}
 use Rattle.itpg_session.specs.declared.session.StepFault.TheVariants.{Memory, Write}
 use Rattle.std.specs.Io.KnownBytes.{Appends, Keeps}
+use Rattle.std.proofs.lemmas.List.{append-nil}
 use Rattle.std.proofs.KnownBytes.{Appends-nil, Appends-trans, Appends-kept}
 use Rattle.itpg_base.specs.Outside.{AppendsSome}
 use Rattle.itpg_session.specs.Replies.{Reply, IsReply}
 use Rattle.itpg_session.specs.Machine.{Turn, IsGood, Replies, opening}
 use Rattle.itpg_session.specs.MachineLaws.{GoodReply}
 use Rattle.trial_script.specs.Script.{Asks, script}
-use Rattle.trial_run.specs.Summary.{Told, nothing, joined, told_of, Tells, IsSummary, TellsAll, TellsSome}
+use Rattle.trial_run.specs.Summary.{Told, nothing, joined, told_of, Tells, IsSummary, TellsAll, TellsWhole, TellsSome}
 use Rattle.trial_run.specs.Running.{TellsFrom, Takes, TakesSome, Underway}
 use Rattle.trial_run.specs.declared.run.Running.{Running}
 use Rattle.trial_run.proofs.Telling.{Laws, joined_assoc, joined-nothing, some_told}
@@ -71,9 +72,11 @@ takes_other good_reply held old new line turn others replies session number ques
 
 pub underway_first : Laws → (limit number : ℕ) (held : Option (List ℕ)) (r : Running) → r.session ≡ record { machine = opening; limit = limit } → r.number ≡ 1 → r.question ≡ 1 → r.wide ≡ false → Underway limit number held held r (script number)
 underway_first laws limit number held r session line question wide = record {
+  first = [];
+  split = refl;
   told = nothing;
-  closes = λ rest goes.
-      subst (λ k. Tells limit opening 1 k (script number) rest) question (subst (λ n. Tells limit opening n r.question (script number) rest) line (subst (λ s. Tells s.limit s.machine r.number r.question (script number) rest) session goes));
+  closes = λ lines rest goes.
+      subst (λ k. Tells limit opening 1 k lines rest) question (subst (λ n. Tells limit opening n r.question lines rest) line (subst (λ s. Tells s.limit s.machine r.number r.question lines rest) session goes));
   written = Appends-nil held;
   wide = wide;
   good = subst (λ s. IsGood s.machine) (sym session) laws.opening;
@@ -82,20 +85,39 @@ underway_first laws limit number held r session line question wide = record {
 pub underway_more : (limit number : ℕ) (start mid now : Option (List ℕ)) (old new : Running) (line : List ℕ) (left : List (List ℕ))
     → Underway limit number start mid old (line ∷ left) → Takes mid now old new line → Underway limit number start now new left
 underway_more limit number start mid now old new line left s t = record {
+  first = s.first ++ line ∷ [];
+  split = s.split ∙ sym (append_assoc s.first (line ∷ []) left);
   told = joined s.told t.told;
-  closes = λ rest goes. subst (IsSummary limit number) (joined_assoc s.told t.told rest) (s.closes (joined t.told rest) (t.goes_on left rest goes));
+  closes = λ lines rest goes.
+      subst (Tells limit opening 1 1 ((s.first ++ line ∷ []) ++ lines)) (joined_assoc s.told t.told rest)
+      (subst (λ ls. Tells limit opening 1 1 ls (joined s.told (joined t.told rest))) (sym (append_assoc s.first (line ∷ []) lines)) (s.closes (line ∷ lines) (joined t.told rest) (t.goes_on lines rest goes)));
   written = Appends-trans start mid now _ _ s.written t.written;
   wide = t.wide ∙ ap (λ b. b || t.told.wide) s.wide;
   good = t.good s.good;
 }
 
+-- what is told of the lines that are left makes a summary
+closed : (limit number : ℕ) (start now : Option (List ℕ)) (r : Running) (left : List (List ℕ)) (s : Underway limit number start now r left) (rest : Told) → TellsFrom r left rest → IsSummary limit number (joined s.told rest)
+closed limit number start now r left s rest goes = subst (λ ls. Tells limit opening 1 1 ls (joined s.told rest)) (sym s.split) (s.closes left rest goes)
+
 pub underway_last : (limit number : ℕ) (start now : Option (List ℕ)) (r : Running) → Underway limit number start now r [] → TellsAll limit number start now r.wide
 unfolding Tells
 underway_last limit number start now r s = record {
   told = s.told;
-  summary = subst (IsSummary limit number) (joined-nothing s.told) (s.closes nothing refl);
+  summary = subst (IsSummary limit number) (joined-nothing s.told) (closed limit number start now r [] s nothing refl);
   written = s.written;
   is_wide = sym s.wide;
+}
+
+pub told_whole : (limit number : ℕ) (start mid now : Option (List ℕ)) (r : Running) (left : List (List ℕ)) → Underway limit number start mid r left → Keeps mid now → TellsWhole limit number start now
+unfolding Tells
+told_whole limit number start mid now r left s keeps = record {
+  first = s.first;
+  behind = left;
+  lines = s.split;
+  told = s.told;
+  tells = subst (Tells limit opening 1 1 s.first) (joined-nothing s.told) (subst (λ ls. Tells limit opening 1 1 ls (joined s.told nothing)) (append-nil s.first) (s.closes [] nothing refl));
+  written = Appends-kept start mid now _ s.written keeps;
 }
 
 pub stops_whole : Laws → (limit number : ℕ) (start mid now : Option (List ℕ)) (r : Running) (left : List (List ℕ)) → Underway limit number start mid r left → Keeps mid now → TellsSome limit number start now
@@ -103,7 +125,7 @@ stops_whole laws limit number start mid now r left s keeps =
     let rest = some_told laws r.session.limit r.session.machine r.number r.question left s.good in
     record {
       told = joined s.told rest.0;
-      summary = s.closes rest.0 rest.1;
+      summary = closed limit number start mid r left s rest.0 rest.1;
       some = record { taken = s.told.text; rest = rest.0.text; split = refl; appends = Appends-kept start mid now _ s.written keeps };
     }
 
@@ -113,7 +135,7 @@ stops_within limit number start mid now r line left s t =
     let rest = t.goes_on left s.good in
     record {
       told = joined s.told (joined t.told rest.0);
-      summary = s.closes (joined t.told rest.0) rest.1;
+      summary = closed limit number start mid r (line ∷ left) s (joined t.told rest.0) rest.1;
       some = record {
         taken = s.told.text ++ t.some.taken;
         rest = t.some.rest ++ rest.0.text;
@@ -126,6 +148,18 @@ pub stops : Laws → (fault : StepFault) (limit number : ℕ) (start mid now : O
     → (IsErrOf {T = Unit {0}} (Err fault) Memory → Keeps mid now) → (IsErrOf {T = Unit {0}} (Err fault) Write → TakesSome mid now r line) → TellsSome limit number start now
 stops laws Memory limit number start mid now r line left s memory write = stops_whole laws limit number start mid now r (line ∷ left) s (memory refl)
 stops laws Write limit number start mid now r line left s memory write = stops_within limit number start mid now r line left s (write refl)
+
+-- what failed, whatever it would have given
+at_err : {X Y E : Type 0} (fault other : E) → IsErrOf {T = X} (Err fault) other → IsErrOf {T = Y} (Err fault) other
+at_err {X} {Y} {E} fault other is = ap there is
+  where
+    there : Result X E → Result Y E
+    there (Ok x) = Err fault
+    there (Err e) = Err e
+
+pub told_at : (fault : StepFault) (limit number : ℕ) (start mid now : Option (List ℕ)) (r : Running) (left : List (List ℕ)) → Underway limit number start mid r left
+    → (IsErrOf {T = Unit {0}} (Err fault) Memory → Keeps mid now) → IsErrOf {T = Bool} (Err fault) Memory → TellsWhole limit number start now
+told_at fault limit number start mid now r left s keeps is = told_whole limit number start mid now r left s (keeps (at_err fault Memory is))
 
 pub taken_some : {X : Type 0} (o : Option X) (x : X) (P : Type 0) (Q : X → Type 0) → o ≡ Some x → MatchOption o P Q → Q x
 taken_some {X} o x P Q is taken = subst (λ (t : Option X). MatchOption t P Q) is taken

@@ -1,10 +1,11 @@
 -- A trial on its way.
-use Rattle.std.specs.Prelude.{◌≡◌, ℕ, ◌+◌, ◌≤◌, List, ◌∷◌, ◌||◌}
+use Rattle.std.specs.Prelude.{◌≡◌, ℕ, ◌+◌, ◌≤◌, List, ◌∷◌, ◌++◌, ◌||◌}
 use Rattle.std.specs.declared.option.Option.{Option}
 use Rattle.std.specs.Io.KnownBytes.{Appends}
 use Rattle.itpg_base.specs.Outside.{AppendsSome}
-use Rattle.itpg_session.specs.Machine.{IsGood}
-use Rattle.trial_run.specs.Summary.{Told, joined, Tells, IsSummary}
+use Rattle.itpg_session.specs.Machine.{IsGood, opening}
+use Rattle.trial_script.specs.Script.{script}
+use Rattle.trial_run.specs.Summary.{Told, joined, Tells}
 use Rattle.trial_run.specs.declared.run.Running.{Running}
 
 -- what lines tell from here on
@@ -27,10 +28,12 @@ pub record TakesSome (held now : Option (List ℕ)) (old : Running) (line : List
   pub goes_on : (lines : List (List ℕ)) → IsGood old.session.machine → (rest : Told) × TellsFrom old (line ∷ lines) (joined told rest)
   pub some : AppendsSome held now told.text
 
--- behind the lines that were taken, with these left
+-- behind the first lines, which were taken, with these left; what lines tell from here on, they tell behind those
 pub record Underway (limit number : ℕ) (start now : Option (List ℕ)) (r : Running) (left : List (List ℕ)) : Type 0 where
+  pub first : List (List ℕ)
+  pub split : script number ≡ first ++ left
   pub told : Told
-  pub closes : (rest : Told) → TellsFrom r left rest → IsSummary limit number (joined told rest)
+  pub closes : (lines : List (List ℕ)) (rest : Told) → TellsFrom r lines rest → Tells limit opening 1 1 (first ++ lines) (joined told rest)
   pub written : Appends start now told.text
   pub wide : r.wide ≡ told.wide
   pub good : IsGood r.session.machine

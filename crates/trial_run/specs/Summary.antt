@@ -72,6 +72,15 @@ pub record TellsAll (limit number : ℕ) (held now : Option (List ℕ)) (wide : 
   pub written : Appends held now told.text
   pub is_wide : told.wide ≡ wide
 
+-- the first lines were told whole, and nothing of those behind them
+pub record TellsWhole (limit number : ℕ) (held now : Option (List ℕ)) : Type 0 where
+  pub first : List (List ℕ)
+  pub behind : List (List ℕ)
+  pub lines : script number ≡ first ++ behind
+  pub told : Told
+  pub tells : Tells limit opening 1 1 first told
+  pub written : Appends held now told.text
+
 -- a front part of the summary was written
 pub record TellsSome (limit number : ℕ) (held now : Option (List ℕ)) : Type 0 where
   pub told : Told

@@ -5,7 +5,7 @@ ghost use Rattle.std.specs.Io.KnownBytes.{Keeps};
 ghost use Rattle.itpg_base.specs.Outside.{Rose};
 ghost use Rattle.itpg_session.specs.Machine.{opening};
 ghost use Rattle.trial_script.specs.Script.{Asks};
-ghost use Rattle.trial_run.specs.Summary.{TellsAll, TellsSome};
+ghost use Rattle.trial_run.specs.Summary.{TellsAll, TellsWhole, TellsSome};
 ghost use Rattle.trial_run.specs.Running.{Takes, TakesSome};
 
 use crate::summary::{is_wide, told};
@@ -19,7 +19,8 @@ use trial_script::{Trial, asked, trial_line};
 ///
 /// # Errors
 ///
-/// For want of memory, or where the sink failed. A front part of the summary was written.
+/// `Memory` if memory ran out: what the first lines tell was written whole, and nothing of the line that met it. `Write` if the sink
+/// failed: a front part of the summary was written.
 pub fn run_trial<K: Sink>(
     alloc: Global,
     limits: Limits,
@@ -27,6 +28,7 @@ pub fn run_trial<K: Sink>(
     out: &mut K,
 ) -> Result<bool, StepFault>
     ensures told { IfOk result (λ wide. TellsAll limits number (K.held out.old) (K.held out.new) wide) }
+    ensures memory { IsErrOf result StepFault.Memory → TellsWhole limits number (K.held out.old) (K.held out.new) }
     ensures some { OnErr result (TellsSome limits number (K.held out.old) (K.held out.new)) }
     ensures write { IsErrOf result StepFault.Write → Rose (K.faults out.old) (K.faults out.new) }
     ensures later { K.faults out.old ≤ K.faults out.new }

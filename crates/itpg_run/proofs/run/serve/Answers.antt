@@ -22,4 +22,4 @@ pub returns-in-Err-Usage-clause-tried : goal.returns-in-Err-Usage-clause-tried
 returns-in-Err-Usage-clause-tried g c = λ limit number asks. absurd (c.in-Err-Usage.ensures.usage (cc) _ asks)
 
 pub returns-in-Err-Memory-clause-tried : goal.returns-in-Err-Memory-clause-tried
-returns-in-Err-Memory-clause-tried g c = λ limit number asks. nothing_tried c.law_of_summaries.ensures.some limit number _ _
+returns-in-Err-Memory-clause-tried g c = λ limit number asks. nothing_tried limit number _ _

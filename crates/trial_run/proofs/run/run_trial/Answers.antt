@@ -1,11 +1,12 @@
 use Rattle.std.proofs.Common.{◌≡◌, ◌∷◌, length, ap, sym, subst, arith}
 use Rattle.std.proofs.KnownBytes.{Keeps-refl}
+use Rattle.std.proofs.lemmas.Result.{err_from_is_err_and}
 use Rattle.row_printer.proofs.Saying.{on_err}
 use Rattle.trial_script.specs.Script.{script}
 use Rattle.trial_run.specs.Running.{Underway}
 use Rattle.trial_run.proofs.Telling.{Laws}
 use Rattle.trial_run.proofs.Length.{few_lines}
-use Rattle.trial_run.proofs.Running.{underway_first, underway_more, underway_last, stops, stops_whole, taken_none, taken_some}
+use Rattle.trial_run.proofs.Running.{underway_first, underway_more, underway_last, stops, stops_whole, told_whole, told_at, taken_none, taken_some}
 use Rattle.trial_run.proofs.run.run_trial.Goals as goal
 
 pub loop-running-init : goal.loop-running-init
@@ -54,3 +55,13 @@ pub returns-clause-told : goal.returns-clause-told
 returns-clause-told g c =
     let none = taken_none _ _ _ c.in_default.is c.in_ok-line.ensures.taken in
     underway_last c.args.limits c.args.number _ _ c.loop-running.running (subst (Underway c.args.limits c.args.number (g.K.Sink.held c.args.out.now) (g.K.Sink.held c.loop-running.out) c.loop-running.running) none.0 c.loop-running.invariant.underway)
+
+pub returns-in_err-line-clause-memory : goal.returns-in_err-line-clause-memory
+returns-in_err-line-clause-memory g c = λ is.
+    told_whole c.args.limits c.args.number _ _ (g.K.Sink.held c.loop-running.out) c.loop-running.running c.loop-running.trial c.loop-running.invariant.underway (Keeps-refl _)
+
+pub returns-in_err-take-clause-memory : goal.returns-in_err-take-clause-memory
+returns-in_err-take-clause-memory g c =
+    let p = err_from_is_err_and c.from_residual-in_err-take.result c.from_residual-in_err-take.ensures.1 in
+    rw (p.1, p.2)
+    (told_at c.in_err-take.field-0.0 c.args.limits c.args.number _ _ _ c.loop-running.running c.loop-running.trial c.loop-running.invariant.underway c.in_err-take.ensures.memory)
