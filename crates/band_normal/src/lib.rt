@@ -6,16 +6,22 @@
 
 mod active;
 pub mod band;
+mod cuts;
+mod halves;
 mod joints;
 pub mod laws;
+mod links;
 mod ordering;
+mod parts;
 mod pieces;
 mod rows;
+pub mod strike;
 mod strips;
 pub mod union;
 pub mod zones;
 
 pub use band::{Band, End};
+pub use strike::struck;
 pub use union::normal;
 pub use zones::{bands_of, zone_of};
 

@@ -14,18 +14,24 @@ ghost use Rattle.band_normal.specs.Bands.{IsWellFormed};
 ghost use Rattle.band_normal.specs.Normal.{Normal};
 ghost use Rattle.band_normal.specs.Zones.{SomeMeets, present};
 ghost use Rattle.band_normal.specs.Strips.{Holds, Covers, BeginsEarlier};
-ghost use Rattle.band_normal.specs.Rows.{CanSweep, AreRowsTo};
+ghost use Rattle.band_normal.specs.Rows.{CanSweep, CanOrder, AreRowsTo};
+ghost use Rattle.band_normal.specs.Parts.{AreRowsOf};
 
 use crate::active::{advance, begun_count, strips_before};
 use crate::band::Band;
 use crate::ordering::in_order;
+use crate::parts::{Measure, ROUNDS, add_parted};
 use crate::rows::{Rows, join, push_some};
 use crate::strips::Stretch;
 use crate::zones::bands_of;
 use std::alloc::{AllocError, Global};
 use zone_core::Zone;
 
-fn push_bands(bands: &mut Vec<Band>, more: [Option<Band>; 3]) -> Result<(), AllocError>
+// How often at most zones are cut in two.
+const CUTS: u32 = 48;
+
+/// Adds the bands that there are.
+pub fn push_bands(bands: &mut Vec<Band>, more: [Option<Band>; 3]) -> Result<(), AllocError>
     ensures { OnOk result (bands.new.items ≡ bands.old.items ++ present more) }
 {
     let [first, second, third] = more;
@@ -112,23 +118,44 @@ fn rows_over(alloc: Global, bands: &[Band], span: Stretch) -> Result<Rows, Alloc
     Ok(rows)
 }
 
-fn normal_over(alloc: Global, bands: &[Band], span: Stretch) -> Result<Vec<Band>, AllocError>
-    ghost held: { List Band }
-    requires { CanSweep held bands.now span }
-    ensures { IfOk result (λ v. Normal (Holds held) v.items) }
+// All rows, those that are complete and those that reach the last departure.
+fn rows_together(rows: Rows) -> Result<Vec<Band>, AllocError>
+    ensures { IfOk result (λ v. v.items ≡ rows.complete.items ++ rows.reaching.items) }
 {
-    in_order(rows_over(alloc, bands, span)?)
+    let Rows {
+        mut complete,
+        reaching,
+    } = rows;
+    complete.extend_from_slice(&reaching)?;
+    Ok(complete)
 }
 
-fn normal_of_bands(alloc: Global, bands: &[Band]) -> Result<Vec<Band>, AllocError>
+fn all_over(alloc: Global, bands: &[Band], span: Stretch) -> Result<Vec<Band>, AllocError>
+    ghost held: { List Band }
+    requires { CanSweep held bands.now span }
+    ensures { IfOk result (λ v. CanOrder (Holds held) v.items) }
+{
+    rows_together(rows_over(alloc, bands, span)?)
+}
+
+fn rows_of_bands(alloc: Global, bands: &[Band]) -> Result<Vec<Band>, AllocError>
     requires well_formed { (b : Band) → Among bands.now b → IsWellFormed b }
     requires order { Ordered BeginsEarlier bands.now }
-    ensures { IfOk result (λ v. Normal (Holds bands.now) v.items) }
+    ensures { IfOk result (λ v. CanOrder (Holds bands.now) v.items) }
 {
     match departures(bands) {
         None => Ok(Vec::new(alloc)),
-        Some(span) => normal_over(alloc, bands, span),
+        Some(span) => all_over(alloc, bands, span),
     }
+}
+
+/// The rows of the zones, in any order, by a sweep over all of them.
+pub fn swept(alloc: Global, zones: &[Zone]) -> Result<Vec<Band>, AllocError>
+    ensures { IfOk result (λ v. AreRowsOf zones.now v.items) }
+{
+    let mut bands = bands_of_all(alloc, zones)?;
+    bands.sort_by_key(|band| band.from)?;
+    rows_of_bands(alloc, &bands)
 }
 
 // The bands of one zone are its normal list as they stand.
@@ -145,9 +172,16 @@ fn normal_of_many(alloc: Global, zones: &[Zone]) -> Result<Vec<Band>, AllocError
     ensures normal { IfOk result (λ rows. Normal (SomeMeets zones.now) rows.items) }
     ensures well_formed { IfOk result (λ rows. (b : Band) → Among rows.items b → IsWellFormed b) }
 {
-    let mut bands = bands_of_all(alloc, zones)?;
-    bands.sort_by_key(|band| band.from)?;
-    normal_of_bands(alloc, &bands)
+    let rows = add_parted(
+        alloc,
+        Vec::new(alloc),
+        zones,
+        Measure::Departure,
+        ROUNDS,
+        0,
+        CUTS,
+    )?;
+    in_order(rows)
 }
 
 /// The normal list of the union of the zones.

@@ -25,14 +25,16 @@ strips_before-requires-clause-well_formed g c =
 pub join-requires : goal.join-requires
 join-requires g c =
     let front = c.in_ok-strips.ensures.front in
-    let sweep = sweep_advance g.held _ _ _ _ _ _ c.loop-left.invariant.sweep c.split_at.ensures.by_index.0 c.in_ok-advance.ensures _ c.split_at.ensures.front c.begun_count.ensures.begun in
-    record {
-      in_range = subst (λ (v : List Band). IsInRange (Holds v)) (sym c.requires.same) (held-in_range _ c.requires.well_formed);
-      span = front-span _ _ front;
-      rows = subst (λ (v : ℤ). AreRowsTo (Holds g.held) v c.loop-left.rows.complete.items c.loop-left.rows.reaching.items) (sym front.from) c.loop-left.invariant.rows;
-      runs_along = sweep_runs g.held c.in_ok-strips.strips.along c.split_at.result.1.now c.advance.new.active.items c.in_ok-strips.strips.runs.items
-          (subst (λ (v : ℤ). IsSweeping g.held v c.split_at.result.1.now c.advance.new.active.items) (sym front.from) sweep) c.in_ok-strips.ensures.before (rw c.deref.ensures.value at c.in_ok-strips.ensures.runs);
-    }
+    let sweep = sweep_advance g.held _ _ _ _ _ _ c.loop-left.invariant.sweep c.split_at.ensures.by_index.0 c.in_ok-advance.ensures _ c.split_at.ensures.front c.begun_count.ensures.begun in (
+      record {
+        in_range = subst (λ (v : List Band). IsInRange (Holds v)) (sym c.requires.same) (held-in_range _ c.requires.well_formed);
+        span = front-span _ _ front;
+        rows = subst (λ (v : ℤ). AreRowsTo (Holds g.held) v c.loop-left.rows.complete.items c.loop-left.rows.reaching.items) (sym front.from) c.loop-left.invariant.rows;
+        runs_along = sweep_runs g.held c.in_ok-strips.strips.along c.split_at.result.1.now c.advance.new.active.items c.in_ok-strips.strips.runs.items
+            (subst (λ (v : ℤ). IsSweeping g.held v c.split_at.result.1.now c.advance.new.active.items) (sym front.from) sweep) c.in_ok-strips.ensures.before (rw c.deref.ensures.value at c.in_ok-strips.ensures.runs);
+      },
+      c.loop-left.invariant.line,
+    )
 
 pub loop-left-preserved : goal.loop-left-preserved
 loop-left-preserved g c =
@@ -42,7 +44,8 @@ loop-left-preserved g c =
     let from = c.after-left.ensures.from in let to = c.after-left.ensures.to in
     let old_from = c.loop-left.invariant.from in let old_to = c.loop-left.invariant.to in
     record {
-      rows = subst (λ (v : ℤ). AreRowsTo (Holds g.held) v c.in_ok-rows.rows.complete.items c.in_ok-rows.rows.reaching.items) (sym from) c.in_ok-rows.ensures;
+      rows = subst (λ (v : ℤ). AreRowsTo (Holds g.held) v c.in_ok-rows.rows.complete.items c.in_ok-rows.rows.reaching.items) (sym from) c.in_ok-rows.ensures.rows;
+      line = c.in_ok-rows.ensures.line;
       sweep = sweep_later g.held _ _ _ _ (omega (arith, ints)) sweep;
       to = to ∙ old_to;
       from = omega (arith, ints);
