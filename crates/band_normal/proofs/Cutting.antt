@@ -1,14 +1,9 @@
 -- Zones cut at a departure: the rows before it and those after it are strips of all.
-use Rattle.std.proofs.Common.{◌≡◌, ◌⊎◌, ◌↔◌, inl, inr, ⊎_elim, ℕ, ◌+◌, ◌<◌, ℤ, pos, ◌+ℤ◌, ◌-ℤ◌, List, [], ◌∷◌, ◌++◌, length, get_or, take, Option, None, Some, Result, Ok, Err, refl, sym, ◌∙◌, subst, arith}
-use Rattle.std.specs.Prelude.{IfOk}
+use Rattle.std.proofs.Common.{◌≡◌, ◌⊎◌, ◌↔◌, inl, inr, ⊎_elim, ℕ, ◌+◌, ◌<◌, ℤ, pos, ◌+ℤ◌, ◌-ℤ◌, List, [], ◌∷◌, ◌++◌, length, get_or, take, Option, None, Some, refl, sym, ◌∙◌, subst, arith}
 use Rattle.std.specs.Option.{option_to_list}
-use Rattle.std.specs.Global.{Global}
-use Rattle.std.specs.declared.vec.Vec.{Vec}
-use Rattle.std.specs.declared.alloc.AllocError.{AllocError}
 use Rattle.std.proofs.lemmas.Int.{ints, by_lt_z}
 use Rattle.std.proofs.lemmas.List.{take_more}
 use Rattle.zone_core.specs.declared.Bounds.{Bounds}
-use Rattle.zone_core.specs.declared.Zone.{Zone}
 use Rattle.zone_core.specs.Zone.{Meets, Holds as ZoneHolds}
 use Rattle.band_normal.specs.declared.band.Band.{Band}
 use Rattle.band_normal.specs.Lists.{Among}
@@ -142,12 +137,20 @@ melted_hold zones whole whole' others fewer fewer' all rows rows' f e1 a e2 g e3
       λ x. b.1 (⊎_elim (λ y. inr (k.1 (own.1 y))) (λ y. inl y) (h.1 x)),
     )
 
-pub cut_is : (zones fewer fewer' front back : List Bounds) (limit : ℤ) → fewer' ≡ fewer → ((t u : ℤ) → SomeMeets fewer t u ↔ SomeMeets zones t u) → ((t u : ℤ) → SomeMeets front t u ↔ MeetsUpTo fewer' limit t u) → ((t u : ℤ) → SomeMeets back t u ↔ MeetsAfter fewer' limit t u) → AreCut zones front back
-cut_is zones fewer fewer' front back limit e f g h = record {
+-- two zone lists made fewer, one after the other, and then cut
+pub cut_is : (zones once once' fewer fewer' front back : List Bounds) (limit : ℤ) → once' ≡ once → ((t u : ℤ) → SomeMeets once t u ↔ SomeMeets zones t u) → ((t u : ℤ) → SomeMeets fewer t u ↔ SomeMeets once' t u) → fewer' ≡ fewer
+    → ((t u : ℤ) → SomeMeets front t u ↔ MeetsUpTo fewer' limit t u) → ((t u : ℤ) → SomeMeets back t u ↔ MeetsAfter fewer' limit t u) → AreCut zones front back
+cut_is zones once once' fewer fewer' front back limit d f0 f1 e g h = record {
   limit = limit;
-  up_to = λ t u. let a : SomeMeets fewer' t u ↔ SomeMeets zones t u = subst (λ (v : List Bounds). SomeMeets v t u ↔ SomeMeets zones t u) (sym e) (f t u) in let b = g t u in (λ k. let w = b.0 k in (a.0 w.0, w.1), λ k. b.1 (a.1 k.0, k.1));
-  after = λ t u. let a : SomeMeets fewer' t u ↔ SomeMeets zones t u = subst (λ (v : List Bounds). SomeMeets v t u ↔ SomeMeets zones t u) (sym e) (f t u) in let b = h t u in (λ k. let w = b.0 k in (a.0 w.0, w.1), λ k. b.1 (a.1 k.0, k.1));
+  up_to = λ t u. let a = same t u in let b = g t u in (λ k. let w = b.0 k in (a.0 w.0, w.1), λ k. b.1 (a.1 k.0, k.1));
+  after = λ t u. let a = same t u in let b = h t u in (λ k. let w = b.0 k in (a.0 w.0, w.1), λ k. b.1 (a.1 k.0, k.1));
 }
+  where
+    same : (t u : ℤ) → SomeMeets fewer' t u ↔ SomeMeets zones t u
+    same t u =
+        let a : SomeMeets fewer' t u ↔ SomeMeets once' t u = subst (λ (v : List Bounds). SomeMeets v t u ↔ SomeMeets once' t u) (sym e) (f1 t u) in
+        let b : SomeMeets once' t u ↔ SomeMeets zones t u = subst (λ (v : List Bounds). SomeMeets v t u ↔ SomeMeets zones t u) (sym d) (f0 t u) in
+        (λ k. b.0 (a.0 k), λ k. a.1 (b.1 k))
 
 -- the strips of both parts
 pub both_strips : (zones front back : List Bounds) (xs ys strips : List Band) → AreCut zones front back → AreRowsOf front xs → AreRowsOf back ys → strips ≡ xs ++ ys → AreStrips (SomeMeets zones) strips
@@ -158,13 +161,3 @@ both_well zones front back xs ys strips a b e = more_formed xs ys strips e a.wel
 
 pub linked_adds : (zones : List Bounds) (strips rows old new : List Band) → AreStrips (SomeMeets zones) strips → ((b : Band) → Among strips b → IsWellFormed b) → AreAll (Holds strips) rows → new ≡ old ++ rows → AddsRows old zones new
 linked_adds zones strips rows old new a well h e = record { more = rows; is = e; rows = linked_rows zones strips rows a well h }
-
-pub added_all : (zones zones' : List Bounds) (old new : List Band) → old ≡ [] → zones' ≡ zones → AddsRows old zones' new → AreRowsOf zones new
-added_all zones zones' old new e f a =
-    let is : new ≡ a.more = subst (λ (v : List Band). new ≡ v ++ a.more) e a.is in
-    subst (λ (v : List Bounds). AreRowsOf v new) f (subst (λ (v : List Band). AreRowsOf zones' v) (sym is) a.rows)
-
-pub ok_melted : (zones once once' : List Bounds) (r : Result (Vec Zone Global) AllocError) → once' ≡ once → ((t u : ℤ) → SomeMeets once t u ↔ SomeMeets zones t u) → IfOk r (λ v. (t : ℤ) → (u : ℤ) → SomeMeets v.items t u ↔ SomeMeets once' t u)
-    → IfOk r (λ v. (t : ℤ) → (u : ℤ) → SomeMeets v.items t u ↔ SomeMeets zones t u)
-ok_melted zones once once' (Ok v) e f g = λ t u. let a = subst (λ (w : List Bounds). SomeMeets v.items t u ↔ SomeMeets w t u) e (g t u) in let b = f t u in (λ k. b.0 (a.0 k), λ k. a.1 (b.1 k))
-ok_melted zones once once' (Err x) e f g = tt

@@ -22,7 +22,10 @@ use Rattle.band_normal.specs.Rows.{Continues, CanFollow, AreApart, AreAll, first
 use Rattle.band_normal.specs.Links.{AreStrips, EndsUpTo, EndsBefore, last_low_of, LinksAt, CanLink, CanLinkAll}
 use Rattle.band_normal.proofs.Lists.{among_append, append_first, append_second, append_ordered, among_at, place_of, ordered_either, ordered_by_place, ordered_at, ordered_from_neighbours, among_permutation, permutation_among}
 use Rattle.band_normal.proofs.Unique.{same_run, continued_one, end_steps}
-use Rattle.band_normal.proofs.WellFormed.{strip-well_formed}
+use Rattle.band_normal.proofs.WellFormed.{strip-well_formed, held-in_range}
+use Rattle.band_normal.proofs.Sweeping.{holds-permutation}
+use Rattle.band_normal.proofs.Far.{all_like}
+use Rattle.band_normal.proofs.Cutting.{strips_own}
 use Rattle.band_normal.proofs.Sorting.{BeginAlike, alike, same, test_fails, fails_test, alike-flip, first_low-is, not_after}
 use Rattle.band_normal.proofs.Linking.{IsOpen, AreLinking, last_pair, some_one, not_none, lt_or_eq, linking_step}
 
@@ -218,6 +221,22 @@ can_link_all strips starts ends well h o p q r range = record {
   back = λ b i. among_permutation strips starts p b (permutation_among strips ends r b i);
 }
 
+-- so for what the strips in order hold
+pub can_link_sorted : (strips starts ends xs ys : List Band) → ((b : Band) → Among strips b → IsWellFormed b) → AreStrips (Holds strips) strips → Ordered BeginsEarlier starts → IsPermutation strips starts → Ordered EndsUpTo ends → IsPermutation strips ends
+    → xs ≡ starts → ys ≡ ends → CanLinkAll (Holds xs) xs ys
+can_link_sorted strips starts ends xs ys well h o p q r e f =
+    let can = can_link_all strips starts ends well h o p q r (held-in_range strips well) in
+    let own : CanLinkAll (Holds starts) starts ends = record {
+      in_range = held-in_range starts (λ b i. well b (permutation_among strips starts p b i));
+      strips = strips_own (Holds strips) starts can.strips;
+      begins = can.begins;
+      order = can.order;
+      apart = can.apart;
+      there = can.there;
+      back = can.back;
+    } in
+    subst (λ (v : List Band). CanLinkAll (Holds v) v ys) (sym e) (subst (λ (v : List Band). CanLinkAll (Holds starts) starts v) (sym f) own)
+
 up_before : (x y : Band) (c : Corner) → EndsUpTo x y → EndsBefore y c → EndsBefore x c
 up_before x y c (inl a) (inl b) = inl (omega (arith, ints))
 up_before x y c (inl a) (inr (e, b)) = inl (omega (arith, ints))
@@ -263,6 +282,9 @@ rows_more slots i d start complete complete' lt e f =
     subst P (sym (take_more slots i d lt))
     (subst (λ (v : List Band). complete' ≡ start ++ v) (sym (present_more (take i slots) (get_or slots i d))) (all ∙ append_assoc start (present (take i slots)) (option_to_list (get_or slots i d))))
 
-pub ok_linked : (R : ℤ → ℤ → Type 0) (complete : List Band) (slots : List (Option Band)) (r : Result (Vec Band Global) AllocError) → AreAll R (complete ++ present slots) → IfOk r (λ v. v.items ≡ complete ++ present slots) → IfOk r (λ v. AreAll R v.items)
-ok_linked R complete slots (Ok v) a e = subst (λ (w : List Band). AreAll R w) (sym e) a
-ok_linked R complete slots (Err x) a e = tt
+pub ok_linked : (strips starts xs complete : List Band) (slots : List (Option Band)) (r : Result (Vec Band Global) AllocError) → IsPermutation strips starts → xs ≡ starts → AreAll (Holds xs) (complete ++ present slots) → IfOk r (λ v. v.items ≡ complete ++ present slots)
+    → IfOk r (λ v. AreAll (Holds strips) v.items)
+ok_linked strips starts xs complete slots (Ok v) p e a f =
+    let b : AreAll (Holds starts) v.items = subst (λ (w : List Band). AreAll (Holds starts) w) (sym f) (subst (λ (w : List Band). AreAll (Holds w) (complete ++ present slots)) e a) in
+    all_like (Holds starts) (Holds strips) v.items (λ t u. holds-permutation strips starts p t u) b
+ok_linked strips starts xs complete slots (Err x) p e a f = tt

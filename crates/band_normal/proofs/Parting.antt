@@ -17,14 +17,15 @@ use Rattle.band_normal.specs.Lists.{Among, Ordered}
 use Rattle.band_normal.specs.Bands.{IsWellFormed, InBand}
 use Rattle.band_normal.specs.Normal.{Normal, IsBefore}
 use Rattle.band_normal.specs.Zones.{SomeMeets}
-use Rattle.band_normal.specs.Strips.{Holds}
-use Rattle.band_normal.specs.Rows.{AreApart, AreAll, CanOrder}
+use Rattle.band_normal.specs.declared.strips.Stretch.{Stretch}
+use Rattle.band_normal.specs.Strips.{Holds, Covers, BeginsEarlier}
+use Rattle.band_normal.specs.Rows.{AreApart, AreAll, AreRowsTo, CanSweep, CanOrder}
 use Rattle.band_normal.specs.Parts.{begin_of, end_of, BeginsNoLater, IsBelow, AreFar, AreRowsOf, AddsRows}
 use Rattle.band_normal.proofs.Lists.{among_append, append_first, append_second, ordered_from_neighbours, ordered_from, ordered_second, permutation_among, among_permutation}
 use Rattle.band_normal.proofs.Activity.{not_below}
 use Rattle.band_normal.proofs.WellFormed.{row-well_formed, held-in_range}
 use Rattle.band_normal.proofs.Zoning.{some-append, holds-append, more_formed}
-use Rattle.band_normal.proofs.Sorting.{normal_like}
+use Rattle.band_normal.proofs.Sorting.{normal_like, swept_all}
 use Rattle.band_normal.proofs.Sweeping.{holds-permutation}
 use Rattle.band_normal.proofs.Far.{Either, all_like, all_both, all-holds}
 
@@ -191,6 +192,10 @@ swept_rows zones bands sorted rows pairs p c = record {
   well_formed = λ b i. row-well_formed (Holds sorted) b c.in_range (c.all.each b i);
 }
 
+-- all rows of the zones, added
+pub rows_added : (zones : List Bounds) (old more more' new : List Band) → AreRowsOf zones more → more' ≡ more → new ≡ old ++ more' → AddsRows old zones new
+rows_added zones old more more' new rows e f = record { more = more; is = f ∙ subst (λ (v : List Band). old ++ more' ≡ old ++ v) e refl; rows = rows }
+
 -- all rows can be put in order
 pub can_order : (zones : List Bounds) (rows : List Band) → AreRowsOf zones rows → CanOrder (Holds rows) rows
 can_order zones rows a = record {
@@ -220,14 +225,36 @@ zones_more rows i d z zones zones' lt e one f t u =
     only_held : (b : Band) (t u : ℤ) → Holds (b ∷ []) t u → InBand b t u
     only_held b t u h = subst (λ (v : Band). InBand v t u) (⊎_elim (λ e. sym e) absurd h.1) h.2
 
-pub ok_swept : (zones : List Bounds) (bands sorted : List Band) (r : Result (Vec Band Global) AllocError) → ((t u : ℤ) → Holds bands t u ↔ SomeMeets zones t u) → IsPermutation bands sorted → IfOk r (λ v. CanOrder (Holds sorted) v.items)
-    → IfOk r (λ v. AreRowsOf zones v.items)
-ok_swept zones bands sorted (Ok v) f p c = swept_rows zones bands sorted v.items f p c
-ok_swept zones bands sorted (Err e) f p c = tt
+-- sorted bands can be swept
+pub can_sweep : (bands sorted xs ys : List Band) (s : Stretch) → ((b : Band) → Among bands b → IsWellFormed b) → IsPermutation bands sorted → Ordered BeginsEarlier sorted → xs ≡ sorted → ys ≡ sorted → Covers xs s → CanSweep ys ys s
+can_sweep bands sorted xs ys s well p o e f covers =
+    subst (λ (v : List Band). CanSweep v v s) (sym f) (record {
+      same = refl;
+      order = o;
+      well_formed = λ b i. well b (permutation_among bands sorted p b i);
+      covers = subst (λ (v : List Band). Covers v s) e covers;
+    })
 
-pub ok_together : (R : ℤ → ℤ → Type 0) (complete reaching : List Band) (r : Result (Vec Band Global) AllocError) → CanOrder R (complete ++ reaching) → IfOk r (λ v. v.items ≡ complete ++ reaching) → IfOk r (λ v. CanOrder R v.items)
-ok_together R complete reaching (Ok v) c e = subst (λ (w : List Band). CanOrder R w) (sym e) c
-ok_together R complete reaching (Err x) c e = tt
+-- all rows of the sorted bands are those of the zones
+pub rows_swept : (zones : List Bounds) (bands sorted ys : List Band) (s : Stretch) (complete reaching reaching' rows : List Band) → ((t u : ℤ) → Holds bands t u ↔ SomeMeets zones t u) → IsPermutation bands sorted → ys ≡ sorted
+    → CanSweep ys ys s → AreRowsTo (Holds ys) (s.to +ℤ pos 1) complete reaching → reaching' ≡ reaching → rows ≡ complete ++ reaching' → AreRowsOf zones rows
+rows_swept zones bands sorted ys s complete reaching reaching' rows pairs p f can h e is =
+    let all : rows ≡ complete ++ reaching = subst (λ (v : List Band). rows ≡ complete ++ v) e is in
+    let whole : CanOrder (Holds ys) rows = subst (λ (v : List Band). CanOrder (Holds ys) v) (sym all) (swept_all ys ys s complete reaching can h) in
+    swept_rows zones bands sorted rows pairs p (subst (λ (v : List Band). CanOrder (Holds v) rows) f whole)
+
+-- zones without a band hold no pair
+pub no_rows : (zones : List Bounds) (bands sorted xs rows : List Band) → ((t u : ℤ) → Holds bands t u ↔ SomeMeets zones t u) → IsPermutation bands sorted → xs ≡ sorted → xs ≡ [] → rows ≡ [] → AreRowsOf zones rows
+no_rows zones bands sorted xs rows pairs p e none is =
+    let empty : sorted ≡ [] = sym e ∙ none in
+    subst (λ (v : List Band). AreRowsOf zones v) (sym is) (record {
+      all = record {
+        each = λ b i. absurd i;
+        whole = λ t u h. let w = (pairs t u).1 h in absurd (subst (λ (v : List Band). Among v w.0) empty (among_permutation bands sorted p w.0 w.1));
+        apart = tt;
+      };
+      well_formed = λ b i. absurd i;
+    })
 
 pub first_adds : (zones : List Bounds) (old new : List Band) → old ≡ [] → AddsRows old zones new → AreRowsOf zones new
 first_adds zones old new e a = subst (λ (v : List Band). AreRowsOf zones v) (sym (subst (λ (v : List Band). new ≡ v ++ a.more) e a.is)) a.rows

@@ -7,8 +7,8 @@
 mod active;
 pub mod band;
 mod cuts;
-mod halves;
 mod joints;
+mod lasting;
 pub mod laws;
 mod links;
 mod ordering;
@@ -17,6 +17,7 @@ mod pieces;
 mod rows;
 pub mod strike;
 mod strips;
+mod sweep;
 pub mod union;
 pub mod zones;
 

@@ -105,16 +105,6 @@ fn place(ends: &[Band], corner: Corner) -> usize
     from
 }
 
-// The strips by where they end.
-fn by_end(alloc: Global, strips: &[Band]) -> Result<Vec<Band>, AllocError>
-    ensures order { IfOk result (λ v. Ordered EndsUpTo v.items) }
-    ensures same { IfOk result (λ v. IsPermutation strips.now v.items) }
-{
-    let mut ends = Vec::from_slice(alloc, strips)?;
-    ends.sort_by_key(|strip| (strip.to, last_low(strip)))?;
-    Ok(ends)
-}
-
 fn no_rows(alloc: Global, ends: &[Band]) -> Result<Vec<Option<Band>>, AllocError>
     ensures len { IfOk result (λ v. length v.items ≡ length ends.now) }
     ensures none { IfOk result (λ v. (k : ℕ) → get_or v.items k None ≡ None) }
@@ -194,6 +184,7 @@ fn link_strip(linking: Linking, ends: &[Band], strip: Band) -> Result<Linking, A
     Ok(Linking { complete, slots })
 }
 
+// All strips linked, in the order in which they begin.
 fn linked(alloc: Global, starts: &[Band], ends: &[Band]) -> Result<Linking, AllocError>
     ghost held: { List PlainBand }
     requires { CanLinkAll (Holds held) starts.now ends.now }
@@ -223,32 +214,15 @@ fn rows_linked(linking: Linking) -> Result<Vec<Band>, AllocError>
     Ok(complete)
 }
 
-fn by_begin(alloc: Global, strips: &[Band]) -> Result<Vec<Band>, AllocError>
-    ensures order { IfOk result (λ v. Ordered BeginsEarlier v.items) }
-    ensures same { IfOk result (λ v. IsPermutation strips.now v.items) }
-{
-    let mut starts = Vec::from_slice(alloc, strips)?;
-    starts.sort_by_key(|strip| strip.from)?;
-    Ok(starts)
-}
-
 /// The rows of the pairs that the strips hold.
 pub fn link(alloc: Global, strips: &[Band]) -> Result<Vec<Band>, AllocError>
     requires well_formed { (b : PlainBand) → Among strips.now b → IsWellFormed b }
     requires strips { AreStrips (Holds strips.now) strips.now }
     ensures { IfOk result (λ v. AreAll (Holds strips.now) v.items) }
 {
-    link_of(alloc, strips)
-}
-
-fn link_of(alloc: Global, strips: &[Band]) -> Result<Vec<Band>, AllocError>
-    ghost held: { List PlainBand }
-    requires same { held ≡ strips.now }
-    requires well_formed { (b : PlainBand) → Among strips.now b → IsWellFormed b }
-    requires strips { AreStrips (Holds strips.now) strips.now }
-    ensures { IfOk result (λ v. AreAll (Holds held) v.items) }
-{
-    let ends = by_end(alloc, strips)?;
-    let starts = by_begin(alloc, strips)?;
+    let mut ends = Vec::from_slice(alloc, strips)?;
+    ends.sort_by_key(|strip| (strip.to, last_low(strip)))?;
+    let mut starts = Vec::from_slice(alloc, strips)?;
+    starts.sort_by_key(|strip| strip.from)?;
     rows_linked(linked(alloc, &starts, &ends)?)
 }

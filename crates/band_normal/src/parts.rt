@@ -5,10 +5,11 @@ ghost use Rattle.zone_core.specs.declared.Bounds.{Bounds as PlainBounds};
 ghost use Rattle.zone_core.specs.Zone.{Within, difference_reach};
 ghost use Rattle.band_normal.specs.Lists.{Among, Ordered};
 ghost use Rattle.band_normal.specs.Zones.{SomeMeets};
+ghost use Rattle.band_normal.specs.declared.sweep.Effort.{Effort};
 
 use crate::band::Band;
-use crate::cuts::{add_linked, cut_in_two, is_worth_cutting};
-use crate::union::{push_bands, swept};
+use crate::cuts::{add_linked, cut_in_two};
+use crate::sweep::{Effort, push_bands, swept};
 use crate::zones::bands_of;
 use std::alloc::{AllocError, Global};
 use zone_core::Zone;
@@ -117,21 +118,14 @@ fn add_lone(mut rows: Vec<Band>, zone: &Zone) -> Result<Vec<Band>, AllocError>
     Ok(rows)
 }
 
-// The rows of zones that aren't parted further.
-fn add_swept(alloc: Global, mut rows: Vec<Band>, zones: &[Zone]) -> Result<Vec<Band>, AllocError>
-    ensures { IfOk result (λ v. AddsRows rows.items zones.now v.items) }
+// With no cut left, the sweep goes to its end.
+fn effort_with(cuts: u32) -> Effort
+    ensures { cuts ≡ 0 → result ≡ Effort.Full }
 {
-    let more = swept(alloc, zones)?;
-    rows.extend_from_slice(&more)?;
-    Ok(rows)
-}
-
-// For how many rounds a group of some zones has been the whole of them.
-fn idle_with(idle: u32, group: usize, whole: usize) -> u32 {
-    if group == whole {
-        idle.saturating_add(1)
+    if cuts == 0 {
+        Effort::Full
     } else {
-        0
+        Effort::Limited
     }
 }
 
@@ -162,11 +156,10 @@ pub fn add_parted(
         return add_lone(rows, zone);
     }
     if is_done(rounds, idle) {
-        if cuts == 0 {
-            return add_swept(alloc, rows, zones);
-        }
-        if !is_worth_cutting(alloc, zones)? {
-            return add_swept(alloc, rows, zones);
+        if let Some(more) = swept(alloc, zones, effort_with(cuts))? {
+            let mut rows = rows;
+            rows.extend_from_slice(&more)?;
+            return Ok(rows);
         }
         let parts = cut_in_two(alloc, zones)?;
         let front = add_parted(
@@ -194,7 +187,11 @@ pub fn add_parted(
     let mut left = &sorted[..];
     while !left.is_empty() {
         let (group, later) = left.split_at(group_len(left, measure));
-        let idle = idle_with(idle, group.len(), zones.len());
+        let idle = if group.len() == zones.len() {
+            idle.saturating_add(1)
+        } else {
+            0
+        };
         rows = add_parted(
             alloc,
             rows,

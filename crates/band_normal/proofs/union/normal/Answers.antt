@@ -9,6 +9,7 @@ use Rattle.band_normal.specs.declared.band.Band.{Band}
 use Rattle.band_normal.specs.Normal.{Normal}
 use Rattle.band_normal.specs.Zones.{SomeMeets}
 use Rattle.band_normal.proofs.Sorting.{normal_like}
+use Rattle.band_normal.proofs.Parting.{first_adds, can_order, ok_ordered, ok_formed}
 use Rattle.band_normal.proofs.union.normal.Goals as goal
 
 -- what the bands of the one zone are for a list of it alone
@@ -24,3 +25,14 @@ pub returns-in-len1-clause-normal : goal.returns-in-len1-clause-normal
 returns-in-len1-clause-normal c =
     subst (λ (zones : List Bounds). IfOk c.normal_of_one.result (λ v. Normal (SomeMeets zones) v.items)) c.deref.ensures.value
     (one_ok c.deref.result.now c.zone-item.result c.in-len1.len_at_least c.in-len1.len_below c.zone-item.is c.normal_of_one.result c.normal_of_one.ensures.normal)
+
+pub in_order-requires : goal.in_order-requires
+in_order-requires c = can_order _ _ (first_adds _ _ _ c.new.ensures.items c.in_ok-add_parted-in_default.ensures)
+
+pub returns-clause-normal : goal.returns-clause-normal
+returns-clause-normal c =
+    subst (λ (zones : List Bounds). IfOk c.in_order.result (λ v. Normal (SomeMeets zones) v.items)) c.deref.ensures.value
+    (ok_ordered _ _ _ (first_adds _ _ _ c.new.ensures.items c.in_ok-add_parted-in_default.ensures) c.in_order.ensures)
+
+pub returns-clause-well_formed : goal.returns-clause-well_formed
+returns-clause-well_formed c = ok_formed _ _ _ (first_adds _ _ _ c.new.ensures.items c.in_ok-add_parted-in_default.ensures) c.in_order.ensures

@@ -1,8 +1,0 @@
-use Rattle.std.proofs.Common.{rules}
-use Rattle.std.proofs.lemmas.Fn.{always_returns_same}
-use Rattle.band_normal.specs.declared.band.Band.{Band}
-use Rattle.band_normal.proofs.Sweeping.{sorted_earlier}
-use Rattle.band_normal.proofs.links.by_begin.Goals as goal
-
-pub returns-clause-order : goal.returns-clause-order
-returns-clause-order c = sorted_earlier _ (c.in_ok-sort_by_key.ensures.sorted (λ (b : Band). b.from) (always_returns_same _ _ _ (λ a r q k. search rules)))

@@ -1,4 +1,0 @@
-use Rattle.band_normal.proofs.union.normal_of_many.Given as goal
-
-abbrev pub ghost-in_order : goal.ghost-in_order
-ghost-in_order a = a.rows.items
