@@ -150,14 +150,6 @@ parting_end m sorted left zones old rows p e f =
     let all : sorted ≡ p.done = subst (λ (v : List Bounds). sorted ≡ p.done ++ v) e p.parts ∙ append-nil p.done in
     adds_like old rows p.done zones (subst (λ (v : List Bounds). (t u : ℤ) → SomeMeets v t u ↔ SomeMeets zones t u) all f) p.adds
 
--- the one zone of a list
-pub only_zone : (zones : List Bounds) (zone : Bounds) (old : List Band) → 1 ≤ length zones → length zones < 2 → zone ≡ slice_index_or zones 0 zone → (r : Result (Vec Band Global) AllocError)
-    → IfOk r (λ v. AddsRows old (zone ∷ []) v.items) → IfOk r (λ v. AddsRows old zones v.items)
-only_zone (z ∷ []) zone old some few is (Ok v) n = subst (λ (k : Bounds). AddsRows old (k ∷ []) v.items) is n
-only_zone zones zone old some few is (Err x) n = tt
-only_zone [] zone old some few is (Ok v) n = absurd (omega arith)
-only_zone (z ∷ y ∷ more) zone old some few is (Ok v) n = absurd (omega arith)
-
 ordered_among : {X : Type 0} (Before After : X → X → Type 0) (xs : List X) → ((x y : X) → Among xs x → Among xs y → Before x y → After x y) → Ordered Before xs → Ordered After xs
 ordered_among Before After [] f o = tt
 ordered_among Before After (x ∷ xs) f o = (λ y i. f x y (inl refl) (inr i) (o.0 y i), ordered_among Before After xs (λ a b i j. f a b (inr i) (inr j)) o.1)
@@ -175,7 +167,7 @@ normal_all R rows n = record {
 }
 
 -- one zone's bands, added
-pub lone_adds : (zone : Bounds) (old more new : List Band) → Normal (Meets zone) more → ((b : Band) → Among more b → IsWellFormed b) → new ≡ old ++ more → AddsRows old (zone ∷ []) new
+lone_adds : (zone : Bounds) (old more new : List Band) → Normal (Meets zone) more → ((b : Band) → Among more b → IsWellFormed b) → new ≡ old ++ more → AddsRows old (zone ∷ []) new
 lone_adds zone old more new n well e = record {
   more = more;
   is = e;
@@ -184,6 +176,12 @@ lone_adds zone old more new n well e = record {
     well_formed = well;
   };
 }
+
+-- so where it is the one zone of a list
+pub only_adds : (zones : List Bounds) (zone : Bounds) (old more new : List Band) → 1 ≤ length zones → length zones < 2 → zone ≡ slice_index_or zones 0 zone → Normal (Meets zone) more → ((b : Band) → Among more b → IsWellFormed b) → new ≡ old ++ more → AddsRows old zones new
+only_adds (z ∷ []) zone old more new some few is n well e = subst (λ (k : Bounds). AddsRows old (k ∷ []) new) is (lone_adds zone old more new n well e)
+only_adds [] zone old more new some few is n well e = absurd (omega arith)
+only_adds (z ∷ y ∷ zs) zone old more new some few is n well e = absurd (omega arith)
 
 -- rows in another order, with bands in another order, of the zones
 pub swept_rows : (zones : List Bounds) (bands sorted rows : List Band) → ((t u : ℤ) → Holds bands t u ↔ SomeMeets zones t u) → IsPermutation bands sorted → CanOrder (Holds sorted) rows → AreRowsOf zones rows

@@ -10,6 +10,7 @@ ghost use Rattle.band_normal.specs.Cuts.{MeetsUpTo, MeetsAfter, AreCut};
 use crate::band::Band;
 use crate::lasting::{span_of, with_fewer_lasting};
 use crate::links::link;
+use crate::rows::push_some;
 use crate::strips::Stretch;
 use std::alloc::{AllocError, Global};
 use zone_core::{Bounds, Zone, tight};
@@ -44,15 +45,6 @@ fn after(mut k: Bounds, limit: Cut) -> Option<Zone>
     tight(k)
 }
 
-fn push_place(zones: &mut Vec<Zone>, place: Option<Zone>) -> Result<(), AllocError>
-    ensures { OnOk result (zones.new.items ≡ zones.old.items ++ option_to_list place) }
-{
-    if let Some(zone) = place {
-        zones.push(zone)?;
-    }
-    Ok(())
-}
-
 // The zones' pairs up to a departure, and those after it.
 fn parts_at(alloc: Global, zones: &[Zone], limit: Cut) -> Result<(Vec<Zone>, Vec<Zone>), AllocError>
     requires { Within moment_reach limit.last }
@@ -63,8 +55,8 @@ fn parts_at(alloc: Global, zones: &[Zone], limit: Cut) -> Result<(Vec<Zone>, Vec
     let mut back = Vec::new(alloc);
     for zone in zones {
         let bounds = zone.bounds();
-        push_place(&mut front, up_to(bounds, limit))?;
-        push_place(&mut back, after(bounds, limit))?;
+        push_some(&mut front, up_to(bounds, limit))?;
+        push_some(&mut back, after(bounds, limit))?;
     }
     Ok((front, back))
 }

@@ -164,42 +164,13 @@ fn moves_alike(longer: Band, strip: Band) -> bool
     strip.from == strip.to || have_same_ends(longer, strip)
 }
 
-// The row up to the strip's last departure.
-fn up_to_end(longer: Band, strip: Band) -> Band
-    ensures from { result.from ≡ longer.from }
-    ensures to { result.to ≡ strip.to }
-    ensures low { result.low ≡ longer.low }
-    ensures high { result.high ≡ longer.high }
-{
-    Band {
-        from: longer.from,
-        to: strip.to,
-        low: longer.low,
-        high: longer.high,
-    }
-}
-
-// The strip without its first departure.
-fn rest_of(strip: Band) -> Band
-    requires formed { IsWellFormed strip }
-    requires longer { strip.from <ℤ strip.to }
-    ensures { IsRest strip result }
-{
-    Band {
-        from: strip.from + 1,
-        to: strip.to,
-        low: strip.low,
-        high: strip.high,
-    }
-}
-
 // The row goes on as far as the strip moves as it does. Where it can't, a new row begins.
 fn prolonged(row: Band, strip: Band) -> Joint
     ghost held: { List Band }
     requires { CanFollow (Holds held) (row ∷ []) strip }
     ensures { IsJoint (Holds held) (row ∷ []) strip (option_to_list result.complete) result.reaching }
 {
-    let longer = grown(row, strip);
+    let mut longer = grown(row, strip);
     if !meets(longer, strip) {
         return Joint {
             complete: Some(row),
@@ -207,14 +178,17 @@ fn prolonged(row: Band, strip: Band) -> Joint
         };
     }
     if moves_alike(longer, strip) {
+        longer.to = strip.to;
         return Joint {
             complete: None,
-            reaching: up_to_end(longer, strip),
+            reaching: longer,
         };
     }
+    let mut rest = strip;
+    rest.from = strip.from + 1;
     Joint {
         complete: Some(longer),
-        reaching: alone(rest_of(strip)),
+        reaching: alone(rest),
     }
 }
 

@@ -27,16 +27,8 @@ pub fn span_of(zones: &[Zone]) -> Stretch {
     span
 }
 
-// Whether the zone has fewer pairs than its departures and arrivals alone allow: then an end of it moves somewhere.
-fn moves(zone: &Zone) -> bool {
-    let bounds = zone.bounds();
-    if bounds.e > bounds.c.saturating_sub(bounds.b) {
-        return true;
-    }
-    bounds.f < bounds.d.saturating_sub(bounds.a)
-}
-
-// Whether the zone is active at all departures, and an end of it moves, or none does.
+// Whether the zone is active at all departures, and an end of it moves somewhere, or none does. An end moves where the zone has
+// fewer pairs than its departures and arrivals alone allow.
 fn lasts(zone: &Zone, span: Stretch, moving: bool) -> bool {
     let bounds = zone.bounds();
     if bounds.a > span.from {
@@ -45,7 +37,9 @@ fn lasts(zone: &Zone, span: Stretch, moving: bool) -> bool {
     if bounds.b < span.to {
         return false;
     }
-    moves(zone) == moving
+    let least_moves = bounds.e > bounds.c.saturating_sub(bounds.b);
+    let most_moves = bounds.f < bounds.d.saturating_sub(bounds.a);
+    (least_moves || most_moves) == moving
 }
 
 // The zones that last, and the others.

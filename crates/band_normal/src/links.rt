@@ -55,21 +55,14 @@ fn corner_of_end(strip: Band) -> Corner
     }
 }
 
-fn less_one(n: i64) -> i64
-    requires { FitsSigned w64 (n -ℤ pos 1) }
-    ensures { result ≡ n -ℤ pos 1 }
-{
-    n - 1
-}
-
 // The lowest corner that a row which the strip continues can end with.
 fn corner_to_continue(strip: Band) -> Corner
     requires { IsWellFormed strip }
     ensures { result ≡ corner_before strip }
 {
     Corner {
-        departure: less_one(strip.from),
-        low: less_one(strip.low.at(strip.from)),
+        departure: strip.from - 1,
+        low: strip.low.at(strip.from) - 1,
     }
 }
 

@@ -9,8 +9,8 @@ ghost use Rattle.band_normal.specs.Rows.{CanOrder, first_low_of};
 use crate::band::{Band, End};
 use std::alloc::AllocError;
 
-// The low end at the first departure, which is in range in each row.
-fn first_low(row: &Band) -> i64
+/// The low end at the first departure, which is in range in each row.
+pub fn first_low(row: &Band) -> i64
     ensures { result ≡ first_low_of row.now }
 {
     match row.low {

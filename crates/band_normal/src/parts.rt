@@ -110,35 +110,6 @@ fn by_begin(alloc: Global, zones: &[Zone], measure: Measure) -> Result<Vec<Zone>
     Ok(sorted)
 }
 
-// The rows of a zone that has its group to itself, added to others.
-fn add_lone(mut rows: Vec<Band>, zone: &Zone) -> Result<Vec<Band>, AllocError>
-    ensures { IfOk result (λ v. AddsRows rows.items (zone.now ∷ []) v.items) }
-{
-    push_bands(&mut rows, bands_of(zone))?;
-    Ok(rows)
-}
-
-// With no cut left, the sweep goes to its end.
-fn effort_with(cuts: u32) -> Effort
-    ensures { cuts ≡ 0 → result ≡ Effort.Full }
-{
-    if cuts == 0 {
-        Effort::Full
-    } else {
-        Effort::Limited
-    }
-}
-
-// Whether no further round is to be tried.
-fn is_done(rounds: u32, idle: u32) -> bool
-    ensures { rounds ≡ 0 → IsTrue result }
-{
-    if rounds == 0 {
-        return true;
-    }
-    idle >= 3
-}
-
 /// The rows of the zones added to others, for so many rounds group by group. Where many zones of a group are active at a time
 /// it is cut in two at a departure, so often at most.
 pub fn add_parted(
@@ -152,12 +123,18 @@ pub fn add_parted(
 ) -> Result<Vec<Band>, AllocError>
     ensures { IfOk result (λ v. AddsRows rows.items zones.now v.items) }
 {
+    let mut rows = rows;
     if let [zone] = zones {
-        return add_lone(rows, zone);
+        push_bands(&mut rows, bands_of(zone))?;
+        return Ok(rows);
     }
-    if is_done(rounds, idle) {
-        if let Some(more) = swept(alloc, zones, effort_with(cuts))? {
-            let mut rows = rows;
+    if rounds == 0 || idle >= 3 {
+        let effort = if cuts == 0 {
+            Effort::Full
+        } else {
+            Effort::Limited
+        };
+        if let Some(more) = swept(alloc, zones, effort)? {
             rows.extend_from_slice(&more)?;
             return Ok(rows);
         }
@@ -183,7 +160,6 @@ pub fn add_parted(
         return add_linked(alloc, rows, zones, &parts, front, &back);
     }
     let sorted = by_begin(alloc, zones, measure)?;
-    let mut rows = rows;
     let mut left = &sorted[..];
     while !left.is_empty() {
         let (group, later) = left.split_at(group_len(left, measure));

@@ -76,11 +76,12 @@ fn led_count(row: Option<Band>) -> usize
     }
 }
 
-pub fn push_some(rows: &mut Vec<Band>, row: Option<Band>) -> Result<(), AllocError>
-    ensures { OnOk result (rows.new.items ≡ rows.old.items ++ option_to_list row) }
+/// Adds the item, if there is one.
+pub fn push_some<T: Copy>(items: &mut Vec<T>, item: Option<T>) -> Result<(), AllocError>
+    ensures { OnOk result (items.new.items ≡ items.old.items ++ option_to_list item) }
 {
-    if let Some(row) = row {
-        rows.push(row)?;
+    if let Some(item) = item {
+        items.push(item)?;
     }
     Ok(())
 }

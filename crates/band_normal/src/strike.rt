@@ -6,27 +6,10 @@ ghost use Rattle.band_normal.specs.Strips.{Holds};
 ghost use Rattle.band_normal.specs.Rows.{AreApart};
 ghost use Rattle.band_normal.specs.Strike.{OnlyFirst};
 
-use crate::band::{Band, End};
+use crate::band::Band;
 use crate::joints::have_same_ends;
+use crate::ordering::first_low;
 use std::alloc::{AllocError, Global};
-
-// Whether the row is to be passed before the other. Which of two unequal rows is passed first doesn't matter to the answer.
-fn is_earlier(row: Band, other: Band) -> bool {
-    if row.from != other.from {
-        return row.from < other.from;
-    }
-    if row.low != other.low {
-        return first_low(row) < first_low(other);
-    }
-    row.to < other.to
-}
-
-fn first_low(row: Band) -> i64 {
-    match row.low {
-        End::Fixed(n) => n,
-        End::Moving(k) => row.from.saturating_add(k),
-    }
-}
 
 fn is_same(row: Band, other: Band) -> bool
     ensures { IsTrue result ↔ (row ≡ other) }
@@ -59,10 +42,12 @@ pub fn struck(
         let Some((other, others)) = right.split_first() else {
             break;
         };
+        // Which of two unequal rows is passed first doesn't matter to the answer, but to what it strikes.
+        let is_earlier = (row.from, first_low(row), row.to) < (other.from, first_low(other), other.to);
         if is_same(*row, *other) {
             left = rows;
             right = others;
-        } else if is_earlier(*row, *other) {
+        } else if is_earlier {
             kept.push(*row)?;
             left = rows;
         } else {

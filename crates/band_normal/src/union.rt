@@ -19,16 +19,6 @@ use zone_core::Zone;
 // How often at most zones are cut in two.
 const CUTS: u32 = 48;
 
-// The bands of one zone are its normal list as they stand.
-fn normal_of_one(alloc: Global, zone: &Zone) -> Result<Vec<Band>, AllocError>
-    ensures normal { IfOk result (λ v. Normal (Meets zone.now) v.items) }
-    ensures well_formed { IfOk result (λ v. (b : Band) → Among v.items b → IsWellFormed b) }
-{
-    let mut bands = Vec::new(alloc);
-    push_bands(&mut bands, bands_of(zone))?;
-    Ok(bands)
-}
-
 /// The normal list of the union of the zones.
 ///
 /// The zone of the pairs t, t with t from 0 to 9 has one band. With the pair 5, 6 beside it there are
@@ -55,16 +45,18 @@ pub fn normal(alloc: Global, zones: Vec<Zone>) -> Result<Vec<Band>, AllocError>
     ensures normal { IfOk result (λ rows. Normal (SomeMeets zones.items) rows.items) }
     ensures well_formed { IfOk result (λ rows. (b : Band) → Among rows.items b → IsWellFormed b) }
 {
-    match &zones[..] {
-        [zone] => normal_of_one(alloc, zone),
-        many => in_order(add_parted(
-            alloc,
-            Vec::new(alloc),
-            many,
-            Measure::Departure,
-            ROUNDS,
-            0,
-            CUTS,
-        )?),
+    let mut rows = Vec::new(alloc);
+    if let [zone] = &zones[..] {
+        push_bands(&mut rows, bands_of(zone))?;
+        return Ok(rows);
     }
+    in_order(add_parted(
+        alloc,
+        rows,
+        &zones,
+        Measure::Departure,
+        ROUNDS,
+        0,
+        CUTS,
+    )?)
 }

@@ -10,7 +10,7 @@ ghost use Rattle.band_normal.specs.Zones.{SomeMeets, present, EmptyComeLast, wit
 ghost use Rattle.band_normal.specs.Strips.{Holds};
 
 use crate::band::{Band, End};
-use crate::pieces::{first_piece, is_last, piece_after};
+use crate::pieces::{first_piece, piece_after};
 use std::alloc::{AllocError, Global};
 use zone_core::{Bounds, Zone, tight};
 
@@ -35,11 +35,11 @@ pub fn bands_of(z: &Zone) -> [Option<Band>; 3]
 {
     let k = z.bounds();
     let first = first_piece(k);
-    if is_last(k, first) {
+    if first.to == k.b {
         return [Some(first), None, None];
     }
     let second = piece_after(k, first);
-    if is_last(k, second) {
+    if second.to == k.b {
         return [Some(first), Some(second), None];
     }
     let third = piece_after(k, second);
