@@ -18,11 +18,18 @@ ghost use Rattle.band_normal.specs.Parts.{AreRowsOf};
 
 use crate::active::{advance, begun_count, strips_before};
 use crate::band::Band;
+use crate::lasting::span_of;
 use crate::rows::{Rows, join, push_some};
 use crate::strips::Stretch;
 use crate::zones::bands_of;
 use std::alloc::{AllocError, Global};
 use zone_core::Zone;
+
+// With fewer begins and ends than these, a limited sweep is always tried.
+const FEW_TURNS: u64 = 16;
+
+// How many zones may be active at a time, as a mean of their departures, if a limited sweep is to be tried.
+const CROWD: i64 = 32;
 
 // How many bands a limited sweep may look at for each one that has begun and each row that is complete.
 const LOOKS: u64 = 64;
@@ -60,34 +67,18 @@ fn bands_of_all(alloc: Global, zones: &[Zone]) -> Result<Vec<Band>, AllocError>
     Ok(bands)
 }
 
-// The span with one more band's departures.
-fn widened(span: Stretch, band: Band) -> Stretch
-    ensures from { (result.from ≤ℤ span.from) × (result.from ≤ℤ band.from) }
-    ensures to { (span.to ≤ℤ result.to) × (band.to ≤ℤ result.to) }
-    ensures near { Within moment_reach span.from → Within moment_reach band.from → Within moment_reach result.from }
-    ensures far { Within moment_reach span.to → Within moment_reach band.to → Within moment_reach result.to }
-{
-    Stretch {
-        from: span.from.min(band.from),
-        to: span.to.max(band.to),
-    }
-}
-
-// All departures of the bands, from the first to the last.
+// Departures from the first one of the bands, which come by it, to the last that any may have.
 fn departures(bands: &[Band]) -> Option<Stretch>
-    requires { (b : Band) → Among bands.now b → IsWellFormed b }
+    requires well_formed { (b : Band) → Among bands.now b → IsWellFormed b }
+    requires order { Ordered BeginsEarlier bands.now }
     ensures none { IfNone result (bands.now ≡ []) }
     ensures some { IfSome result (λ s. Covers bands.now s) }
 {
     let first = bands.first()?;
-    let mut span = Stretch {
+    Some(Stretch {
         from: first.from,
-        to: first.to,
-    };
-    for band in bands {
-        span = widened(span, *band);
-    }
-    Some(span)
+        to: 4_000_000_000_000,
+    })
 }
 
 // What is left of the departures once a stretch of them is done.
@@ -152,6 +143,26 @@ fn rows_over(
     Ok(Some(rows))
 }
 
+// Whether the sweep isn't even to be tried: where many zones are active at a time, and many of them begin or end then.
+fn is_hopeless(zones: &[Zone], effort: Effort) -> bool
+    ensures { effort ≡ Effort.Full → result ≡ false }
+{
+    if let Effort::Full = effort {
+        return false;
+    }
+    let span = span_of(zones);
+    let mut turns: u64 = 0;
+    let mut active: i64 = 0;
+    for zone in zones {
+        let bounds = zone.bounds();
+        if span.from < bounds.a || bounds.b < span.to {
+            turns = turns.saturating_add(1);
+        }
+        active = active.saturating_add(bounds.b.saturating_sub(bounds.a));
+    }
+    FEW_TURNS < turns && span.to.saturating_sub(span.from).saturating_mul(CROWD) < active
+}
+
 /// The rows of the zones, in any order, by a sweep over all of them; none where it was given up.
 pub fn swept(
     alloc: Global,
@@ -161,6 +172,9 @@ pub fn swept(
     ensures rows { IfOk result (λ o. IfSome o (λ v. AreRowsOf zones.now v.items)) }
     ensures full { effort ≡ Effort.Full → IfOk result (λ o. IsSome o) }
 {
+    if is_hopeless(zones, effort) {
+        return Ok(None);
+    }
     let mut bands = bands_of_all(alloc, zones)?;
     bands.sort_by_key(|band| band.from)?;
     let Some(span) = departures(&bands) else {

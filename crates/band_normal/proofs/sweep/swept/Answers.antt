@@ -1,15 +1,21 @@
-use Rattle.std.proofs.Common.{List, subst, rules}
+use Rattle.std.proofs.Common.{List, sym, subst, rules}
 use Rattle.std.proofs.lemmas.Fn.{always_returns_same}
 use Rattle.band_normal.specs.declared.band.Band.{Band}
-use Rattle.band_normal.specs.Lists.{Among}
+use Rattle.band_normal.specs.Lists.{Among, Ordered}
+use Rattle.band_normal.specs.Strips.{BeginsEarlier}
 use Rattle.band_normal.proofs.Lists.{permutation_among}
 use Rattle.band_normal.proofs.Sweeping.{sorted_earlier}
 use Rattle.band_normal.proofs.Parting.{can_sweep, rows_swept}
 use Rattle.band_normal.proofs.sweep.swept.Goals as goal
 
-pub departures-requires : goal.departures-requires
-departures-requires c = λ b i.
+pub departures-requires-clause-well_formed : goal.departures-requires-clause-well_formed
+departures-requires-clause-well_formed c = λ b i.
     c.in_ok-bands.ensures.well_formed b (permutation_among _ _ c.sort_by_key.ensures.permutation b (subst (λ (v : List Band). Among v b) c.deref.ensures.value i))
+
+pub departures-requires-clause-order : goal.departures-requires-clause-order
+departures-requires-clause-order c =
+    subst (λ (v : List Band). Ordered BeginsEarlier v) (sym c.deref.ensures.value)
+    (sorted_earlier _ (c.in_ok-sort_by_key.ensures.sorted (λ (b : Band). b.from) (always_returns_same _ _ _ (λ a r q k. search rules))))
 
 pub rows_over-requires : goal.rows_over-requires
 rows_over-requires c =
