@@ -13,3 +13,10 @@ pub mod Sorting
 pub mod Zoning
 pub mod Sweeping
 pub mod Existence
+pub mod Far
+pub mod Parting
+pub mod Lining
+pub mod Striking
+pub mod Linking
+pub mod Linked
+pub mod Cutting

@@ -26,32 +26,32 @@ clamped_is : (z : ℤ) → Within moment_reach z → saturate_signed w64 z ≡ z
 clamped_is (pos n) w = ap pos (omega (arith, ints))
 clamped_is (negsuc n) w = ap negsuc (omega (arith, ints))
 
-clamped-end : (e : End) (t : ℤ) → Within moment_reach (end_at e t) → clamped_at e t ≡ end_at e t
+pub clamped-end : (e : End) (t : ℤ) → Within moment_reach (end_at e t) → clamped_at e t ≡ end_at e t
 clamped-end (Fixed n) t w = refl
 clamped-end (Moving k) t w = clamped_is (t +ℤ k) w
 
-first_low-is : (b : Band) → IsWellFormed b → first_low_of b ≡ end_at b.low b.from
+pub first_low-is : (b : Band) → IsWellFormed b → first_low_of b ≡ end_at b.low b.from
 first_low-is b w = clamped-end b.low b.from (w.low b.from (omega (arith, ints)) w.span)
 
 -- both begin at one departure, with one low end
-abbrev BeginAlike : Band → Band → Type 0
+abbrev pub BeginAlike : Band → Band → Type 0
 BeginAlike x y = (x.from ≡ y.from) × (first_low_of x ≡ first_low_of y)
 
-same : (x y : Band) → Decided (BeginAlike x y)
+pub same : (x y : Band) → Decided (BeginAlike x y)
 same x y = both (same_moment x.from y.from) (same_moment (first_low_of x) (first_low_of y))
 
-abbrev test : {P : Type 0} → Decided P → Bool
+abbrev pub test : {P : Type 0} → Decided P → Bool
 test (inl p) = true
 test (inr n) = false
 
-abbrev alike : Band → Band → Bool
+abbrev pub alike : Band → Band → Bool
 alike x y = test (same x y)
 
-test_fails : {P : Type 0} (d : Decided P) → test d ≡ false → P → ⊥
+pub test_fails : {P : Type 0} (d : Decided P) → test d ≡ false → P → ⊥
 test_fails (inl q) e p = true≢false e
 test_fails (inr n) e p = n p
 
-fails_test : {P : Type 0} (d : Decided P) → (P → ⊥) → test d ≡ false
+pub fails_test : {P : Type 0} (d : Decided P) → (P → ⊥) → test d ≡ false
 fails_test (inl p) n = absurd (n p)
 fails_test (inr m) n = refl
 
@@ -61,7 +61,7 @@ test_same (inl p) (inr n) f g = absurd (n (f p))
 test_same (inr n) (inl q) f g = absurd (n (g q))
 test_same (inr n) (inr m) f g = refl
 
-alike-flip : (x y : Band) → alike x y ≡ alike y x
+pub alike-flip : (x y : Band) → alike x y ≡ alike y x
 alike-flip x y = test_same (same x y) (same y x) (λ b. (sym b.0, sym b.1)) (λ b. (sym b.0, sym b.1))
 
 less_is : (a b : ℤ) → a <ℤ b → is_lt (int_cmp a b) ≡ true
@@ -74,7 +74,7 @@ equal_first : (a c d : ℤ) → is_lt (ordering_then (int_cmp a a) (int_cmp c d)
 equal_first a c d = grind (arith, ints)
 
 -- by the first number, then by the second
-not_after : (a b c d : ℤ) → is_lt (ordering_then (int_cmp a b) (int_cmp c d)) ≡ false → (b <ℤ a) ⊎ ((b ≡ a) × (d ≤ℤ c))
+pub not_after : (a b c d : ℤ) → is_lt (ordering_then (int_cmp a b) (int_cmp c d)) ≡ false → (b <ℤ a) ⊎ ((b ≡ a) × (d ≤ℤ c))
 not_after a b c d h = by_lt_z b a (λ lt. inl lt) (λ le. by_lt_z a b
     (λ lt. absurd (true≢false (sym (less_first a b c d lt) ∙ h)))
     (λ ge. let e : b ≡ a = omega (arith, ints) in
@@ -169,17 +169,20 @@ swept_all held bands s complete reaching c h =
 run_like : (R S : ℤ → ℤ → Type 0) → ((t u : ℤ) → R t u ↔ S t u) → (t l h : ℤ) → IsRun R t l h → IsRun S t l h
 run_like R S f t l h r = record { some = r.some; each = λ u a b. (f t u).0 (r.each u a b); below = λ s. r.below ((f t (l -ℤ pos 1)).1 s); above = λ s. r.above ((f t (h +ℤ pos 1)).1 s) }
 
+pub row_like : (R S : ℤ → ℤ → Type 0) (b : Band) → ((t u : ℤ) → R t u ↔ S t u) → IsRow R b → IsRow S b
+row_like R S b f r = record {
+  span = r.span;
+  runs = λ t p q. run_like R S f t _ _ (r.runs t p q);
+  single_low = r.single_low;
+  single_high = r.single_high;
+  stops = λ l h run. r.stops l h (run_like S R (λ t u. ((f t u).1, (f t u).0)) _ l h run);
+}
+
 -- relations that hold the same have the same normal list
 pub normal_like : (R S : ℤ → ℤ → Type 0) (rows : List Band) → ((t u : ℤ) → R t u ↔ S t u) → Normal R rows → Normal S rows
 normal_like R S rows f n = record {
   whole = λ t u s. n.whole t u ((f t u).1 s);
   once = n.once;
-  each = λ b i. let r = n.each b i in record {
-    span = r.span;
-    runs = λ t p q. run_like R S f t _ _ (r.runs t p q);
-    single_low = r.single_low;
-    single_high = r.single_high;
-    stops = λ l h run. r.stops l h (run_like S R (λ t u. ((f t u).1, (f t u).0)) _ l h run);
-  };
+  each = λ b i. row_like R S b f (n.each b i);
   order = n.order;
 }

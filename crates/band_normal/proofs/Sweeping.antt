@@ -154,7 +154,7 @@ sorted_earlier bands h = ordered_from_neighbours BeginsEarlier (λ x y z a b. om
 pub active_formed : (held bands waiting active : List Band) (from : ℤ) → held ≡ bands → ((b : Band) → Among bands b → IsWellFormed b) → IsSweeping held from waiting active → (b : Band) → Among active b → IsWellFormed b
 active_formed held bands waiting active from e well w b i = well b (subst (λ (v : List Band). Among v b) e (w.acts b i))
 
-up_of : (z : ℤ) → pos 0 ≤ℤ z → pos (up z) ≡ z
+pub up_of : (z : ℤ) → pos 0 ≤ℤ z → pos (up z) ≡ z
 up_of (pos n) h = refl
 up_of (negsuc n) h = absurd (omega (arith, ints))
 

@@ -41,7 +41,7 @@ fixed_agree (Fixed m) (Fixed n) t x y p = ap Fixed p
 fixed_agree (Fixed m) (Moving k) t x y p = absurd y
 fixed_agree (Moving j) f t x y p = absurd x
 
-steps_near : (x y : ℤ) → Steps x y → (x ≤ℤ y) × (y ≤ℤ (x +ℤ pos 1))
+pub steps_near : (x y : ℤ) → Steps x y → (x ≤ℤ y) × (y ≤ℤ (x +ℤ pos 1))
 steps_near x y (inl e) = (omega (arith, ints), omega (arith, ints))
 steps_near x y (inr e) = (omega (arith, ints), omega (arith, ints))
 

@@ -18,14 +18,14 @@ normal-holds R rows n t u = (
   n.whole t u,
 )
 
-some-append : (xs ys : List Bounds) (t u : ℤ) → SomeMeets (xs ++ ys) t u ↔ (SomeMeets xs t u ⊎ SomeMeets ys t u)
+pub some-append : (xs ys : List Bounds) (t u : ℤ) → SomeMeets (xs ++ ys) t u ↔ (SomeMeets xs t u ⊎ SomeMeets ys t u)
 some-append [] ys t u = (λ h. inr h, λ h. ⊎_elim (λ e. absurd e) (λ k. k) h)
 some-append (x ∷ xs) ys t u = (
   λ h. ⊎_elim (λ m. inl (inl m)) (λ k. ⊎_elim (λ a. inl (inr a)) (λ b. inr b) ((some-append xs ys t u).0 k)) h,
   λ h. ⊎_elim (λ k. ⊎_elim (λ m. inl m) (λ a. inr ((some-append xs ys t u).1 (inl a))) k) (λ b. inr ((some-append xs ys t u).1 (inr b))) h,
 )
 
-holds-append : (xs ys : List Band) (t u : ℤ) → Holds (xs ++ ys) t u ↔ (Holds xs t u ⊎ Holds ys t u)
+pub holds-append : (xs ys : List Band) (t u : ℤ) → Holds (xs ++ ys) t u ↔ (Holds xs t u ⊎ Holds ys t u)
 holds-append xs ys t u = (
   λ h. ⊎_elim (λ i. inl (h.0, i, h.2)) (λ i. inr (h.0, i, h.2)) (among_append xs ys h.0 h.1),
   λ h. ⊎_elim (λ k. (k.0, append_first xs ys k.0 k.1, k.2)) (λ k. (k.0, append_second xs ys k.0 k.1, k.2)) h,

@@ -6,3 +6,7 @@ pub mod Pieces
 pub mod Strips
 pub mod Actives
 pub mod Rows
+pub mod Parts
+pub mod Strike
+pub mod Links
+pub mod Cuts

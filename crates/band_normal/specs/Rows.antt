@@ -112,6 +112,23 @@ pub record TakesStrip (R : ℤ → ℤ → Type 0) (complete next rest : List Ba
   pub complete_is : complete' ≡ complete ++ stopped
   pub next_is : next' ≡ next ++ goes_on ∷ []
 
+-- the row ends so low that the strip, or one above it, can't continue it
+abbrev pub IsUnder : Band → Band → Type 0
+IsUnder row strip = (end_at row.low row.to +ℤ pos 1) <ℤ end_at strip.low strip.from
+
+-- where both rows end, the run of the one is below that of the other
+abbrev pub RunsBelow : Band → Band → Type 0
+RunsBelow x y = (end_at x.low x.to +ℤ pos 1) <ℤ end_at y.low y.to
+
+-- the row, if any, was joined with the strip, and the rows under it were passed
+pub record JoinsStrip (R : ℤ → ℤ → Type 0) (complete next passed under : List Band) (row : Option Band) (strip : Band) (complete' next' passed' : List Band) : Type 0 where
+  pub stopped : List Band
+  pub goes_on : Band
+  pub joint : IsJoint R (option_to_list row) strip stopped goes_on
+  pub complete_is : complete' ≡ complete ++ stopped
+  pub next_is : next' ≡ next ++ goes_on ∷ []
+  pub passed_is : passed' ≡ passed ++ under
+
 -- the rows go up to where the stretch begins, and its runs are those of the relation
 pub record CanJoin (R : ℤ → ℤ → Type 0) (complete reaching : List Band) (s : Stretch) (runs : List Ends) : Type 0 where
   pub in_range : IsInRange R

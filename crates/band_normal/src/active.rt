@@ -142,18 +142,12 @@ pub fn begun_count(waiting: &[Band], left: Stretch) -> usize
     waiting.len()
 }
 
-fn drop_over(active: &mut Vec<Band>, left: Stretch)
-    ensures { active.new.items ≡ filter (λ b. int_le left.from b.to) active.old.items }
-{
-    active.retain(|band| left.from <= band.to);
-}
-
 /// Adds the bands that have begun to the active ones, and drops those that are over where the stretch begins.
 pub fn advance(active: &mut Vec<Band>, begun: &[Band], left: Stretch) -> Result<(), AllocError>
     ensures { OnOk result (active.new.items ≡ filter (λ b. int_le left.from b.to) (active.old.items ++ begun.now)) }
 {
     active.extend_from_slice(begun)?;
-    drop_over(active, left);
+    active.retain(|band| left.from <= band.to);
     Ok(())
 }
 

@@ -22,7 +22,7 @@ pub struct Joint {
     pub reaching: Band,
 }
 
-ghost use Rattle.band_normal.specs.Rows.{Continues, IsAlone, Agree, IsGrown, IsRest, CanFollow, IsJoint};
+ghost use Rattle.band_normal.specs.Rows.{Continues, IsUnder, IsAlone, Agree, IsGrown, IsRest, CanFollow, IsJoint};
 
 fn at_first(end: End, band: Band) -> i64
     requires { FitsSigned w64 (end_at end band.from) }
@@ -65,6 +65,26 @@ pub fn continues(row: Band, strip: Band) -> bool
     ensures { IsTrue result ↔ Continues row strip }
 {
     steps(row.low, row, strip.low, strip) && steps(row.high, row, strip.high, strip)
+}
+
+fn is_below(end: End, row: Band, next: End, strip: Band) -> bool
+    requires fits { FitsSigned w64 (end_at end row.to +ℤ pos 1) }
+    requires end_fits { FitsSigned w64 (end_at end row.to) }
+    requires next_fits { FitsSigned w64 (end_at next strip.from) }
+    ensures { IsTrue result ↔ ((end_at end row.to +ℤ pos 1) <ℤ end_at next strip.from) }
+{
+    let last = at_last(end, row);
+    let first = at_first(next, strip);
+    last + 1 < first
+}
+
+/// Whether the row ends too low for the strip to continue it.
+pub fn is_under(row: Band, strip: Band) -> bool
+    requires row_formed { IsWellFormed row }
+    requires strip_formed { IsWellFormed strip }
+    ensures { IsTrue result ↔ IsUnder row strip }
+{
+    is_below(row.low, row, strip.low, strip)
 }
 
 // A row of one departure has fixed ends.
@@ -121,7 +141,7 @@ fn grown(row: Band, strip: Band) -> Band
     }
 }
 
-fn have_same_ends(x: Band, y: Band) -> bool
+pub fn have_same_ends(x: Band, y: Band) -> bool
     ensures { IsTrue result ↔ (x.low ≡ y.low) × (x.high ≡ y.high) }
 {
     x.low == y.low && x.high == y.high
@@ -144,42 +164,13 @@ fn moves_alike(longer: Band, strip: Band) -> bool
     strip.from == strip.to || have_same_ends(longer, strip)
 }
 
-// The row up to the strip's last departure.
-fn up_to_end(longer: Band, strip: Band) -> Band
-    ensures from { result.from ≡ longer.from }
-    ensures to { result.to ≡ strip.to }
-    ensures low { result.low ≡ longer.low }
-    ensures high { result.high ≡ longer.high }
-{
-    Band {
-        from: longer.from,
-        to: strip.to,
-        low: longer.low,
-        high: longer.high,
-    }
-}
-
-// The strip without its first departure.
-fn rest_of(strip: Band) -> Band
-    requires formed { IsWellFormed strip }
-    requires longer { strip.from <ℤ strip.to }
-    ensures { IsRest strip result }
-{
-    Band {
-        from: strip.from + 1,
-        to: strip.to,
-        low: strip.low,
-        high: strip.high,
-    }
-}
-
 // The row goes on as far as the strip moves as it does. Where it can't, a new row begins.
 fn prolonged(row: Band, strip: Band) -> Joint
     ghost held: { List Band }
     requires { CanFollow (Holds held) (row ∷ []) strip }
     ensures { IsJoint (Holds held) (row ∷ []) strip (option_to_list result.complete) result.reaching }
 {
-    let longer = grown(row, strip);
+    let mut longer = grown(row, strip);
     if !meets(longer, strip) {
         return Joint {
             complete: Some(row),
@@ -187,14 +178,17 @@ fn prolonged(row: Band, strip: Band) -> Joint
         };
     }
     if moves_alike(longer, strip) {
+        longer.to = strip.to;
         return Joint {
             complete: None,
-            reaching: up_to_end(longer, strip),
+            reaching: longer,
         };
     }
+    let mut rest = strip;
+    rest.from = strip.from + 1;
     Joint {
         complete: Some(longer),
-        reaching: alone(rest_of(strip)),
+        reaching: alone(rest),
     }
 }
 

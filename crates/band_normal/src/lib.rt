@@ -6,16 +6,23 @@
 
 mod active;
 pub mod band;
+mod cuts;
 mod joints;
+mod lasting;
 pub mod laws;
+mod links;
 mod ordering;
+mod parts;
 mod pieces;
 mod rows;
+pub mod strike;
 mod strips;
+mod sweep;
 pub mod union;
 pub mod zones;
 
 pub use band::{Band, End};
+pub use strike::struck;
 pub use union::normal;
 pub use zones::{bands_of, zone_of};
 

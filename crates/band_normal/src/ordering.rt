@@ -7,11 +7,10 @@ ghost use Rattle.band_normal.specs.Strips.{Holds};
 ghost use Rattle.band_normal.specs.Rows.{CanOrder, first_low_of};
 
 use crate::band::{Band, End};
-use crate::rows::Rows;
 use std::alloc::AllocError;
 
-// The low end at the first departure, which is in range in each row.
-fn first_low(row: &Band) -> i64
+/// The low end at the first departure, which is in range in each row.
+pub fn first_low(row: &Band) -> i64
     ensures { result ≡ first_low_of row.now }
 {
     match row.low {
@@ -20,24 +19,12 @@ fn first_low(row: &Band) -> i64
     }
 }
 
-fn together(rows: Rows) -> Result<Vec<Band>, AllocError>
-    ensures { IfOk result (λ v. v.items ≡ rows.complete.items ++ rows.reaching.items) }
-{
-    let Rows {
-        mut complete,
-        reaching,
-    } = rows;
-    complete.extend_from_slice(&reaching)?;
-    Ok(complete)
-}
-
 /// All rows, by their first departure, then by their low end there.
-pub fn in_order(rows: Rows) -> Result<Vec<Band>, AllocError>
+pub fn in_order(mut rows: Vec<Band>) -> Result<Vec<Band>, AllocError>
     ghost held: { List Band }
-    requires { CanOrder (Holds held) (rows.complete.items ++ rows.reaching.items) }
+    requires { CanOrder (Holds held) rows.items }
     ensures { IfOk result (λ v. Normal (Holds held) v.items) }
 {
-    let mut list = together(rows)?;
-    list.sort_by_key(|row| (row.from, first_low(row)))?;
-    Ok(list)
+    rows.sort_by_key(|row| (row.from, first_low(row)))?;
+    Ok(rows)
 }

@@ -88,9 +88,3 @@ pub fn piece_after(k: Bounds, before: Band) -> Band
 {
     piece(k, before.to + 1)
 }
-
-pub fn is_last(k: Bounds, piece: Band) -> bool
-    ensures { IsTrue result ↔ (piece.to ≡ k.b) }
-{
-    piece.to == k.b
-}

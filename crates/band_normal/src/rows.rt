@@ -2,16 +2,16 @@
 //!
 //! In contracts `held` is the list of all bands: its pairs are the relation whose rows are meant.
 
-ghost use Rattle.std.specs.Prelude.{◌≡◌, ◌∷◌, [], ◌++◌, ℤ, pos, ◌+ℤ◌, ◌≤ℤ◌, ◌<◌, List, length, IfOk, OnOk, IfSome, IfNone, slice_index_or};
+ghost use Rattle.std.specs.Prelude.{◌≡◌, ◌∷◌, [], ◌++◌, ℤ, pos, ◌+ℤ◌, ◌≤◌, ◌<◌, List, length, take, Some, IfOk, OnOk, IfSome, IfNone, slice_get};
 ghost use Rattle.std.specs.Option.{option_to_list};
 ghost use Rattle.band_normal.specs.declared.band.Band.{Band};
-ghost use Rattle.band_normal.specs.Lists.{Among};
+ghost use Rattle.band_normal.specs.Lists.{Among, Ordered};
 ghost use Rattle.band_normal.specs.Bands.{IsWellFormed};
 ghost use Rattle.band_normal.specs.Strips.{Holds};
-ghost use Rattle.band_normal.specs.Rows.{strip, Continues, IsTaken, CanTake, TakesStrip, CanJoin, AreRowsTo};
+ghost use Rattle.band_normal.specs.Rows.{strip, Continues, IsUnder, RunsBelow, CanFollow, JoinsStrip, CanJoin, AreRowsTo};
 
 use crate::band::Band;
-use crate::joints::{continues, join_strip};
+use crate::joints::{continues, is_under, join_strip};
 use crate::strips::{Ends, Stretch, Strips};
 use std::alloc::{AllocError, Global};
 
@@ -30,45 +30,58 @@ struct Joining {
     complete: Vec<Band>,
     // Rows that reach the stretch's last departure.
     next: Vec<Band>,
-    // Rows up to the stretch that no strip continued yet.
-    rest: Vec<Band>,
+    // Rows up to the stretch that no strip continues.
+    passed: Vec<Band>,
 }
 
-// The place of the row that the strip continues.
-fn leader(rows: &[Band], strip: Band) -> Option<usize>
+// How many of the rows, from the first on, end too low for the strip to continue them.
+fn under_count(rows: &[Band], strip: Band) -> usize
+    requires rows_formed { (b : Band) → Among rows.now b → IsWellFormed b }
+    requires strip_formed { IsWellFormed strip }
+    ensures within { result ≤ length rows.now }
+    ensures under { (b : Band) → Among (take result rows.now) b → IsUnder b strip }
+    ensures next { (b : Band) → slice_get rows.now result ≡ Some b → IsUnder b strip → ⊥ }
+{
+    for (i, row) in rows.iter().enumerate() {
+        if !is_under(*row, strip) {
+            return i;
+        }
+    }
+    rows.len()
+}
+
+// The first row, where the strip continues it.
+fn leader(rows: &[Band], strip: Band) -> Option<Band>
     requires rows_formed { (b : Band) → Among rows.now b → IsWellFormed b }
     requires strip_formed { IsWellFormed strip }
     requires next { (b : Band) → Among rows.now b → strip.from ≡ b.to +ℤ pos 1 }
-    ensures place { IfSome result (λ i. i < length rows.now) }
-    ensures found { IfSome result (λ i. (d : Band) → Continues (slice_index_or rows.now i d) strip) }
-    ensures none { IfNone result ((b : Band) → Among rows.now b → Continues b strip → ⊥) }
+    ensures some { IfSome result (λ r. slice_get rows.now 0 ≡ Some r) }
+    ensures found { IfSome result (λ r. Continues r strip) }
+    ensures none { IfNone result ((b : Band) → slice_get rows.now 0 ≡ Some b → Continues b strip → ⊥) }
 {
-    for (i, row) in rows.iter().enumerate() {
-        if continues(*row, strip) {
-            return Some(i);
-        }
+    let row = rows.first()?;
+    if continues(*row, strip) {
+        Some(*row)
+    } else {
+        None
     }
-    None
 }
 
-// The row that the strip continues, taken out of the rows.
-fn take_leader(rows: &mut Vec<Band>, strip: Band) -> Option<Band>
-    requires rows_formed { (b : Band) → Among rows.old.items b → IsWellFormed b }
-    requires strip_formed { IsWellFormed strip }
-    requires next { (b : Band) → Among rows.old.items b → strip.from ≡ b.to +ℤ pos 1 }
-    ensures taken { IsTaken rows.old.items result rows.new.items }
-    ensures found { (b : Band) → Among (option_to_list result) b → Continues b strip }
-    ensures none { IfNone result ((b : Band) → Among rows.old.items b → Continues b strip → ⊥) }
+fn led_count(row: Option<Band>) -> usize
+    ensures { result ≡ length (option_to_list row) }
 {
-    let i = leader(rows, strip)?;
-    Some(rows.remove(i))
+    match row {
+        None => 0,
+        Some(_) => 1,
+    }
 }
 
-pub fn push_some(rows: &mut Vec<Band>, row: Option<Band>) -> Result<(), AllocError>
-    ensures { OnOk result (rows.new.items ≡ rows.old.items ++ option_to_list row) }
+/// Adds the item, if there is one.
+pub fn push_some<T: Copy>(items: &mut Vec<T>, item: Option<T>) -> Result<(), AllocError>
+    ensures { OnOk result (items.new.items ≡ items.old.items ++ option_to_list item) }
 {
-    if let Some(row) = row {
-        rows.push(row)?;
+    if let Some(item) = item {
+        items.push(item)?;
     }
     Ok(())
 }
@@ -86,38 +99,44 @@ fn strip_along(along: Stretch, ends: Ends) -> Band
 }
 
 // One more strip, joined to the row that it continues, if there is one.
-fn with_strip(joining: Joining, strip: Band) -> Result<Joining, AllocError>
+fn with_strip(
+    joining: Joining,
+    under: &[Band],
+    row: Option<Band>,
+    strip: Band,
+) -> Result<Joining, AllocError>
     ghost held: { List Band }
-    requires { CanTake (Holds held) joining.rest.items strip }
-    ensures { IfOk result (λ j. TakesStrip (Holds held) joining.complete.items joining.next.items joining.rest.items strip j.complete.items j.next.items j.rest.items) }
+    requires { CanFollow (Holds held) (option_to_list row) strip }
+    ensures { IfOk result (λ j. JoinsStrip (Holds held) joining.complete.items joining.next.items joining.passed.items under.now row strip j.complete.items j.next.items j.passed.items) }
 {
     let Joining {
         mut complete,
         mut next,
-        mut rest,
+        mut passed,
     } = joining;
-    let row = take_leader(&mut rest, strip);
+    passed.extend_from_slice(under)?;
     let joint = join_strip(row, strip);
     push_some(&mut complete, joint.complete)?;
     next.push(joint.reaching)?;
     Ok(Joining {
         complete,
         next,
-        rest,
+        passed,
     })
 }
 
 // The rows once all strips are joined: those that no strip continued are complete.
-fn closed(joining: Joining) -> Result<Rows, AllocError>
-    ensures complete { IfOk result (λ r. r.complete.items ≡ joining.complete.items ++ joining.rest.items) }
+fn closed(joining: Joining, waiting: &[Band]) -> Result<Rows, AllocError>
+    ensures complete { IfOk result (λ r. r.complete.items ≡ joining.complete.items ++ (joining.passed.items ++ waiting.now)) }
     ensures reaching { IfOk result (λ r. r.reaching.items ≡ joining.next.items) }
 {
     let Joining {
         mut complete,
         next,
-        rest,
+        mut passed,
     } = joining;
-    complete.extend_from_slice(&rest)?;
+    passed.extend_from_slice(waiting)?;
+    complete.extend_from_slice(&passed)?;
     Ok(Rows {
         complete,
         reaching: next,
@@ -125,19 +144,29 @@ fn closed(joining: Joining) -> Result<Rows, AllocError>
 }
 
 /// The rows with the strips of one more stretch, which begins after their last departure.
+///
+/// Both the rows that reach it and the strips stand from low to high, so each is passed once.
 pub fn join(alloc: Global, rows: Rows, strips: &Strips) -> Result<Rows, AllocError>
     ghost held: { List Band }
-    requires { CanJoin (Holds held) rows.complete.items rows.reaching.items strips.now.along strips.now.runs.items }
-    ensures { IfOk result (λ r. AreRowsTo (Holds held) (strips.now.along.to +ℤ pos 1) r.complete.items r.reaching.items) }
+    requires can { CanJoin (Holds held) rows.complete.items rows.reaching.items strips.now.along strips.now.runs.items }
+    requires line { Ordered RunsBelow rows.reaching.items }
+    ensures rows { IfOk result (λ r. AreRowsTo (Holds held) (strips.now.along.to +ℤ pos 1) r.complete.items r.reaching.items) }
+    ensures line { IfOk result (λ r. Ordered RunsBelow r.reaching.items) }
 {
     let Rows { complete, reaching } = rows;
     let mut joining = Joining {
         complete,
         next: Vec::new(alloc),
-        rest: reaching,
+        passed: Vec::new(alloc),
     };
+    let mut waiting = &reaching[..];
     for ends in &strips.runs {
-        joining = with_strip(joining, strip_along(strips.along, *ends))?;
+        let strip = strip_along(strips.along, *ends);
+        let (under, others) = waiting.split_at(under_count(waiting, strip));
+        let row = leader(others, strip);
+        let (_, later) = others.split_at(led_count(row));
+        joining = with_strip(joining, under, row, strip)?;
+        waiting = later;
     }
-    closed(joining)
+    closed(joining, waiting)
 }

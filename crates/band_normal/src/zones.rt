@@ -1,15 +1,17 @@
 //! The bands of one zone, and the zone of one band.
 
-ghost use Rattle.std.specs.Prelude.{◌≡◌, ◌↔◌, ℤ};
+ghost use Rattle.std.specs.Prelude.{◌≡◌, ◌↔◌, ℤ, IfOk};
 ghost use Rattle.zone_core.specs.Zone.{Meets};
 ghost use Rattle.band_normal.specs.declared.band.Band.{Band};
 ghost use Rattle.band_normal.specs.Lists.{Among};
 ghost use Rattle.band_normal.specs.Bands.{InBand, IsWellFormed};
 ghost use Rattle.band_normal.specs.Normal.{Normal};
-ghost use Rattle.band_normal.specs.Zones.{present, EmptyComeLast, with_low, with_high, bounds_of};
+ghost use Rattle.band_normal.specs.Zones.{SomeMeets, present, EmptyComeLast, with_low, with_high, bounds_of};
+ghost use Rattle.band_normal.specs.Strips.{Holds};
 
 use crate::band::{Band, End};
-use crate::pieces::{first_piece, is_last, piece_after};
+use crate::pieces::{first_piece, piece_after};
+use std::alloc::{AllocError, Global};
 use zone_core::{Bounds, Zone, tight};
 
 /// The zone's normal bands, in order of their first departure; the empty places come last.
@@ -33,11 +35,11 @@ pub fn bands_of(z: &Zone) -> [Option<Band>; 3]
 {
     let k = z.bounds();
     let first = first_piece(k);
-    if is_last(k, first) {
+    if first.to == k.b {
         return [Some(first), None, None];
     }
     let second = piece_after(k, first);
-    if is_last(k, second) {
+    if second.to == k.b {
         return [Some(first), Some(second), None];
     }
     let third = piece_after(k, second);
@@ -84,4 +86,16 @@ pub fn zone_of(b: &Band) -> Zone
     ensures { (t : ℤ) → (u : ℤ) → Meets result t u ↔ InBand b.now t u }
 {
     tight(band_bounds(b)).unwrap()
+}
+
+/// The zone of each row.
+pub fn zones_of(alloc: Global, rows: &[Band]) -> Result<Vec<Zone>, AllocError>
+    requires { (b : Band) → Among rows.now b → IsWellFormed b }
+    ensures { IfOk result (λ v. (t : ℤ) → (u : ℤ) → SomeMeets v.items t u ↔ Holds rows.now t u) }
+{
+    let mut zones = Vec::new(alloc);
+    for row in rows {
+        zones.push(zone_of(row))?;
+    }
+    Ok(zones)
 }

@@ -1,39 +1,66 @@
-use Rattle.std.proofs.Common.{◌≡◌, ℤ, sym, subst, List, ◌++◌, Result, Ok, Err}
-use Rattle.std.specs.Prelude.{IfOk}
-use Rattle.std.proofs.lemmas.List.{take_all}
-use Rattle.std.specs.declared.alloc.AllocError.{AllocError}
-use Rattle.band_normal.specs.declared.rows.Rows.{Rows}
+use Rattle.std.proofs.Common.{List, sym, subst}
 use Rattle.band_normal.specs.declared.band.Band.{Band}
 use Rattle.band_normal.specs.declared.strips.Ends.{Ends}
+use Rattle.band_normal.specs.Lists.{Among}
 use Rattle.band_normal.specs.Strips.{Holds, AreRuns}
-use Rattle.band_normal.specs.Rows.{AreRowsTo}
-use Rattle.band_normal.proofs.Joining.{joining_start, joining_more, joining_end, can_take}
+use Rattle.band_normal.proofs.Lists.{append_second}
+use Rattle.band_normal.proofs.Lining.{lining_start, waiting_formed, strip_formed, waiting_next, lined_follow, lining_step, lining_rows, lining_line}
 use Rattle.band_normal.proofs.rows.join.Goals as goal
 
 pub loop-ends-init : goal.loop-ends-init
-loop-ends-init g c = rw c.new.ensures.items (joining_start (Holds g.held) _ _ _ c.requires.rows c.requires.span)
+loop-ends-init g c = lining_start (Holds g.held) _ _ _ _ c.new.result.items c.new-2.result.items _ c.new.ensures.items c.new-2.ensures.items c.deref.ensures.value c.requires.0.rows c.requires.0.span c.requires.1
+
+pub under_count-requires-clause-rows_formed : goal.under_count-requires-clause-rows_formed
+under_count-requires-clause-rows_formed g c =
+    λ b k. waiting_formed (Holds g.held) c.args.strips.now.along _ _ _ _ _ _ c.requires.0.in_range c.loop-ends.invariant b k
+
+pub under_count-requires-clause-strip_formed : goal.under_count-requires-clause-strip_formed
+under_count-requires-clause-strip_formed g c =
+    let runs = subst (λ (v : List Ends). AreRuns (Holds g.held) c.args.strips.now.along v) (sym c.deref-ends-items.ensures.value) c.requires.0.runs_along in
+    rw c.strip_along-strip.ensures (strip_formed (Holds g.held) c.args.strips.now.along _ _ _ _ _ _ _ c.requires.0.in_range runs c.requires.0.span c.loop-ends-test.true c.loop-ends.invariant)
+
+pub leader-row-requires-clause-rows_formed : goal.leader-row-requires-clause-rows_formed
+leader-row-requires-clause-rows_formed g c =
+    λ b k. waiting_formed (Holds g.held) c.args.strips.now.along _ _ _ _ _ _ c.requires.0.in_range c.loop-ends.invariant b
+    (subst (λ (v : List Band). Among v b) (sym c.split_at.ensures.by_index.0) (append_second _ _ b k))
+
+pub leader-row-requires-clause-strip_formed : goal.leader-row-requires-clause-strip_formed
+leader-row-requires-clause-strip_formed g c =
+    let runs = subst (λ (v : List Ends). AreRuns (Holds g.held) c.args.strips.now.along v) (sym c.deref-ends-items.ensures.value) c.requires.0.runs_along in
+    rw c.strip_along-strip.ensures (strip_formed (Holds g.held) c.args.strips.now.along _ _ _ _ _ _ _ c.requires.0.in_range runs c.requires.0.span c.loop-ends-test.true c.loop-ends.invariant)
+
+pub leader-row-requires-clause-next : goal.leader-row-requires-clause-next
+leader-row-requires-clause-next g c =
+    rw c.strip_along-strip.ensures (λ b k. waiting_next (Holds g.held) c.args.strips.now.along _ _ _ _ _ _ c.loop-ends.invariant b
+    (subst (λ (v : List Band). Among v b) (sym c.split_at.ensures.by_index.0) (append_second _ _ b k)))
 
 pub with_strip-requires : goal.with_strip-requires
 with_strip-requires g c =
-    let runs = subst (λ (v : List Ends). AreRuns (Holds g.held) c.args.strips.now.along v) (sym c.deref-ends-items.ensures.value) c.requires.runs_along in
-    rw c.strip_along.ensures (can_take (Holds g.held) c.args.strips.now.along _ _ _ _ _ _ c.requires.in_range runs c.requires.span c.loop-ends-test.true c.loop-ends.invariant)
+    let runs = subst (λ (v : List Ends). AreRuns (Holds g.held) c.args.strips.now.along v) (sym c.deref-ends-items.ensures.value) c.requires.0.runs_along in
+    let under = rw c.strip_along-strip.ensures at c.under_count.ensures.under in
+    let over = rw c.strip_along-strip.ensures at c.under_count.ensures.next in
+    let found = rw c.strip_along-strip.ensures at c.leader-row.ensures.found in
+    let none = rw c.strip_along-strip.ensures at c.leader-row.ensures.none in
+    let front = rw c.led_count.ensures at c.split_at-in-loop-ends.ensures.front in
+    rw c.strip_along-strip.ensures (lined_follow (Holds g.held) c.args.strips.now.along _ _ _ _ _ _ _ c.requires.0.in_range runs c.requires.0.span c.loop-ends-test.true c.loop-ends.invariant
+    _ _ _ _ _ c.leader-row.result c.split_at.ensures.by_index.0 c.split_at.ensures.front c.split_at.ensures.back under over c.leader-row.ensures.some found none c.split_at-in-loop-ends.ensures.by_index.0 front)
 
 pub loop-ends-preserved : goal.loop-ends-preserved
 loop-ends-preserved g c =
-    let runs = subst (λ (v : List Ends). AreRuns (Holds g.held) c.args.strips.now.along v) (sym c.deref-ends-items.ensures.value) c.requires.runs_along in
-    let takes = rw c.strip_along.ensures at c.in_ok-joining.ensures in
-    joining_more (Holds g.held) c.args.strips.now.along _ _ _ _ _ _ _ _ _ runs c.requires.span c.loop-ends-test.true c.loop-ends.invariant takes
+    let runs = subst (λ (v : List Ends). AreRuns (Holds g.held) c.args.strips.now.along v) (sym c.deref-ends-items.ensures.value) c.requires.0.runs_along in
+    let under = rw c.strip_along-strip.ensures at c.under_count.ensures.under in
+    let over = rw c.strip_along-strip.ensures at c.under_count.ensures.next in
+    let found = rw c.strip_along-strip.ensures at c.leader-row.ensures.found in
+    let none = rw c.strip_along-strip.ensures at c.leader-row.ensures.none in
+    let front = rw c.led_count.ensures at c.split_at-in-loop-ends.ensures.front in
+    let joins = rw c.strip_along-strip.ensures at c.in_ok-joining.ensures in
+    lining_step (Holds g.held) c.args.strips.now.along _ _ _ _ _ _ _ c.requires.0.in_range runs c.requires.0.span c.loop-ends-test.true c.loop-ends.invariant
+    _ _ _ _ _ c.leader-row.result c.split_at.ensures.by_index.0 c.split_at.ensures.front c.split_at.ensures.back under over c.leader-row.ensures.some found none c.split_at-in-loop-ends.ensures.by_index.0 front _ _ _ joins
 
-rows_ok : (R : ℤ → ℤ → Type 0) (next : ℤ) (complete rest reaching : List Band) (r : Result Rows AllocError) → AreRowsTo R next (complete ++ rest) reaching
-    → IfOk r (λ v. v.complete.items ≡ complete ++ rest) → IfOk r (λ v. v.reaching.items ≡ reaching) → IfOk r (λ v. AreRowsTo R next v.complete.items v.reaching.items)
-rows_ok R next complete rest reaching (Ok v) h c o =
-    let P : List Band → Type 0 = λ w. AreRowsTo R next w v.reaching.items in
-    let Q : List Band → Type 0 = λ w. AreRowsTo R next (complete ++ rest) w in
-    subst P (sym c) (subst Q (sym o) h)
-rows_ok R next complete rest reaching (Err e) h c o = tt
+pub returns-clause-rows : goal.returns-clause-rows
+returns-clause-rows g c =
+    let runs = subst (λ (v : List Ends). AreRuns (Holds g.held) c.args.strips.now.along v) (sym c.deref-ends-items.ensures.value) c.requires.0.runs_along in
+    lining_rows (Holds g.held) c.args.strips.now.along _ _ _ _ _ _ c.closed.result runs c.requires.0.span c.loop-ends-test.false c.loop-ends.invariant c.closed.ensures.complete c.closed.ensures.reaching
 
-pub returns : goal.returns
-returns g c =
-    let runs = subst (λ (v : List Ends). AreRuns (Holds g.held) c.args.strips.now.along v) (sym c.deref-ends-items.ensures.value) c.requires.runs_along in
-    let all = rw (take_all c.loop-ends.ends-index c.deref-ends-items.result.now c.loop-ends-test.false) at c.loop-ends.invariant in
-    rows_ok (Holds g.held) _ c.loop-ends.joining.complete.items c.loop-ends.joining.rest.items c.loop-ends.joining.next.items c.closed.result (joining_end (Holds g.held) c.args.strips.now.along _ _ _ _ runs c.requires.span all) c.closed.ensures.complete c.closed.ensures.reaching
+pub returns-clause-line : goal.returns-clause-line
+returns-clause-line g c = lining_line _ c.closed.result c.loop-ends.invariant.next_line c.closed.ensures.reaching

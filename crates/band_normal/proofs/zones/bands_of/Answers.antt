@@ -1,22 +1,23 @@
-use Rattle.std.proofs.Common.{refl, arith}
+use Rattle.std.proofs.Common.{◌≡◌, arith}
 use Rattle.std.proofs.lemmas.Int.{ints}
-use Rattle.band_normal.proofs.Turns.{piece-goes_on, piece-span, one_piece, two_pieces, three_pieces}
+use Rattle.std.specs.Prelude.{◌<ℤ◌}
+use Rattle.band_normal.proofs.Turns.{piece-span, one_piece, two_pieces, three_pieces}
 use Rattle.band_normal.proofs.zones.bands_of.Goals as goal
 
-pub returns-then-is_last-clause-normal : goal.returns-then-is_last-clause-normal
-returns-then-is_last-clause-normal c = (one_piece _ _ _ c.bounds-k.ensures.same c.bounds-k.ensures.near c.first_piece-first.ensures (c.if-is_last.ensures.0 refl)).normal
+pub returns-then-first-k-clause-normal : goal.returns-then-first-k-clause-normal
+returns-then-first-k-clause-normal c = let e : c.first_piece-first.result.to ≡ c.bounds-k.result.b = (let h = c.if-first-k.true in omega (arith, ints)) in (one_piece _ _ _ c.bounds-k.ensures.same c.bounds-k.ensures.near c.first_piece-first.ensures e).normal
 
-pub returns-then-is_last-clause-well_formed : goal.returns-then-is_last-clause-well_formed
-returns-then-is_last-clause-well_formed c = (one_piece _ _ _ c.bounds-k.ensures.same c.bounds-k.ensures.near c.first_piece-first.ensures (c.if-is_last.ensures.0 refl)).well_formed
+pub returns-then-first-k-clause-well_formed : goal.returns-then-first-k-clause-well_formed
+returns-then-first-k-clause-well_formed c = let e : c.first_piece-first.result.to ≡ c.bounds-k.result.b = (let h = c.if-first-k.true in omega (arith, ints)) in (one_piece _ _ _ c.bounds-k.ensures.same c.bounds-k.ensures.near c.first_piece-first.ensures e).well_formed
 
 pub piece_after-second-requires-clause-last : goal.piece_after-second-requires-clause-last
-piece_after-second-requires-clause-last c = piece-goes_on _ _ _ c.first_piece-first.ensures c.if-is_last.ensures
+piece_after-second-requires-clause-last c = let n = c.if-first-k.false in let w = c.first_piece-first.ensures.within in omega (arith, ints)
 
-pub returns-then-is_last-2-clause-normal : goal.returns-then-is_last-2-clause-normal
-returns-then-is_last-2-clause-normal c = (two_pieces _ _ _ _ c.bounds-k.ensures.same c.bounds-k.ensures.near c.first_piece-first.ensures c.piece_after-second.ensures (c.if-is_last-2.ensures.0 refl)).normal
+pub returns-then-second-k-clause-normal : goal.returns-then-second-k-clause-normal
+returns-then-second-k-clause-normal c = let e : c.piece_after-second.result.to ≡ c.bounds-k.result.b = (let h = c.if-second-k.true in omega (arith, ints)) in (two_pieces _ _ _ _ c.bounds-k.ensures.same c.bounds-k.ensures.near c.first_piece-first.ensures c.piece_after-second.ensures e).normal
 
-pub returns-then-is_last-2-clause-well_formed : goal.returns-then-is_last-2-clause-well_formed
-returns-then-is_last-2-clause-well_formed c = (two_pieces _ _ _ _ c.bounds-k.ensures.same c.bounds-k.ensures.near c.first_piece-first.ensures c.piece_after-second.ensures (c.if-is_last-2.ensures.0 refl)).well_formed
+pub returns-then-second-k-clause-well_formed : goal.returns-then-second-k-clause-well_formed
+returns-then-second-k-clause-well_formed c = let e : c.piece_after-second.result.to ≡ c.bounds-k.result.b = (let h = c.if-second-k.true in omega (arith, ints)) in (two_pieces _ _ _ _ c.bounds-k.ensures.same c.bounds-k.ensures.near c.first_piece-first.ensures c.piece_after-second.ensures e).well_formed
 
 pub piece_after-third-requires-clause-first : goal.piece_after-third-requires-clause-first
 piece_after-third-requires-clause-first c =
@@ -26,14 +27,20 @@ piece_after-third-requires-clause-first c =
     omega (arith, ints)
 
 pub piece_after-third-requires-clause-last : goal.piece_after-third-requires-clause-last
-piece_after-third-requires-clause-last c = piece-goes_on _ _ _ c.piece_after-second.ensures c.if-is_last-2.ensures
+piece_after-third-requires-clause-last c = let n = c.if-second-k.false in let w = c.piece_after-second.ensures.within in omega (arith, ints)
 
 pub returns-clause-normal : goal.returns-clause-normal
 returns-clause-normal c =
-    (three_pieces _ _ _ _ _ c.bounds-k.ensures.same c.bounds-k.ensures.near c.first_piece-first.ensures c.piece_after-second.ensures c.piece_after-third.ensures
-    (piece-goes_on _ _ _ c.first_piece-first.ensures c.if-is_last.ensures) (piece-goes_on _ _ _ c.piece_after-second.ensures c.if-is_last-2.ensures)).normal
+    let n = c.if-first-k.false in let m = c.if-second-k.false in
+    let v = c.first_piece-first.ensures.within in let w = c.piece_after-second.ensures.within in
+    let first : c.first_piece-first.result.to <ℤ c.bounds-k.result.b = omega (arith, ints) in
+    let second : c.piece_after-second.result.to <ℤ c.bounds-k.result.b = omega (arith, ints) in
+    (three_pieces _ _ _ _ _ c.bounds-k.ensures.same c.bounds-k.ensures.near c.first_piece-first.ensures c.piece_after-second.ensures c.piece_after-third.ensures first second).normal
 
 pub returns-clause-well_formed : goal.returns-clause-well_formed
 returns-clause-well_formed c =
-    (three_pieces _ _ _ _ _ c.bounds-k.ensures.same c.bounds-k.ensures.near c.first_piece-first.ensures c.piece_after-second.ensures c.piece_after-third.ensures
-    (piece-goes_on _ _ _ c.first_piece-first.ensures c.if-is_last.ensures) (piece-goes_on _ _ _ c.piece_after-second.ensures c.if-is_last-2.ensures)).well_formed
+    let n = c.if-first-k.false in let m = c.if-second-k.false in
+    let v = c.first_piece-first.ensures.within in let w = c.piece_after-second.ensures.within in
+    let first : c.first_piece-first.result.to <ℤ c.bounds-k.result.b = omega (arith, ints) in
+    let second : c.piece_after-second.result.to <ℤ c.bounds-k.result.b = omega (arith, ints) in
+    (three_pieces _ _ _ _ _ c.bounds-k.ensures.same c.bounds-k.ensures.near c.first_piece-first.ensures c.piece_after-second.ensures c.piece_after-third.ensures first second).well_formed

@@ -1,0 +1,37 @@
+use Rattle.std.proofs.Common.{◌≡◌, ◌≤ℤ◌, List, [], ◌∷◌, inl, inr, ap, SFits, w64, to_z-of_z, arith, Some}
+use Rattle.std.specs.Prelude.{slice_get}
+use Rattle.std.proofs.lemmas.Int.{ints}
+use Rattle.band_normal.specs.declared.band.Band.{Band}
+use Rattle.band_normal.specs.Lists.{Among, Ordered}
+use Rattle.band_normal.specs.Strips.{BeginsEarlier}
+use Rattle.band_normal.proofs.sweep.departures.Goals as goal
+
+first_among : (bands : List Band) (x : Band) → Some x ≡ slice_get bands 0 → Among bands x
+first_among [] x e = let none : ⊥ = cc in absurd none
+first_among (y ∷ ys) x e = inl (cc)
+
+first_from : (bands : List Band) (x : Band) → Some x ≡ slice_get bands 0 → Ordered BeginsEarlier bands → (b : Band) → Among bands b → x.from ≤ℤ b.from
+first_from [] x e o b i = absurd i
+first_from (y ∷ ys) x e o b (inl same) =
+    let is : x ≡ b = cc in
+    let from : x.from ≡ b.from = ap (λ (v : Band). v.from) is in
+    omega (arith, ints)
+first_from (y ∷ ys) x e o b (inr i) =
+    let is : x ≡ y = cc in
+    let from : x.from ≡ y.from = ap (λ (v : Band). v.from) is in
+    let later = o.0 b i in
+    omega (arith, ints)
+
+pub returns-clause-some : goal.returns-clause-some
+returns-clause-some c =
+    let w = c.requires.well_formed c.in_ok-first.first.now (first_among c.args.bands.now c.in_ok-first.first.now c.in_ok-first.ensures.value) in
+    let near = w.from in
+    let fits : SFits w64 c.in_ok-first.first.now.from = omega (arith, ints) in
+    let last = w.to in let span = w.span in
+    record {
+      span = simp to_z-of_z (omega (arith, ints));
+      from_near = simp to_z-of_z near;
+      to_near = record { above = omega (arith, ints); below = omega (arith, ints) };
+      from = λ b i. let a = first_from c.args.bands.now c.in_ok-first.first.now c.in_ok-first.ensures.value c.requires.order b i in omega (arith, ints);
+      to = λ b i. let v = c.requires.well_formed b i in let t = v.to in omega (arith, ints);
+    }
