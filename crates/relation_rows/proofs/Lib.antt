@@ -28,3 +28,4 @@ pub mod TimeLaws
 pub mod Merged
 pub mod Giving
 pub mod Sorting
+pub mod StrikeLemmas
