@@ -23,7 +23,7 @@ meets_append (x ∷ xs) ys t u = (
   λ h. ⊎_elim (λ a. ⊎_elim (λ b. inl b) (λ b. inr ((meets_append xs ys t u).1 (inl b))) a) (λ a. inr ((meets_append xs ys t u).1 (inr a))) h,
 )
 
-meets_more : (zs : List Bounds) (z : Bounds) (t u : ℤ) → SomeMeets (zs ++ z ∷ []) t u ↔ (SomeMeets zs t u ⊎ Meets z t u)
+pub meets_more : (zs : List Bounds) (z : Bounds) (t u : ℤ) → SomeMeets (zs ++ z ∷ []) t u ↔ (SomeMeets zs t u ⊎ Meets z t u)
 meets_more zs z t u =
     let k = meets_append zs (z ∷ []) t u in (
       λ h. ⊎_elim (λ a. inl a) (λ a. ⊎_elim (λ b. inr b) (λ b. absurd b) a) (k.0 h),
@@ -92,7 +92,7 @@ read_more zones k d z lt read t u =
 abbrev pub AreWithout : List Bounds → Bounds → List Bounds → Type 0
 AreWithout zones cut left = (t : ℤ) (u : ℤ) → SomeMeets left t u ↔ (SomeMeets zones t u × (¬ Meets cut t u))
 
-none_meets : (zs : List Bounds) (t u : ℤ) → SomeMeets (take 0 zs) t u → ⊥
+pub none_meets : (zs : List Bounds) (t u : ℤ) → SomeMeets (take 0 zs) t u → ⊥
 none_meets [] t u h = h
 none_meets (z ∷ zs) t u h = h
 

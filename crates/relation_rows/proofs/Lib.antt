@@ -29,3 +29,4 @@ pub mod Merged
 pub mod Giving
 pub mod Sorting
 pub mod StrikeLemmas
+pub mod ItemZones

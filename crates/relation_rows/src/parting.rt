@@ -116,7 +116,7 @@ fn cost(zones: &[Zone], cuts: &[Zone], measure: Measure, border: i64) -> usize {
     parts.below.saturating_add(parts.other)
 }
 
-/// A zone that parts them, if that is worth its while.
+/// A zone that parts them, if that is worth its while: the first that leaves hardly a zone in both parts, or else the best.
 pub(crate) fn parting(
     alloc: Global,
     zones: &[Zone],
@@ -135,6 +135,9 @@ pub(crate) fn parting(
                 least = parts;
                 part = below(measure, border);
             }
+        }
+        if least <= count.saturating_add(count / 16) {
+            break;
         }
     }
     Ok(part)
