@@ -1,28 +1,34 @@
 -- Zones, rows and items without the pairs of others.
-use Rattle.std.proofs.Common.{◌≡◌, ◌↔◌, ◌⊎◌, inl, inr, ⊎_elim, ℕ, ◌+◌, ◌<◌, ◌≤◌, ℤ, List, [], ◌∷◌, ◌++◌, length, slice_index_or, take, Option, Some, None, refl, sym, ◌∙◌, ap, subst, arith}
-use Rattle.std.proofs.lemmas.Int.{ints}
+use Rattle.std.proofs.Common.{◌≡◌, ◌↔◌, ◌⊎◌, inl, inr, ⊎_elim, ℕ, ◌+◌, ◌<◌, ◌≤◌, ℤ, ◌-ℤ◌, List, [], ◌∷◌, ◌++◌, length, slice_index_or, take, Option, Some, None, refl, sym, ◌∙◌, ap, subst, arith}
+use Rattle.std.proofs.lemmas.Int.{ints, by_lt_z}
 use Rattle.std.proofs.lemmas.List.{take_more, take_all}
 use Rattle.itpg_base.specs.Points.{Point}
 use Rattle.zone_core.specs.declared.Bounds.{Bounds}
-use Rattle.zone_core.specs.Zone.{Meets, MeetsFirstOnly, Holds, SomeHolds}
+use Rattle.zone_core.specs.Zone.{Meets, MeetsBoth, MeetsFirstOnly, Holds, SomeHolds, IsZoneOf}
 use Rattle.band_normal.specs.Lists.{Among}
 use Rattle.band_normal.specs.Bands.{InBand}
 use Rattle.band_normal.specs.Zones.{SomeMeets}
-use Rattle.band_normal.proofs.Lists.{among_append, append_first, append_second, among_at}
+use Rattle.band_normal.proofs.Lists.{among_append, append_first, append_second}
 use Rattle.relation_rows.specs.declared.rows.Row.{Row}
-use Rattle.relation_rows.specs.declared.timetable.Stop.{Stop}
 use Rattle.relation_rows.specs.Rows.{HasKey}
 use Rattle.relation_rows.specs.Relations.{Item, ItemsHold}
-use Rattle.relation_rows.specs.Timetables.{DepartsWithin}
-use Rattle.relation_rows.specs.Rest.{SomeStopHas, IsLeft, AnyIsLeft}
+use Rattle.relation_rows.specs.Uniting.{SomeHasBand}
+use Rattle.relation_rows.specs.Minus.{OnlyFirstMeets, OnlyFirstHasBand}
 use Rattle.relation_rows.proofs.Pushing.{items_more}
 
-meets_more : (zs : List Bounds) (z : Bounds) (t u : ℤ) → SomeMeets (zs ++ z ∷ []) t u ↔ (SomeMeets zs t u ⊎ Meets z t u)
-meets_more [] z t u = (λ h. ⊎_elim (λ a. inr a) (λ a. absurd a) h, λ h. ⊎_elim (λ a. absurd a) (λ a. inl a) h)
-meets_more (x ∷ xs) z t u = (
-  λ h. ⊎_elim (λ a. inl (inl a)) (λ a. ⊎_elim (λ b. inl (inr b)) (λ b. inr b) ((meets_more xs z t u).0 a)) h,
-  λ h. ⊎_elim (λ a. ⊎_elim (λ b. inl b) (λ b. inr ((meets_more xs z t u).1 (inl b))) a) (λ a. inr ((meets_more xs z t u).1 (inr a))) h,
+meets_append : (xs ys : List Bounds) (t u : ℤ) → SomeMeets (xs ++ ys) t u ↔ (SomeMeets xs t u ⊎ SomeMeets ys t u)
+meets_append [] ys t u = (λ h. inr h, λ h. ⊎_elim (λ a. absurd a) (λ a. a) h)
+meets_append (x ∷ xs) ys t u = (
+  λ h. ⊎_elim (λ a. inl (inl a)) (λ a. ⊎_elim (λ b. inl (inr b)) (λ b. inr b) ((meets_append xs ys t u).0 a)) h,
+  λ h. ⊎_elim (λ a. ⊎_elim (λ b. inl b) (λ b. inr ((meets_append xs ys t u).1 (inl b))) a) (λ a. inr ((meets_append xs ys t u).1 (inr a))) h,
 )
+
+pub meets_more : (zs : List Bounds) (z : Bounds) (t u : ℤ) → SomeMeets (zs ++ z ∷ []) t u ↔ (SomeMeets zs t u ⊎ Meets z t u)
+meets_more zs z t u =
+    let k = meets_append zs (z ∷ []) t u in (
+      λ h. ⊎_elim (λ a. inl a) (λ a. ⊎_elim (λ b. inr b) (λ b. absurd b) a) (k.0 h),
+      λ h. k.1 (⊎_elim (λ a. inl a) (λ a. inr (inl a)) h),
+    )
 
 holds_more : (os : List (Option Bounds)) (o : Option Bounds) (t u : ℤ) → SomeHolds (os ++ o ∷ []) t u ↔ (SomeHolds os t u ⊎ Holds o t u)
 holds_more [] o t u = (λ h. ⊎_elim (λ a. inr a) (λ a. absurd a) h, λ h. ⊎_elim (λ a. absurd a) (λ a. inl a) h)
@@ -76,78 +82,209 @@ empty_place old places k d o lt read is now so =
 pub all_places : (old : List Bounds) (places : List (Option Bounds)) (k : ℕ) (now : List Bounds) → length places ≤ k → PlacesPushed old (take k places) now → PlacesPushed old places now
 all_places old places k now le = subst (λ (v : List (Option Bounds)). PlacesPushed old v now) (take_all k places le)
 
+-- one more zone is read
+read_more : (zones : List Bounds) (k : ℕ) (d z : Bounds) → k < length zones → z ≡ slice_index_or zones k d → (t u : ℤ) → SomeMeets (take (k + 1) zones) t u ↔ (SomeMeets (take k zones) t u ⊎ Meets z t u)
+read_more zones k d z lt read t u =
+    let e : take (k + 1) zones ≡ take k zones ++ z ∷ [] = take_more zones k d lt ∙ ap (λ (v : Bounds). take k zones ++ v ∷ []) (sym read) in
+    subst (λ (v : List Bounds). SomeMeets v t u ↔ (SomeMeets (take k zones) t u ⊎ Meets z t u)) (sym e) (meets_more (take k zones) z t u)
+
 -- the zones that were read are left without the pairs of one more
 abbrev pub AreWithout : List Bounds → Bounds → List Bounds → Type 0
 AreWithout zones cut left = (t : ℤ) (u : ℤ) → SomeMeets left t u ↔ (SomeMeets zones t u × (¬ Meets cut t u))
 
-none_meets : (zs : List Bounds) (t u : ℤ) → SomeMeets (take 0 zs) t u → ⊥
+pub none_meets : (zs : List Bounds) (t u : ℤ) → SomeMeets (take 0 zs) t u → ⊥
 none_meets [] t u h = h
 none_meets (z ∷ zs) t u h = h
 
 pub none_without : (zones : List Bounds) (cut : Bounds) (left : List Bounds) → left ≡ [] → AreWithout (take 0 zones) cut left
 none_without zones cut left e = subst (λ (v : List Bounds). AreWithout (take 0 zones) cut v) (sym e) (λ t u. (λ h. absurd h, λ h. absurd (none_meets zones t u h.0)))
 
-pub without_more : (zones : List Bounds) (cut : Bounds) (k : ℕ) (d z : Bounds) → k < length zones → z ≡ slice_index_or zones k d → (places : List (Option Bounds)) → ((t : ℤ) (u : ℤ) → SomeHolds places t u ↔ MeetsFirstOnly z cut t u)
-    → (now next : List Bounds) → PlacesPushed now places next → AreWithout (take k zones) cut now → AreWithout (take (k + 1) zones) cut next
-without_more zones cut k d z lt read places pairs now next pushed so t u =
-    let e : take (k + 1) zones ≡ take k zones ++ z ∷ [] = take_more zones k d lt ∙ ap (λ (v : Bounds). take k zones ++ v ∷ []) (sym read) in
-    let more = meets_more (take k zones) z t u in (
+-- one more zone is read, and what it has beside the cut is added
+pub without_more : (zones : List Bounds) (cut : Bounds) (k : ℕ) (d z : Bounds) → k < length zones → z ≡ slice_index_or zones k d
+    → (now next : List Bounds) → ((t : ℤ) (u : ℤ) → SomeMeets next t u ↔ (SomeMeets now t u ⊎ MeetsFirstOnly z cut t u)) → AreWithout (take k zones) cut now → AreWithout (take (k + 1) zones) cut next
+without_more zones cut k d z lt read now next pushed so t u =
+    let more = read_more zones k d z lt read t u in (
       λ h. ⊎_elim
-          (λ a. let b = (so t u).0 a in (subst (λ (v : List Bounds). SomeMeets v t u) (sym e) (more.1 (inl b.0)), b.1))
-          (λ a. let b = (pairs t u).0 a in (subst (λ (v : List Bounds). SomeMeets v t u) (sym e) (more.1 (inr b.0)), b.1))
+          (λ a. let b = (so t u).0 a in (more.1 (inl b.0), b.1))
+          (λ a. (more.1 (inr a.0), a.1))
           ((pushed t u).0 h),
       λ h. (pushed t u).1 (⊎_elim
           (λ a. inl ((so t u).1 (a, h.1)))
-          (λ a. inr ((pairs t u).1 (a, h.1)))
-          (more.0 (subst (λ (v : List Bounds). SomeMeets v t u) e h.0))),
+          (λ a. inr (a, h.1))
+          (more.0 h.0)),
     )
 
 pub all_without : (zones : List Bounds) (cut : Bounds) (k : ℕ) (left : List Bounds) → length zones ≤ k → AreWithout (take k zones) cut left → AreWithout zones cut left
 all_without zones cut k left le = subst (λ (v : List Bounds). AreWithout v cut left) (take_all k zones le)
 
-pub one_meets : (zones pushed : List Bounds) (zone : Bounds) → zones ≡ [] → pushed ≡ zones ++ zone ∷ [] → (R : ℤ → ℤ → Type 0) → ((t u : ℤ) → Meets zone t u ↔ R t u) → (t : ℤ) (u : ℤ) → SomeMeets pushed t u ↔ R t u
-one_meets zones pushed zone e f R is t u =
-    let same : pushed ≡ [] ++ zone ∷ [] = f ∙ ap (λ (v : List Bounds). v ++ zone ∷ []) e in
-    subst (λ (v : List Bounds). SomeMeets v t u ↔ R t u) (sym same) (λ h. ⊎_elim (λ a. (is t u).0 a) (λ a. absurd a) h, λ h. inl ((is t u).1 h))
-
--- the zones of a row's pairs that no stop so far has
-abbrev pub AreLeft : Row → List Stop → List Bounds → Type 0
-AreLeft row stops left = (t : ℤ) (u : ℤ) → SomeMeets left t u ↔ (InBand row.band t u × (¬ SomeStopHas stops t u))
-
-none_has : (stops : List Stop) (t u : ℤ) → SomeStopHas (take 0 stops) t u → ⊥
-none_has [] t u h = h.1
-none_has (s ∷ ss) t u h = h.1
-
-pub left_first : (row : Row) (stops : List Stop) (left : List Bounds) → ((t : ℤ) (u : ℤ) → SomeMeets left t u ↔ InBand row.band t u) → AreLeft row (take 0 stops) left
-left_first row stops left is t u = (λ h. ((is t u).0 h, none_has stops t u), λ h. (is t u).1 h.0)
-
-stop_has_more : (stops : List Stop) (k : ℕ) (d : Stop) → k < length stops → (t u : ℤ) → SomeStopHas (take (k + 1) stops) t u ↔ (SomeStopHas (take k stops) t u ⊎ InBand (slice_index_or stops k d).row.band t u)
-stop_has_more stops k d lt t u =
-    let s : Stop = slice_index_or stops k d in
-    let e = take_more stops k d lt in (
-      λ h. ⊎_elim
-          (λ a. inl (h.0, a, h.2))
-          (λ a. ⊎_elim (λ (g : slice_index_or stops k d ≡ h.0). inr (subst (λ (v : Stop). InBand v.row.band t u) (sym g) h.2)) (λ b. absurd b) a)
-          (among_append (take k stops) (s ∷ []) h.0 (subst (λ (v : List Stop). Among v h.0) e h.1)),
-      λ h. ⊎_elim
-          (λ a. (a.0, subst (λ (v : List Stop). Among v a.0) (sym e) (append_first (take k stops) (s ∷ []) a.0 a.1), a.2))
-          (λ a. (s, subst (λ (v : List Stop). Among v s) (sym e) (append_second (take k stops) (s ∷ []) s (inl refl)), a))
-          h,
+-- a zone that shares no pair with the cut stays whole
+pub whole_without : (old new : List Bounds) (zone cut : Bounds) (o : Option Bounds) → IsZoneOf (MeetsBoth zone cut) o → o ≡ None → new ≡ old ++ zone ∷ []
+    → (t : ℤ) (u : ℤ) → SomeMeets new t u ↔ (SomeMeets old t u ⊎ MeetsFirstOnly zone cut t u)
+whole_without old new zone cut o is none e t u =
+    let apart : Meets zone t u → Meets cut t u → ⊥ = λ a b. subst (λ (v : Option Bounds). Holds v t u) none ((is.pairs t u).1 (a, b)) in
+    let more = meets_more old zone t u in
+    subst (λ (v : List Bounds). SomeMeets v t u ↔ (SomeMeets old t u ⊎ MeetsFirstOnly zone cut t u)) (sym e) (
+      λ h. ⊎_elim (λ a. inl a) (λ a. inr (a, apart a)) (more.0 h),
+      λ h. ⊎_elim (λ a. more.1 (inl a)) (λ a. more.1 (inr a.0)) h,
     )
 
-pub left_more : (row : Row) (stops : List Stop) (k : ℕ) (d : Stop) → k < length stops → (cut : Bounds) → ((t u : ℤ) → Meets cut t u ↔ InBand (slice_index_or stops k d).row.band t u)
-    → (now next zones : List Bounds) → zones ≡ now → AreWithout zones cut next → AreLeft row (take k stops) now → AreLeft row (take (k + 1) stops) next
-left_more row stops k d lt cut is now next zones e less so t u =
-    let more = stop_has_more stops k d lt t u in (
+-- the places of the difference are pushed
+pub split_without : (old new : List Bounds) (zone cut : Bounds) (places : List (Option Bounds)) → ((t : ℤ) (u : ℤ) → SomeHolds places t u ↔ MeetsFirstOnly zone cut t u) → PlacesPushed old places new
+    → (t : ℤ) (u : ℤ) → SomeMeets new t u ↔ (SomeMeets old t u ⊎ MeetsFirstOnly zone cut t u)
+split_without old new zone cut places pairs pushed t u = (
+  λ h. ⊎_elim (λ a. inl a) (λ a. inr ((pairs t u).0 a)) ((pushed t u).0 h),
+  λ h. (pushed t u).1 (⊎_elim (λ a. inl a) (λ a. inr ((pairs t u).1 a)) h),
+)
+
+-- what a zone shares with a part is pushed, if there is any
+pub shared_pushed : (old new : List Bounds) (zone part both : Bounds) (o : Option Bounds) → IsZoneOf (MeetsBoth zone part) o → o ≡ Some both → new ≡ old ++ both ∷ []
+    → (t : ℤ) (u : ℤ) → SomeMeets new t u ↔ (SomeMeets old t u ⊎ MeetsBoth zone part t u)
+shared_pushed old new zone part both o is some e t u =
+    let pairs : Meets both t u ↔ MeetsBoth zone part t u = subst (λ (v : Option Bounds). Holds v t u ↔ MeetsBoth zone part t u) some (is.pairs t u) in
+    let more = meets_more old both t u in
+    subst (λ (v : List Bounds). SomeMeets v t u ↔ (SomeMeets old t u ⊎ MeetsBoth zone part t u)) (sym e) (
+      λ h. ⊎_elim (λ a. inl a) (λ a. inr (pairs.0 a)) (more.0 h),
+      λ h. more.1 (⊎_elim (λ a. inl a) (λ a. inr (pairs.1 a)) h),
+    )
+
+pub none_shared : (old : List Bounds) (zone part : Bounds) (o : Option Bounds) → IsZoneOf (MeetsBoth zone part) o → o ≡ None → (t : ℤ) (u : ℤ) → SomeMeets old t u ↔ (SomeMeets old t u ⊎ MeetsBoth zone part t u)
+none_shared old zone part o is none t u = (
+  λ h. inl h,
+  λ h. ⊎_elim (λ a. a) (λ a. absurd (subst (λ (v : Option Bounds). Holds v t u) none ((is.pairs t u).1 a))) h,
+)
+
+-- the zones that were read, with the pairs of the part alone
+abbrev pub AreShared : List Bounds → Bounds → List Bounds → Type 0
+AreShared zones part shared = (t : ℤ) (u : ℤ) → SomeMeets shared t u ↔ (SomeMeets zones t u × Meets part t u)
+
+pub none_within : (zones : List Bounds) (part : Bounds) (shared : List Bounds) → shared ≡ [] → AreShared (take 0 zones) part shared
+none_within zones part shared e = subst (λ (v : List Bounds). AreShared (take 0 zones) part v) (sym e) (λ t u. (λ h. absurd h, λ h. absurd (none_meets zones t u h.0)))
+
+pub within_more : (zones : List Bounds) (part : Bounds) (k : ℕ) (d z : Bounds) → k < length zones → z ≡ slice_index_or zones k d
+    → (now next : List Bounds) → ((t : ℤ) (u : ℤ) → SomeMeets next t u ↔ (SomeMeets now t u ⊎ MeetsBoth z part t u)) → AreShared (take k zones) part now → AreShared (take (k + 1) zones) part next
+within_more zones part k d z lt read now next pushed so t u =
+    let more = read_more zones k d z lt read t u in (
+      λ h. ⊎_elim
+          (λ a. let b = (so t u).0 a in (more.1 (inl b.0), b.1))
+          (λ a. (more.1 (inr a.0), a.1))
+          ((pushed t u).0 h),
+      λ h. (pushed t u).1 (⊎_elim
+          (λ a. inl ((so t u).1 (a, h.1)))
+          (λ a. inr (a, h.1))
+          (more.0 h.0)),
+    )
+
+pub all_within : (zones : List Bounds) (part : Bounds) (k : ℕ) (shared : List Bounds) → length zones ≤ k → AreShared (take k zones) part shared → AreShared zones part shared
+all_within zones part k shared le = subst (λ (v : List Bounds). AreShared v part shared) (take_all k zones le)
+
+-- the zones without the pairs of the cuts that were read
+abbrev pub AreLeft : List Bounds → List Bounds → List Bounds → Type 0
+AreLeft zones cuts left = (t : ℤ) (u : ℤ) → SomeMeets left t u ↔ OnlyFirstMeets zones cuts t u
+
+pub none_cut : (zones cuts left : List Bounds) → left ≡ zones → AreLeft zones (take 0 cuts) left
+none_cut zones cuts left e = subst (λ (v : List Bounds). AreLeft zones (take 0 cuts) v) (sym e) (λ t u. (λ h. (h, none_meets cuts t u), λ h. h.0))
+
+pub cut_more : (zones cuts : List Bounds) (k : ℕ) (d z : Bounds) → k < length cuts → z ≡ slice_index_or cuts k d → (now next copied : List Bounds) → copied ≡ now
+    → AreWithout copied z next → AreLeft zones (take k cuts) now → AreLeft zones (take (k + 1) cuts) next
+cut_more zones cuts k d z lt read now next copied e less so t u =
+    let more = read_more cuts k d z lt read t u in (
       λ h.
           let a = (less t u).0 h in
           let b = (so t u).0 (subst (λ (v : List Bounds). SomeMeets v t u) e a.0) in
-          (b.0, λ s. ⊎_elim (λ c. b.1 c) (λ c. a.1 ((is t u).1 c)) (more.0 s)),
-      λ h. (less t u).1 (subst (λ (v : List Bounds). SomeMeets v t u) (sym e) ((so t u).1 (h.0, λ s. h.1 (more.1 (inl s)))), λ m. h.1 (more.1 (inr ((is t u).0 m)))),
+          (b.0, λ s. ⊎_elim (λ c. b.1 c) (λ c. a.1 c) (more.0 s)),
+      λ h. (less t u).1 (subst (λ (v : List Bounds). SomeMeets v t u) (sym e) ((so t u).1 (h.0, λ s. h.1 (more.1 (inl s)))), λ m. h.1 (more.1 (inr m))),
     )
 
-pub all_left : (row : Row) (stops : List Stop) (k : ℕ) (left : List Bounds) → length stops ≤ k → AreLeft row (take k stops) left → AreLeft row stops left
-all_left row stops k left le = subst (λ (v : List Stop). AreLeft row v left) (take_all k stops le)
+pub all_cut : (zones cuts : List Bounds) (k : ℕ) (left : List Bounds) → length cuts ≤ k → AreLeft zones (take k cuts) left → AreLeft zones cuts left
+all_cut zones cuts k left le = subst (λ (v : List Bounds). AreLeft zones v left) (take_all k cuts le)
+
+-- a pair is in the zone or not
+meets_or_not : (k : Bounds) (t u : ℤ) → Meets k t u ⊎ (Meets k t u → ⊥)
+meets_or_not k t u =
+    by_lt_z t k.a (λ lt. inr (λ m. let x = m.from in omega (arith, ints))) (λ from.
+    by_lt_z k.b t (λ lt. inr (λ m. let x = m.to in omega (arith, ints))) (λ to.
+    by_lt_z u k.c (λ lt. inr (λ m. let x = m.low in omega (arith, ints))) (λ low.
+    by_lt_z k.d u (λ lt. inr (λ m. let x = m.high in omega (arith, ints))) (λ high.
+    by_lt_z (u -ℤ t) k.e (λ lt. inr (λ m. let x = m.least in omega (arith, ints))) (λ least.
+    by_lt_z k.f (u -ℤ t) (λ lt. inr (λ m. let x = m.most in omega (arith, ints))) (λ most.
+    inl (record { from = from; to = to; low = low; high = high; least = least; most = most })))))))
+
+-- what is left of zones is what is left within a part, and outside of it
+pub left_by_parts : (part : Bounds) (zones cuts inside cuts_inside outside cuts_outside : List Bounds) → AreShared zones part inside → AreShared cuts part cuts_inside → AreWithout zones part outside → AreWithout cuts part cuts_outside
+    → (old middle new : List Bounds) → ((t : ℤ) (u : ℤ) → SomeMeets middle t u ↔ (SomeMeets old t u ⊎ OnlyFirstMeets inside cuts_inside t u))
+    → ((t : ℤ) (u : ℤ) → SomeMeets new t u ↔ (SomeMeets middle t u ⊎ OnlyFirstMeets outside cuts_outside t u))
+    → (t : ℤ) (u : ℤ) → SomeMeets new t u ↔ (SomeMeets old t u ⊎ OnlyFirstMeets zones cuts t u)
+left_by_parts part zones cuts inside cuts_inside outside cuts_outside zi ci zo co old middle new first second t u = (
+  λ h. ⊎_elim
+      (λ a. ⊎_elim
+      (λ b. inl b)
+      (λ b. let k = (zi t u).0 b.0 in inr (k.0, λ c. b.1 ((ci t u).1 (c, k.1))))
+      ((first t u).0 a))
+      (λ b. let k = (zo t u).0 b.0 in inr (k.0, λ c. b.1 ((co t u).1 (c, k.1))))
+      ((second t u).0 h),
+  λ h. (second t u).1 (⊎_elim
+      (λ a. inl ((first t u).1 (inl a)))
+      (λ a. ⊎_elim
+      (λ m. inl ((first t u).1 (inr ((zi t u).1 (a.0, m), λ c. a.1 ((ci t u).0 c).0))))
+      (λ m. inr ((zo t u).1 (a.0, m), λ c. a.1 ((co t u).0 c).0))
+      (meets_or_not part t u))
+      h),
+)
+
+-- all that is left is added
+pub left_added : (zones cuts old left copied new : List Bounds) → AreLeft zones cuts left → copied ≡ left → new ≡ old ++ copied → (t : ℤ) (u : ℤ) → SomeMeets new t u ↔ (SomeMeets old t u ⊎ OnlyFirstMeets zones cuts t u)
+left_added zones cuts old left copied new is e f t u =
+    let both = meets_append old copied t u in
+    let so = subst (λ (v : List Bounds). SomeMeets v t u ↔ OnlyFirstMeets zones cuts t u) (sym e) (is t u) in
+    subst (λ (v : List Bounds). SomeMeets v t u ↔ (SomeMeets old t u ⊎ OnlyFirstMeets zones cuts t u)) (sym f) (
+      λ h. ⊎_elim (λ a. inl a) (λ a. inr (so.0 a)) (both.0 h),
+      λ h. both.1 (⊎_elim (λ a. inl a) (λ a. inr (so.1 a)) h),
+    )
+
+-- ---- the zones of rows' bands
+
+-- the zones of the rows that were read
+abbrev pub AreOfBands : List Row → List Bounds → Type 0
+AreOfBands rows zones = (t : ℤ) (u : ℤ) → SomeMeets zones t u ↔ SomeHasBand rows t u
+
+pub no_bands : (rows : List Row) (zones : List Bounds) → zones ≡ [] → AreOfBands (take 0 rows) zones
+no_bands rows zones e = subst (λ (v : List Bounds). AreOfBands (take 0 rows) v) (sym e) (λ t u. (λ h. absurd h, λ h. absurd (none rows h.0 h.1)))
+  where
+    none : (xs : List Row) (r : Row) → Among (take 0 xs) r → ⊥
+    none [] r a = a
+    none (z ∷ zs) r a = a
+
+pub band_more : (rows : List Row) (k : ℕ) (d : Row) → k < length rows → (zone : Bounds) → ((t u : ℤ) → Meets zone t u ↔ InBand (slice_index_or rows k d).band t u) → (now next : List Bounds) → next ≡ now ++ zone ∷ []
+    → AreOfBands (take k rows) now → AreOfBands (take (k + 1) rows) next
+band_more rows k d lt zone is now next e so t u =
+    let row : Row = slice_index_or rows k d in
+    let f = take_more rows k d lt in
+    let more = meets_more now zone t u in
+    subst (λ (v : List Bounds). SomeMeets v t u ↔ SomeHasBand (take (k + 1) rows) t u) (sym e) (
+      λ h. ⊎_elim
+          (λ a. let b = (so t u).0 a in (b.0, subst (λ (v : List Row). Among v b.0) (sym f) (append_first (take k rows) (row ∷ []) b.0 b.1), b.2))
+          (λ a. (row, subst (λ (v : List Row). Among v row) (sym f) (append_second (take k rows) (row ∷ []) row (inl refl)), (is t u).0 a))
+          (more.0 h),
+      λ (h : SomeHasBand (take (k + 1) rows) t u). more.1 (⊎_elim
+          (λ a. inl ((so t u).1 (h.0, a, h.2)))
+          (λ a. ⊎_elim (λ (g : slice_index_or rows k d ≡ h.0). inr ((is t u).1 (subst (λ (v : Row). InBand v.band t u) (sym g) h.2))) (λ b. absurd b) a)
+          (among_append (take k rows) (row ∷ []) h.0 (subst (λ (v : List Row). Among v h.0) f h.1))),
+    )
+
+pub all_bands : (rows : List Row) (k : ℕ) (zones : List Bounds) → length rows ≤ k → AreOfBands (take k rows) zones → AreOfBands rows zones
+all_bands rows k zones le = subst (λ (v : List Row). AreOfBands v zones) (take_all k rows le)
+
+-- what is left of the zones of rows is what is left of their bands
+pub left_of_bands : (rows cuts : List Row) (zones of_cuts read read_cuts none left : List Bounds) → AreOfBands rows zones → AreOfBands cuts of_cuts → read ≡ zones → read_cuts ≡ of_cuts → none ≡ []
+    → ((t : ℤ) (u : ℤ) → SomeMeets left t u ↔ (SomeMeets none t u ⊎ OnlyFirstMeets read read_cuts t u)) → (t : ℤ) (u : ℤ) → SomeMeets left t u ↔ OnlyFirstHasBand rows cuts t u
+left_of_bands rows cuts zones of_cuts read read_cuts none left z c e f g is t u =
+    let so : SomeMeets left t u ↔ (SomeMeets [] t u ⊎ OnlyFirstMeets zones of_cuts t u) =
+    subst (λ (v : List Bounds). SomeMeets left t u ↔ (SomeMeets v t u ⊎ OnlyFirstMeets zones of_cuts t u)) g
+    (subst (λ (v : List Bounds). SomeMeets left t u ↔ (SomeMeets none t u ⊎ OnlyFirstMeets v of_cuts t u)) e
+    (subst (λ (v : List Bounds). SomeMeets left t u ↔ (SomeMeets none t u ⊎ OnlyFirstMeets read v t u)) f (is t u))) in (
+      λ h. ⊎_elim (λ a. absurd a) (λ a. ((z t u).0 a.0, λ k. a.1 ((c t u).1 k))) (so.0 h),
+      λ h. so.1 (inr ((z t u).1 h.0, λ k. h.1 ((c t u).0 k))),
+    )
 
 -- the zones that were read are pushed as items of the row's source and target
 abbrev pub ItemsPushed : Row → List Item → List Bounds → List Item → Type 0
@@ -174,66 +311,3 @@ item_more row old zones k d z lt read now next e so x y =
 
 pub all_items : (row : Row) (old : List Item) (zones : List Bounds) (k : ℕ) (now : List Item) → length zones ≤ k → ItemsPushed row old (take k zones) now → ItemsPushed row old zones now
 all_items row old zones k now le = subst (λ (v : List Bounds). ItemsPushed row old v now) (take_all k zones le)
-
--- what is left of the rows that were read is pushed
-abbrev pub LeftPushed : List Item → List Row → List Stop → List Item → Type 0
-LeftPushed old rows stops now = (x : Point) (y : Point) → ItemsHold now x y ↔ (ItemsHold old x y ⊎ AnyIsLeft rows stops x y)
-
-pub none_left : (items : List Item) (rows : List Row) (stops : List Stop) → LeftPushed items (take 0 rows) stops items
-none_left items rows stops x y = (λ h. inl h, λ h. ⊎_elim (λ a. a) (λ a. absurd (none rows a.0 a.1)) h)
-  where
-    none : (xs : List Row) (r : Row) → Among (take 0 xs) r → ⊥
-    none [] r a = a
-    none (z ∷ zs) r a = a
-
-pub row_left : (old : List Item) (rows : List Row) (stops : List Stop) (k : ℕ) (d : Row) → k < length rows
-    → (cuts : List Stop) → ((s : Stop) → Among cuts s ↔ (Among stops s × DepartsWithin s (slice_index_or rows k d).source.0 (slice_index_or rows k d).band.from (slice_index_or rows k d).band.to))
-    → ((r : Row) (s : Stop) → Among rows r → Among stops s → s.row.source.0 ≡ r.source.0)
-    → (zones pushed : List Bounds) → AreLeft (slice_index_or rows k d) cuts zones → pushed ≡ zones
-    → (now next : List Item) → ItemsPushed (slice_index_or rows k d) now pushed next
-    → LeftPushed old (take k rows) stops now → LeftPushed old (take (k + 1) rows) stops next
-row_left old rows stops k d lt cuts are same zones pushed left is now next items so x y =
-    let row : Row = slice_index_or rows k d in
-    let e = take_more rows k d lt in (
-      λ h. ⊎_elim
-          (λ a. ⊎_elim
-          (λ b. inl b)
-          (λ (b : AnyIsLeft (take k rows) stops x y). inr (b.0, subst (λ (v : List Row). Among v b.0) (sym e) (append_first (take k rows) (row ∷ []) b.0 b.1), b.2))
-          ((so x y).0 a))
-          (λ (a : HasKey (slice_index_or rows k d) x.object y.object × SomeMeets pushed x.moment y.moment).
-          let b = (left x.moment y.moment).0 (subst (λ (v : List Bounds). SomeMeets v x.moment y.moment) is a.1) in
-          inr (row, subst (λ (v : List Row). Among v row) (sym e) (append_second (take k rows) (row ∷ []) row (inl refl)), (record { source = (a.0).0; target = (a.0).1; pair = b.0 }, λ s. b.1 (meets x.moment y.moment b.0 s))))
-          ((items x y).0 h),
-      λ h. (items x y).1 (⊎_elim
-          (λ a. inl ((so x y).1 (inl a)))
-          (λ (a : AnyIsLeft (take (k + 1) rows) stops x y). ⊎_elim
-          (λ b. inl ((so x y).1 (inr (a.0, b, a.2))))
-          (λ b. ⊎_elim (λ (g : slice_index_or rows k d ≡ a.0). inr (own (subst (λ (v : Row). IsLeft v stops x y) (sym g) a.2))) (λ j. absurd j) b)
-          (among_append (take k rows) (row ∷ []) a.0 (subst (λ (v : List Row). Among v a.0) e a.1)))
-          h),
-    )
-  where
-    meets : (t u : ℤ) → InBand (slice_index_or rows k d).band t u → SomeStopHas stops t u → SomeStopHas cuts t u
-    meets t u i s =
-        let j = s.2 in
-        let a = i.from in
-        let b = i.to in
-        let from = j.from in
-        let to = j.to in
-        (s.0, (are s.0).1 (s.1, record { source = same (slice_index_or rows k d) s.0 (among_at rows k d lt) s.1; begins = omega (arith, ints); ends = omega (arith, ints) }), s.2)
-
-    own : IsLeft (slice_index_or rows k d) stops x y → HasKey (slice_index_or rows k d) x.object y.object × SomeMeets pushed x.moment y.moment
-    own h =
-        let i = h.0 in (
-          (i.source, i.target),
-          subst (λ (v : List Bounds). SomeMeets v x.moment y.moment) (sym is) ((left x.moment y.moment).1 (i.pair, λ s. h.1 (s.0, ((are s.0).0 s.1).0, s.2))),
-        )
-
-pub all_pushed : (old : List Item) (rows : List Row) (stops : List Stop) (k : ℕ) (now : List Item) → length rows ≤ k → LeftPushed old (take k rows) stops now → LeftPushed old rows stops now
-all_pushed old rows stops k now le = subst (λ (v : List Row). LeftPushed old v stops now) (take_all k rows le)
-
--- what is found in a span is found in one with the same ends
-pub found_between : (stops cuts : List Stop) (o : ℕ) (from to first last : ℤ) → first ≡ from → last ≡ to
-    → ((s : Stop) → Among cuts s ↔ (Among stops s × DepartsWithin s o first last)) → (s : Stop) → Among cuts s ↔ (Among stops s × DepartsWithin s o from to)
-found_between stops cuts o from to first last e f are s =
-    subst (λ (v : ℤ). Among cuts s ↔ (Among stops s × DepartsWithin s o from v)) f (subst (λ (v : ℤ). Among cuts s ↔ (Among stops s × DepartsWithin s o v last)) e (are s))

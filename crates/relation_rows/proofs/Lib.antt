@@ -28,3 +28,5 @@ pub mod TimeLaws
 pub mod Merged
 pub mod Giving
 pub mod Sorting
+pub mod StrikeLemmas
+pub mod ItemZones

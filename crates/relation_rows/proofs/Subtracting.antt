@@ -1,25 +1,24 @@
 -- A difference, one source and target after the other.
-use Rattle.std.proofs.Common.{◌≡◌, ◌↔◌, ◌⊎◌, inl, inr, ⊎_elim, ℕ, ◌-◌, ◌<◌, ◌≤◌, List, [], ◌∷◌, length, map, get_or, take, drop, Some, None, refl, sym, ◌∙◌, ap, subst, arith, Bool, true, false, true≢false}
+use Rattle.std.proofs.Common.{◌≡◌, ◌↔◌, ◌⊎◌, inl, inr, ⊎_elim, ℕ, ◌-◌, ◌<◌, ◌≤◌, ℤ, List, [], ◌∷◌, length, get_or, take, drop, Some, None, refl, sym, ◌∙◌, ap, subst, arith, Bool, true, false, true≢false}
 use Rattle.std.specs.Prelude.{slice_get}
 use Rattle.std.specs.List.Sorted.{IsPartitionedBy, IsPartitionPoint}
-use Rattle.std.proofs.lemmas.Int.{ints}
 use Rattle.std.proofs.lemmas.List.{take_all}
 use Rattle.std.proofs.lemmas.Bool.Decides.{eqb_tells}
 use Rattle.std.proofs.lemmas.Option.{slice_get_within, get_or_from_slice_get}
 use Rattle.itpg_base.specs.Points.{Point}
+use Rattle.zone_core.specs.declared.Bounds.{Bounds}
 use Rattle.band_normal.specs.Lists.{Among, Ordered}
-use Rattle.band_normal.specs.Bands.{InBand, IsWellFormed}
+use Rattle.band_normal.specs.Bands.{IsWellFormed}
+use Rattle.band_normal.specs.Zones.{SomeMeets}
 use Rattle.band_normal.proofs.Lists.{among_at}
 use Rattle.relation_rows.specs.declared.rows.Row.{Row}
-use Rattle.relation_rows.specs.declared.timetable.Stop.{Stop}
 use Rattle.relation_rows.specs.Rows.{HasKey, RowsHold, RowBefore}
 use Rattle.relation_rows.specs.Relations.{Item, ItemsHold, OnlyFirstHolds}
 use Rattle.relation_rows.specs.Searching.{has_key, comes_before}
-use Rattle.relation_rows.specs.Timetables.{AreReached, DepartsUpTo, StopUpTo, IsTimetable}
-use Rattle.relation_rows.specs.Rest.{SomeStopHas, AnyIsLeft}
+use Rattle.relation_rows.specs.Uniting.{SomeHasBand}
+use Rattle.relation_rows.specs.Minus.{OnlyFirstHasBand}
 use Rattle.relation_rows.proofs.Listed.{key_apart, keys_apart}
 use Rattle.relation_rows.proofs.Keys.{key_is, is_key, key_partitioned, comes_is}
-use Rattle.relation_rows.proofs.Stops.{row_of, row_among, among_row}
 use Rattle.relation_rows.proofs.Partitions.{among_before, among_either, front_among, rest_among, rest_ordered, first_before}
 
 -- ---- the first rows that have one source and target
@@ -68,22 +67,6 @@ module _ (rows : List Row) (first : Row) (order : Ordered RowBefore rows) (is : 
       | inr e ↦ (let ne = e.1 in omega arith)
     ]
 
--- rows of one source and target in order stand by their first departure
-pub key_departs : (rows : List Row) (o p : ℕ) → Ordered RowBefore rows → ((r : Row) → Among rows r → HasKey r o p) → Ordered DepartsUpTo rows
-key_departs [] o p order same = tt
-key_departs (r ∷ rs) o p order same = (
-  λ s a.
-      let here = same r (inl refl) in
-      let there = same s (inr a) in
-      departs r s (here.0 ∙ sym there.0) (here.1 ∙ sym there.1) (order.0 s a),
-  key_departs rs o p order.1 (λ s a. same s (inr a)),
-)
-  where
-    departs : (r s : Row) → r.source.0 ≡ s.source.0 → r.target.0 ≡ s.target.0 → RowBefore r s → DepartsUpTo r s
-    departs r s e f (inl k) = absurd (key_apart _ _ _ _ k e f)
-    departs r s e f (inr (g, h, inl l)) = inr (e, omega (arith, ints))
-    departs r s e f (inr (g, h, inr l)) = let same = l.0 in inr (e, omega (arith, ints))
-
 -- what is left of the first rows but for those that weren't taken yet
 pub record HasSubtracted (first second left : List Row) (items : List Item) : Type 0 where
   pub order : Ordered RowBefore left
@@ -97,69 +80,65 @@ start first second items e order = record {
   holds = λ x y. (λ h. ⊎_elim (λ a. absurd ((subst (λ (v : List Item). ItemsHold v x y) e a).1)) (λ a. a) h, λ h. inr h);
 }
 
-module _ (o p : ℕ) (second keyed : List Row) (are : (r : Row) → Among keyed r ↔ (Among second r × HasKey r o p)) (stops : List Stop) (made : map row_of stops ≡ keyed) where
-  pub stop_keyed : (s : Stop) → Among stops s → Among second s.row × HasKey s.row o p
-  stop_keyed s a = (are s.row).0 (subst (λ (v : List Row). Among v s.row) made (row_among stops s a))
+-- the row's pairs of its source and target, at the moments that the zones have
+abbrev pub AreItemsOf : Row → List Item → List Bounds → List Item → Type 0
+AreItemsOf row old zones new = (x : Point) (y : Point) → ItemsHold new x y ↔ (ItemsHold old x y ⊎ (HasKey row x.object y.object × SomeMeets zones x.moment y.moment))
 
-  pub table_keyed : Ordered StopUpTo stops → ((depth : ℕ) → AreReached depth stops) → ((r : Row) → Among second r → IsWellFormed r.band) → IsTimetable stops
-  table_keyed order reach formed = record { order = order; reach = reach; formed = λ s a. formed s.row (stop_keyed s a).0 }
+module _ (first second left : List Row) (items : List Item) (g : HasSubtracted first second left items) (row : Row) (n : ℕ)
+    (same : (r : Row) → Among (take n left) r → HasKey r row.source.0 row.target.0)
+    (group later cuts : List Row) (front : group ≡ take n left) (back : later ≡ drop n left)
+    (are : (r : Row) → Among cuts r ↔ (Among second r × HasKey r row.source.0 row.target.0))
+    (zones read : List Bounds) (is : (t : ℤ) (u : ℤ) → SomeMeets zones t u ↔ OnlyFirstHasBand group cuts t u) (e : read ≡ zones)
+    (next : List Item) (pushed : AreItemsOf row items read next) where
+  of_group : (r : Row) → Among group r → HasKey r row.source.0 row.target.0
+  of_group r a = same r (subst (λ (v : List Row). Among v r) front a)
 
-  -- a pair of the source and target that no stop has isn't in the second rows
-  pub not_second : (x y : Point) → x.object ≡ o → y.object ≡ p → (SomeStopHas stops x.moment y.moment → ⊥) → RowsHold second x y → ⊥
-  not_second x y e f none h =
-      let i = h.2 in
-      let a = (are h.0).1 (h.1, (i.source ∙ e, i.target ∙ f)) in
-      let s = among_row stops h.0 (subst (λ (v : List Row). Among v h.0) (sym made) a) in
-      none (s.0, s.1, subst (λ (v : Row). InBand v.band x.moment y.moment) (sym s.2) i.pair)
+  are_left : (t u : ℤ) → SomeMeets read t u ↔ OnlyFirstHasBand group cuts t u
+  are_left t u = subst (λ (v : List Bounds). SomeMeets v t u ↔ OnlyFirstHasBand group cuts t u) (sym e) (is t u)
 
-  pub no_stop : (x y : Point) → x.object ≡ o → y.object ≡ p → (RowsHold second x y → ⊥) → SomeStopHas stops x.moment y.moment → ⊥
-  no_stop x y e f none h =
-      let k = stop_keyed h.0 h.1 in
-      none ((h.0).row, k.0, record { source = (k.1).0 ∙ sym e; target = (k.1).1 ∙ sym f; pair = h.2 })
+  from_group : (x y : Point) → HasKey row x.object y.object → OnlyFirstHasBand group cuts x.moment y.moment → OnlyFirstHolds left second x y
+  from_group x y k h =
+      let r = h.0 in
+      let key = of_group r.0 r.1 in (
+        (r.0, front_among left n r.0 (subst (λ (v : List Row). Among v r.0) front r.1), record { source = key.0 ∙ k.0; target = key.1 ∙ k.1; pair = r.2 }),
+        λ (s : RowsHold second x y). let i = s.2 in h.1 (s.0, (are s.0).1 (s.1, (i.source ∙ sym k.0, i.target ∙ sym k.1)), i.pair),
+      )
 
-  module _ (first left : List Row) (items : List Item) (g : HasSubtracted first second left items) (n : ℕ) (same : (r : Row) → Among (take n left) r → HasKey r o p)
-      (group later : List Row) (front : group ≡ take n left) (back : later ≡ drop n left)
-      (next : List Item) (pushed : (x y : Point) → ItemsHold next x y ↔ (ItemsHold items x y ⊎ AnyIsLeft group stops x y)) where
-    of_group : (r : Row) → Among group r → HasKey r o p
-    of_group r a = same r (subst (λ (v : List Row). Among v r) front a)
+  from_later : (x y : Point) → OnlyFirstHolds later second x y → OnlyFirstHolds left second x y
+  from_later x y h = let r = h.0 in ((r.0, rest_among left n r.0 (subst (λ (v : List Row). Among v r.0) back r.1), r.2), h.1)
 
-    from_group : (x y : Point) → AnyIsLeft group stops x y → OnlyFirstHolds left second x y
-    from_group x y h =
-        let k = of_group h.0 h.1 in
-        let i = (h.2).0 in (
-          (h.0, front_among left n h.0 (subst (λ (v : List Row). Among v h.0) front h.1), i),
-          not_second x y (sym i.source ∙ k.0) (sym i.target ∙ k.1) (h.2).1,
-        )
+  either : (x y : Point) → OnlyFirstHolds left second x y → (HasKey row x.object y.object × OnlyFirstHasBand group cuts x.moment y.moment) ⊎ OnlyFirstHolds later second x y
+  either x y h =
+      let r = h.0 in
+      let i = r.2 in
+      ⊎_elim
+      (λ a.
+      let k = same r.0 a in
+      inl (
+        (sym k.0 ∙ i.source, sym k.1 ∙ i.target),
+        (
+          (r.0, subst (λ (v : List Row). Among v r.0) (sym front) a, i.pair),
+          λ (s : SomeHasBand cuts x.moment y.moment). let m = (are s.0).0 s.1 in h.1 (s.0, m.0, record { source = (m.1).0 ∙ sym k.0 ∙ i.source; target = (m.1).1 ∙ sym k.1 ∙ i.target; pair = s.2 }),
+        ),
+      ))
+      (λ a. inr ((r.0, subst (λ (v : List Row). Among v r.0) (sym back) a, r.2), h.1))
+      (among_either left n r.0 r.1)
 
-    from_later : (x y : Point) → OnlyFirstHolds later second x y → OnlyFirstHolds left second x y
-    from_later x y h = let r = h.0 in ((r.0, rest_among left n r.0 (subst (λ (v : List Row). Among v r.0) back r.1), r.2), h.1)
-
-    either : (x y : Point) → OnlyFirstHolds left second x y → AnyIsLeft group stops x y ⊎ OnlyFirstHolds later second x y
-    either x y h =
-        let r = h.0 in
-        let i = r.2 in
-        ⊎_elim
-        (λ a.
-        let k = same r.0 a in
-        inl (r.0, subst (λ (v : List Row). Among v r.0) (sym front) a, (r.2, no_stop x y (sym i.source ∙ k.0) (sym i.target ∙ k.1) h.1)))
-        (λ a. inr ((r.0, subst (λ (v : List Row). Among v r.0) (sym back) a, r.2), h.1))
-        (among_either left n r.0 r.1)
-
-    pub next_subtracted : HasSubtracted first second later next
-    next_subtracted = record {
-      order = subst (λ (v : List Row). Ordered RowBefore v) (sym back) (rest_ordered RowBefore left n g.order);
-      there = λ r a. g.there r (rest_among left n r (subst (λ (v : List Row). Among v r) back a));
-      holds = λ x y. (
-        λ h. (g.holds x y).0 (⊎_elim
-            (λ a. ⊎_elim (λ b. inl b) (λ b. inr (from_group x y b)) ((pushed x y).0 a))
-            (λ a. inr (from_later x y a))
-            h),
-        λ h. ⊎_elim
-            (λ a. inl ((pushed x y).1 (inl a)))
-            (λ a. ⊎_elim (λ b. inl ((pushed x y).1 (inr b))) (λ b. inr b) (either x y a))
-            ((g.holds x y).1 h),
-      );
-    }
+  pub next_subtracted : HasSubtracted first second later next
+  next_subtracted = record {
+    order = subst (λ (v : List Row). Ordered RowBefore v) (sym back) (rest_ordered RowBefore left n g.order);
+    there = λ r a. g.there r (rest_among left n r (subst (λ (v : List Row). Among v r) back a));
+    holds = λ x y. (
+      λ h. (g.holds x y).0 (⊎_elim
+          (λ a. ⊎_elim (λ b. inl b) (λ b. inr (from_group x y b.0 ((are_left x.moment y.moment).0 b.1))) ((pushed x y).0 a))
+          (λ a. inr (from_later x y a))
+          h),
+      λ h. ⊎_elim
+          (λ a. inl ((pushed x y).1 (inl a)))
+          (λ a. ⊎_elim (λ b. inl ((pushed x y).1 (inr (b.0, (are_left x.moment y.moment).1 b.1)))) (λ b. inr b) (either x y a))
+          ((g.holds x y).1 h),
+    );
+  }
 
 no_first : (left : List Row) → None ≡ slice_get left 0 → left ≡ []
 no_first [] e = refl

@@ -6,6 +6,6 @@ pub mod Searching
 pub mod Timetables
 pub mod Ways
 pub mod Times
-pub mod Rest
 pub mod Answered
 pub mod Uniting
+pub mod Minus

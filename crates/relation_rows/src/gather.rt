@@ -4,9 +4,10 @@
 //! the limit is compared with normal rows alone, and no more rows are made than the first source and
 //! target needs whose rows pass it.
 
-ghost use Rattle.std.specs.Prelude.{◌≡◌, ◌⊎◌, ◌++◌, ◌<◌, ◌≤◌, ◌↔◌, length, map, take, drop, slice_get, Some, IfOk, OnOk, IsTrue};
+ghost use Rattle.std.specs.Prelude.{◌≡◌, ◌⊎◌, ◌++◌, ℤ, ◌<◌, ◌≤◌, ◌↔◌, length, map, take, drop, slice_get, Some, IfOk, OnOk, IsTrue};
 ghost use Rattle.itpg_base.specs.declared.object_number.ObjNo.{ObjNo as PlainObjNo};
 ghost use Rattle.itpg_base.specs.Points.{Point};
+ghost use Rattle.zone_core.specs.Zone.{Meets};
 ghost use Rattle.band_normal.specs.declared.band.Band.{Band};
 ghost use Rattle.band_normal.specs.Lists.{Among, Ordered};
 ghost use Rattle.band_normal.specs.Bands.{IsWellFormed};
@@ -46,12 +47,28 @@ fn first_count(items: &[Item], first: &Item) -> usize
     items.partition_point(|item| are_of_one_key(item, first))
 }
 
+// Adds the zone, if it has a pair that the last one hasn't.
+fn push_zone(zones: &mut Vec<Zone>, zone: &Zone) -> Result<(), AllocError>
+    ensures { OnOk result ((t : ℤ) → (u : ℤ) → SomeMeets zones.new.items t u ↔ (SomeMeets zones.old.items t u ⊎ Meets zone.now t u)) }
+{
+    let last = zones.last().copied();
+    if let Some(last) = last
+        && zone.inside(&last)
+    {
+        return Ok(());
+    }
+    zones.push(*zone)?;
+    Ok(())
+}
+
+// Zones that have the pairs of the items' zones.
 fn zones_of(alloc: Global, items: &[Item]) -> Result<Vec<Zone>, AllocError>
-    ensures { IfOk result (λ zones. zones.items ≡ map (λ (i : Item). i.2) items.now) }
+    ensures { IfOk result (λ zones. (t : ℤ) → (u : ℤ) → SomeMeets zones.items t u ↔ SomeMeets (map (λ (i : Item). i.2) items.now) t u) }
 {
     let mut zones = Vec::new(alloc);
     for item in items {
-        zones.push(item.2)?;
+        let zone = item.2;
+        push_zone(&mut zones, &zone)?;
     }
     Ok(zones)
 }
@@ -61,7 +78,9 @@ pub(crate) fn bands_of_all(alloc: Global, items: &[Item]) -> Result<Vec<Band>, A
     ensures normal { IfOk result (λ bands. Normal (SomeMeets (map (λ (i : Item). i.2) items.now)) bands.items) }
     ensures formed { IfOk result (λ bands. (b : Band) → Among bands.items b → IsWellFormed b) }
 {
-    normal(alloc, zones_of(alloc, items)?)
+    let zones = zones_of(alloc, items)?;
+    let bands = normal(alloc, zones)?;
+    Ok(bands)
 }
 
 /// The bands as rows of the source and target, behind those that there are.

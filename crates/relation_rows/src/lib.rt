@@ -9,10 +9,12 @@
 pub mod answered;
 mod gather;
 pub mod laws;
+mod minus;
+mod parting;
 pub mod relations;
-mod rest;
 pub mod rows;
 mod search;
+mod strike;
 #[cfg(test)]
 mod tests;
 pub mod times;

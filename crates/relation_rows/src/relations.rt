@@ -12,9 +12,10 @@ ghost use Rattle.relation_rows.specs.Times.{AreTimes, Departs, Arrives};
 ghost use Rattle.relation_rows.specs.Relations.{ItemsHold, Rise, IsItself, EitherHolds, HasMiddlePoint, IsBetween, OnlyFirstHolds};
 
 use crate::gather::{from_each_to_itself, gathered, gathered_all, gathered_of};
-use crate::rest::only_in_first;
+use crate::minus::only_in_first;
 use crate::rows::{RelFault, Row};
 use crate::search::{is_in_band, rows_between, rows_of_key};
+use crate::strike::struck;
 use crate::times::{OneTime, arrivals, departures, runs_of};
 use crate::timetable::timetable;
 use crate::unite::united;
@@ -164,7 +165,8 @@ impl Relation {
         ensures { IfOk result (λ rows. NormalRows (OnlyFirstHolds self.now other.now) rows) }
     {
         let alloc = *self.rows.allocator();
-        let items = only_in_first(alloc, &self.rows, &other.rows)?;
+        let (kept, cuts) = struck(alloc, &self.rows, &other.rows)?;
+        let items = only_in_first(alloc, &kept, &cuts)?;
         let rows = gathered_all(alloc, items)?;
         Ok(rows)
     }

@@ -1,0 +1,4 @@
+use Rattle.relation_rows.proofs.minus.+push_rest.Given as goal
+
+abbrev pub decreases-push_rest : goal.decreases-push_rest
+decreases-push_rest l = l.partings

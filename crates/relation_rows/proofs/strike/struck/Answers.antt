@@ -1,0 +1,26 @@
+use Rattle.std.proofs.Common.{refl}
+use Rattle.relation_rows.proofs.StrikeLemmas.{striking_start, striking_both, striking_left, striking_right, striking_end}
+use Rattle.relation_rows.proofs.strike.struck.Goals as goal
+
+pub loop-row-init : goal.loop-row-init
+loop-row-init c = striking_start c.args.first.now c.args.second.now _ _ c.new-kept.ensures.items c.new-cuts.ensures.items c.requires.first c.requires.second
+
+pub loop-row-preserved-then-is_same : goal.loop-row-preserved-then-is_same
+loop-row-preserved-then-is_same c = striking_both _ _ _ _ _ _ _ _ _ _ c.in-Some.ensures.cases.0 c.in-Some-split_first.ensures.cases.0 (c.if-is_same.ensures.0 refl) c.requires.first c.loop-row.invariant
+
+pub loop-row-preserved-then-lt : goal.loop-row-preserved-then-lt
+loop-row-preserved-then-lt c =
+    let pushed = c.in_ok-push.ensures.items in
+    striking_left _ _ _ _ _ _ _ _ _ c.in-Some.ensures.cases.0 pushed c.loop-row.invariant
+
+pub loop-row-preserved : goal.loop-row-preserved
+loop-row-preserved c =
+    let pushed = c.in_ok-push-2.ensures.items in
+    striking_right _ _ _ _ _ _ _ _ _ c.in-Some-split_first.ensures.cases.0 pushed c.loop-row.invariant
+
+pub returns : goal.returns
+returns c =
+    let kept = c.in_ok-extend_from_slice.ensures.items in
+    let cuts = c.in_ok-extend_from_slice-2.ensures.items in
+    let end = striking_end _ _ _ _ _ _ _ _ kept cuts c.loop-row.invariant in
+    record { order = end.order; cuts_order = end.cuts_order; there = end.there; cuts_there = end.cuts_there; same = end.same }

@@ -1,0 +1,72 @@
+//! Two lists of rows without the rows that stand in both.
+
+ghost use Rattle.std.specs.Prelude.{◌≡◌, ◌↔◌, IsTrue, IfOk};
+ghost use Rattle.itpg_base.specs.Points.{Point};
+ghost use Rattle.band_normal.specs.Lists.{Among, Ordered};
+ghost use Rattle.relation_rows.specs.declared.rows.Row.{Row as PlainRow};
+ghost use Rattle.relation_rows.specs.Rows.{RowBefore, IsRelation};
+ghost use Rattle.relation_rows.specs.Relations.{OnlyFirstHolds};
+
+use crate::rows::Row;
+use band_normal::{Band, End};
+use itpg_base::ObjNo;
+use std::alloc::{AllocError, Global};
+
+// The low end at the first departure.
+fn first_low(band: &Band) -> i64 {
+    match band.low {
+        End::Fixed(low) => low,
+        End::Moving(difference) => band.from.saturating_add(difference),
+    }
+}
+
+// By this rows stand in order.
+fn place_of(row: &Row) -> (ObjNo, ObjNo, i64, i64) {
+    (row.source, row.target, row.band.from, first_low(&row.band))
+}
+
+fn is_same(row: &Row, other: &Row) -> bool
+    ensures { IsTrue result ↔ (row.now ≡ other.now) }
+{
+    row == other
+}
+
+/// Both lists without the rows that stand in both. What the first holds and the second doesn't stays the same.
+///
+/// One walk along both. Which of two unequal rows is passed first means nothing for what is held.
+pub(crate) fn struck(
+    alloc: Global,
+    first: &[Row],
+    second: &[Row],
+) -> Result<(Vec<Row>, Vec<Row>), AllocError>
+    requires first { IsRelation first.now }
+    requires second { Ordered RowBefore second.now }
+    ensures order { IfOk result (λ p. Ordered RowBefore p.0.items) }
+    ensures cuts_order { IfOk result (λ p. Ordered RowBefore p.1.items) }
+    ensures there { IfOk result (λ p. (r : PlainRow) → Among p.0.items r → Among first.now r) }
+    ensures cuts_there { IfOk result (λ p. (r : PlainRow) → Among p.1.items r → Among second.now r) }
+    ensures same { IfOk result (λ p. (x : Point) → (y : Point) → OnlyFirstHolds p.0.items p.1.items x y ↔ OnlyFirstHolds first.now second.now x y) }
+{
+    let mut kept = Vec::new(alloc);
+    let mut cuts = Vec::new(alloc);
+    let mut left = first;
+    let mut right = second;
+    while let Some((row, rows)) = left.split_first() {
+        let Some((other, others)) = right.split_first() else {
+            break;
+        };
+        if is_same(row, other) {
+            left = rows;
+            right = others;
+        } else if place_of(row) < place_of(other) {
+            kept.push(*row)?;
+            left = rows;
+        } else {
+            cuts.push(*other)?;
+            right = others;
+        }
+    }
+    kept.extend_from_slice(left)?;
+    cuts.extend_from_slice(right)?;
+    Ok((kept, cuts))
+}
