@@ -1,7 +1,7 @@
-//! Tests of the queries' libraries.
+//! Tests of the libraries of queries and of runs, each module named by the library that it tests.
 #![tactic(auto)]
 
 #[cfg(test)]
-mod path_relations;
+mod of_path_eval;
 #[cfg(test)]
-mod repetition;
+mod of_repeat_engine;

@@ -1,4 +1,5 @@
 pub mod Powers
 pub mod Composed
 pub mod GrownUnions
+pub mod RaisedPowers
 pub mod Relations

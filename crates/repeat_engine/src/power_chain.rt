@@ -1,8 +1,10 @@
 //! The n-th power, along the chain of n.
-ghost use Rattle.std.specs.Prelude.{◌≤◌, ℕ, All, IfOk, IsTrue};
+ghost use Rattle.std.specs.Prelude.{◌≡◌, ◌≢◌, ◌%◌, ◌≤◌, ℕ, All, IfOk, IfSome};
 ghost use Rattle.itpg_base.specs.Chains.{chain};
+ghost use Rattle.repeat_engine.specs.declared.power_chain.Raised.{Raised as PlainRaised};
 ghost use Rattle.repeat_engine.specs.Powers.{nth_power};
 ghost use Rattle.repeat_engine.specs.Composed.{IsOkWhere};
+ghost use Rattle.repeat_engine.specs.RaisedPowers.{IsTurned, IsNext};
 
 use crate::Composed;
 
@@ -10,8 +12,8 @@ use crate::Composed;
 #[derive(Drop)]
 pub(crate) struct Raised<V> {
     pub(crate) value: V,
-    /// Each further power is the same.
-    pub(crate) done: bool,
+    /// The power of one more, where each further power is one of these two in turn.
+    pub(crate) next: Option<V>,
 }
 
 /// The n-th power of x, along the chain of n.
@@ -27,46 +29,79 @@ pub(crate) fn raised_to<C: Composed>(
         IfOk result (λ r. C.alike c.now (C.means r.value) (power n)) }
     ensures own { IfOk result (λ r. C.own c.now (C.means r.value)) }
     ensures fits { IfOk result (λ r. C.fits c.now (C.means r.value)) }
-    ensures done { let power = nth_power (C.algebra c.now) (C.means x.now) in
-        IfOk result (λ r. IsTrue r.done → (m : ℕ) → n ≤ m → C.alike c.now (power m) (power n)) }
+    ensures next { let Next = IsNext (C.alike c.now) (C.own c.now) (C.fits c.now) (C.algebra c.now) in
+        IfOk result (λ r. IfSome r.next (λ d. Next (C.means x.now) n (C.means d))) }
     ensures exact { let power = nth_power (C.algebra c.now) (C.means x.now) in
         IsOkWhere C.wants_memory result (All (λ k. C.fits c.now (power k)) (chain n)) }
 {
     if n == 1 {
         // No call copies a value, but the union of x with itself is x.
         let value = c.union(x, x)?;
-        return Ok(Raised { value, done: false });
+        return Ok(Raised { value, next: None });
     }
     let half = raised_to(c, x, n / 2)?;
-    if half.done {
-        return Ok(half);
+    if half.next.is_some() {
+        return Ok(turned(half, n - n / 2));
     }
     let double = c.compose(&half.value, &half.value)?;
     if n % 2 == 0 {
-        let done = is_last(c, x, &double);
+        let next = next_of(c, x, &double);
         return Ok(Raised {
             value: double,
-            done,
+            next,
         });
     }
     let value = c.compose(&double, x)?;
-    let done = c.same(&value, &double);
-    Ok(Raised { value, done })
+    let next = next_of(c, x, &value);
+    Ok(Raised { value, next })
 }
 
-// Whether one step more leaves the power as it is. Where that would take longer than a square, it isn't tried.
-fn is_last<C: Composed>(c: &C, x: &C::Value, power: &C::Value) -> bool
+// The power of so many more, where the further ones are two in turn.
+fn turned<V: Drop>(raised: Raised<V>, steps: u64) -> Raised<V>
+    ensures even { steps % 2 ≡ 0 → result ≡ raised }
+    ensures odd { steps % 2 ≢ 0 → IsTurned raised result }
+{
+    if steps % 2 == 0 {
+        return raised;
+    }
+    let Raised { value, next } = raised;
+    match next {
+        Some(next) => Raised {
+            value: next,
+            next: Some(value),
+        },
+        None => Raised { value, next: None },
+    }
+}
+
+// The power of one more, where two steps lead back. Where that would take longer than a square, it isn't tried.
+fn next_of<C: Composed>(c: &C, x: &C::Value, power: &C::Value) -> Option<C::Value>
     requires own_x { C.own c.now (C.means x.now) }
     requires fits_x { C.fits c.now (C.means x.now) }
     requires own_power { C.own c.now (C.means power.now) }
     requires fits_power { C.fits c.now (C.means power.now) }
-    ensures { IsTrue result → C.alike c.now ((C.algebra c.now).compose (C.means power.now) (C.means x.now)) (C.means power.now) }
+    ensures own { IfSome result (λ v. C.own c.now (C.means v)) }
+    ensures fits { IfSome result (λ v. C.fits c.now (C.means v)) }
+    ensures step { let both = (C.algebra c.now).compose (C.means power.now) (C.means x.now) in
+        IfSome result (λ v. C.alike c.now (C.means v) both) }
+    ensures back { let then = (C.algebra c.now).compose in
+        IfSome result (λ v. C.alike c.now (then (C.means v) (C.means x.now)) (C.means power.now)) }
 {
-    if c.size(x) > c.size(power) / 2 {
-        return false;
+    if c.size(x) > c.size(power) / 4 {
+        return None;
     }
-    match c.compose(power, x) {
-        Ok(next) => c.same(&next, power),
-        Err(_) => false,
+    let Ok(next) = c.compose(power, x) else {
+        return None;
+    };
+    if c.same(&next, power) {
+        return Some(next);
+    }
+    let Ok(second) = c.compose(&next, x) else {
+        return None;
+    };
+    if c.same(&second, power) {
+        Some(next)
+    } else {
+        None
     }
 }

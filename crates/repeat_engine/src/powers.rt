@@ -22,7 +22,7 @@ const ENOUGH: u64 = 1 << 60;
 /// ```
 ///
 /// It is worked out along the chain of n, which is that of its half (rounded down), then twice the half, and n:
-/// 1, 2, 3, 6, 6, 12, 13 for 13, and ends where one step more leaves the power as it is. So x is squared at most 39 times.
+/// 1, 2, 3, 6, 6, 12, 13 for 13, and ends where two steps more lead back to the power. So x is squared at most 39 times.
 ///
 /// It answers a fault that isn't want of memory exactly where some power in the chain of n doesn't fit, or, for n = 0,
 /// where `one` doesn't fit.

@@ -37,7 +37,7 @@ impl Lengths {
 impl Composed for Lengths {
     ghost use Rattle.std.specs.Prelude.{ℕ};
     ghost use Rattle.std.proofs.Common.{lit≤};
-    ghost use Rattle.query_tests.specs.declared.repetition.TheConstants.{LONGEST};
+    ghost use Rattle.query_tests.specs.declared.of_repeat_engine.TheConstants.{LONGEST};
     ghost use Rattle.query_tests.specs.LengthSpans.{Alike, Own, Fits, spans, spans_lawful};
 
     type Value = (u64, u64);
