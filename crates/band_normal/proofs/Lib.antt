@@ -14,9 +14,9 @@ pub mod Zoning
 pub mod Sweeping
 pub mod Existence
 pub mod Far
-pub mod Parting
-pub mod Lining
-pub mod Striking
-pub mod Linking
-pub mod Linked
-pub mod Cutting
+pub mod PartLemmas
+pub mod LineLemmas
+pub mod StrikeLemmas
+pub mod LinkSteps
+pub mod LinkLemmas
+pub mod CutLemmas

@@ -24,6 +24,7 @@ pub struct Cut {
     pub last: i64,
 }
 
+// What the zone has up to the cut, if anything.
 fn up_to(mut k: Bounds, limit: Cut) -> Option<Zone>
     requires k_near { IsNear k }
     requires limit_near { Within moment_reach limit.last }
@@ -33,6 +34,7 @@ fn up_to(mut k: Bounds, limit: Cut) -> Option<Zone>
     tight(k)
 }
 
+// What it has after the cut.
 fn after(mut k: Bounds, limit: Cut) -> Option<Zone>
     requires k_near { IsNear k }
     requires limit_near { Within moment_reach limit.last }
@@ -78,7 +80,7 @@ fn cut_after(last: i64) -> Cut
     Cut { last }
 }
 
-// A departure with about as many begins and ends of zones up to it as after it.
+// The cut with about as many begins and ends of zones up to it as after it, or else in the middle of the span.
 fn middle(alloc: Global, zones: &[Zone], span: Stretch) -> Result<Cut, AllocError>
     ensures { IfOk result (λ c. Within moment_reach c.last) }
 {
@@ -110,7 +112,11 @@ pub struct Parts {
     pub back: Vec<Zone>,
 }
 
-/// The zones cut in the middle.
+/// The zones cut in two at a departure.
+///
+/// A run depends on its departure alone, so the rows of each part are strips of the whole, and once linked they are its rows. The
+/// cut lies where half of the begins and ends have been, so that neither part keeps most of them; where there are few, ends pass
+/// each other, and in half of the departures fewer do.
 pub fn cut_in_two(alloc: Global, zones: &[Zone]) -> Result<Parts, AllocError>
     ensures { IfOk result (λ p. AreCut zones.now p.front.items p.back.items) }
 {

@@ -1,8 +1,9 @@
 //! Strips linked to rows, in whatever order they stand.
 //!
-//! A strip is a band whose arrivals are one run at each of its departures. The strips are taken by
-//! their first departure; the rows under way are found by where they end. A row ends where one of the
-//! strips ends, so it stands at that strip's place.
+//! A strip is a band whose arrivals are one run at each of its departures. The strips are taken by their first departure. A row
+//! under way ends where one of the strips ends, so it stands at that strip's place in the list by ends. Two runs of one departure
+//! never have low ends that differ by one or not at all, so of all rows under way a strip can continue only the one at the first
+//! place that isn't before its corner: two searches a strip, and no row is moved.
 
 ghost use Rattle.std.specs.Prelude.{◌≡◌, ◌↔◌, ◌++◌, ◌≤◌, ◌<◌, ℕ, ℤ, List, Option, None, Some, [], IsTrue, IfOk, IfSome, IfNone, length, get_or, slice_set, pos, ◌-ℤ◌, FitsSigned};
 ghost use Rattle.std.specs.Int.{w64};
@@ -37,6 +38,7 @@ pub struct Linking {
 ghost use Rattle.band_normal.specs.declared.links.Corner.{Corner};
 ghost use Rattle.band_normal.specs.Links.{EndsBefore, EndsUpTo, last_low_of, last_corner, corner_before, cleared, CanLink, CanLinkAll, LinksAt, AreStrips};
 
+// The low end at the last departure, which is in range in each strip.
 fn last_low(strip: &Band) -> i64
     ensures { result ≡ last_low_of strip.now }
 {
@@ -46,6 +48,7 @@ fn last_low(strip: &Band) -> i64
     }
 }
 
+// Where the strip ends.
 fn corner_of_end(strip: Band) -> Corner
     ensures { result ≡ last_corner strip }
 {
@@ -66,6 +69,7 @@ fn corner_to_continue(strip: Band) -> Corner
     }
 }
 
+// By the last departure, then by the low end there.
 fn ends_before(strip: &Band, corner: Corner) -> bool
     ensures { IsTrue result ↔ EndsBefore strip.now corner }
 {
@@ -98,6 +102,7 @@ fn place(ends: &[Band], corner: Corner) -> usize
     from
 }
 
+// A place for each strip, with no row yet.
 fn no_rows(alloc: Global, ends: &[Band]) -> Result<Vec<Option<Band>>, AllocError>
     ensures len { IfOk result (λ v. length v.items ≡ length ends.now) }
     ensures none { IfOk result (λ v. (k : ℕ) → get_or v.items k None ≡ None) }
@@ -110,6 +115,7 @@ fn no_rows(alloc: Global, ends: &[Band]) -> Result<Vec<Option<Band>>, AllocError
     Ok(slots)
 }
 
+// The row at the place, if there is one.
 fn row_at(slots: &[Option<Band>], at: usize) -> Option<Band>
     ensures { result ≡ get_or slots.now at None }
 {
@@ -193,7 +199,7 @@ fn linked(alloc: Global, starts: &[Band], ends: &[Band]) -> Result<Linking, Allo
     Ok(linking)
 }
 
-// All rows.
+// All rows, those that are complete and those under way to the last.
 fn rows_linked(linking: Linking) -> Result<Vec<Band>, AllocError>
     ensures { IfOk result (λ v. v.items ≡ linking.complete.items ++ present linking.slots.items) }
 {

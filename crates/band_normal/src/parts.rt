@@ -110,8 +110,20 @@ fn by_begin(alloc: Global, zones: &[Zone], measure: Measure) -> Result<Vec<Zone>
     Ok(sorted)
 }
 
-/// The rows of the zones added to others, for so many rounds group by group. Where many zones of a group are active at a time
-/// it is cut in two at a departure, so often at most.
+/// The rows of the zones, added to others: parted by the measure, for so many rounds, of which the last few parted nothing, and
+/// cut so often at most.
+///
+/// Between groups one number at least stays free, as the arrival 4 here. So no run of the one meets, adjoins or continues one of
+/// the other's, and the rows of each are rows of all.
+///
+/// ```text
+/// arrival 6        # # #
+///         5        # # #
+///         4
+///         3  # # # # # #
+///         2  # # # # # #
+///            0 1 2 3 4 5  departure
+/// ```
 pub fn add_parted(
     alloc: Global,
     rows: Vec<Band>,
@@ -128,6 +140,9 @@ pub fn add_parted(
         push_bands(&mut rows, bands_of(zone))?;
         return Ok(rows);
     }
+    // What one measure leaves together another may part, and each part may then be parted by the first again. Once all three
+    // part nothing, the zones are swept together; where the sweep would be slow they are cut, and a cut changes what they
+    // reach, so that both parts are parted anew.
     if rounds == 0 || idle >= 3 {
         let effort = if cuts == 0 {
             Effort::Full

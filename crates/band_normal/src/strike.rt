@@ -43,7 +43,8 @@ pub fn struck(
             break;
         };
         // Which of two unequal rows is passed first doesn't matter to the answer, but to what it strikes.
-        let is_earlier = (row.from, first_low(row), row.to) < (other.from, first_low(other), other.to);
+        let is_earlier = (row.from, first_low(row), row.to)
+            < (other.from, first_low(other), other.to);
         if is_same(*row, *other) {
             left = rows;
             right = others;

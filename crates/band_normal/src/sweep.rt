@@ -32,7 +32,7 @@ const FEW_TURNS: u64 = 16;
 const CROWD: i64 = 32;
 
 // How many bands a limited sweep may look at for each one that has begun and each row that is complete.
-const LOOKS: u64 = 64;
+const LOOKS: u64 = 32;
 
 /// Whether a sweep may be given up.
 #[derive(Clone, Copy)]
@@ -132,7 +132,10 @@ fn rows_over(
         advance(&mut active, begun, left)?;
         waiting = later;
         looks = looks.saturating_add(active.len() as u64);
-        let gains = bands.len().saturating_sub(waiting.len()).saturating_add(rows.complete.len());
+        let gains = bands
+            .len()
+            .saturating_sub(waiting.len())
+            .saturating_add(rows.complete.len());
         if is_slow(effort, looks, gains as u64) {
             return Ok(None);
         }
@@ -164,11 +167,7 @@ fn is_hopeless(zones: &[Zone], effort: Effort) -> bool
 }
 
 /// The rows of the zones, in any order, by a sweep over all of them; none where it was given up.
-pub fn swept(
-    alloc: Global,
-    zones: &[Zone],
-    effort: Effort,
-) -> Result<Option<Vec<Band>>, AllocError>
+pub fn swept(alloc: Global, zones: &[Zone], effort: Effort) -> Result<Option<Vec<Band>>, AllocError>
     ensures rows { IfOk result (λ o. IfSome o (λ v. AreRowsOf zones.now v.items)) }
     ensures full { effort ≡ Effort.Full → IfOk result (λ o. IsSome o) }
 {

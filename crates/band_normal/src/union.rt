@@ -50,13 +50,5 @@ pub fn normal(alloc: Global, zones: Vec<Zone>) -> Result<Vec<Band>, AllocError>
         push_bands(&mut rows, bands_of(zone))?;
         return Ok(rows);
     }
-    in_order(add_parted(
-        alloc,
-        rows,
-        &zones,
-        Measure::Departure,
-        ROUNDS,
-        0,
-        CUTS,
-    )?)
+    in_order(add_parted(alloc, rows, &zones, Measure::Departure, ROUNDS, 0, CUTS)?)
 }

@@ -12,16 +12,23 @@ mod zones;
 use anyhow::{Result, bail, ensure};
 use relations::Workload;
 use std::env;
+use zones::Shape;
 
 const MOST: u32 = 1_000_000;
 
 const FEW: u32 = 1_000;
 
 // All workloads.
-const NAMES: [&str; 7] = [
+const NAMES: [&str; 13] = [
     "ingest",
     "zones",
     "close_zones",
+    "nested",
+    "crowded",
+    "moments",
+    "crossing",
+    "equal",
+    "struck",
     "union",
     "chain",
     "middle",
@@ -46,8 +53,14 @@ fn measure_each(rt: &HostRuntime) -> Result<()> {
 fn measure(rt: &HostRuntime, name: &str, size: u32) -> Result<()> {
     match name {
         "ingest" => ingest::measure(rt, size),
-        "zones" => zones::measure(rt, size, 7),
-        "close_zones" => zones::measure(rt, size, 1),
+        "zones" => Shape::Spread(7).measure(rt, size),
+        "close_zones" => Shape::Spread(1).measure(rt, size),
+        "nested" => Shape::Nested.measure(rt, size),
+        "crowded" => Shape::Crowded.measure(rt, size),
+        "moments" => Shape::Moments.measure(rt, size),
+        "crossing" => Shape::Crossing.measure(rt, size),
+        "equal" => Shape::Equal.measure(rt, size),
+        "struck" => Shape::Spread(7).measure_struck(rt, size),
         "union" => Workload::Union.measure(rt, size),
         "chain" => Workload::Chain.measure(rt, size),
         "middle" => Workload::Middle.measure(rt, size),

@@ -99,9 +99,65 @@ def cases():
         yield [random_zone(rng) for _ in range(rng.choice([1, 2, 2, 3, 3, 4, 5, 7, 10]))]
 
 
+def crowded_zone(rng, last):
+    """A zone that is active at most departures from 0 to `last`."""
+    a = rng.choice([0, 0, rng.randint(0, last // 3)])
+    b = rng.choice([last, last, rng.randint(2 * last // 3, last)])
+    kind = rng.randint(0, 3)
+    c = rng.randint(0, 3 * last)
+    if kind == 0:  # a stripe
+        return (a, b, c, c + rng.choice([0, 0, 1, 2]), -900, 900)
+    if kind == 1:  # along the diagonal
+        e = rng.randint(-last, 4 * last)
+        return (a, b, -900, 900, e, e + rng.choice([0, 0, 1]))
+    if kind == 2:  # its low end stays and then moves
+        return (a, b, c, c + last, c - rng.randint(0, last), c + rng.randint(0, 2))
+    return (a, b, c, c + rng.randint(0, 6), -900, c - rng.randint(-3, last))  # its high end moves and then stays
+
+
+def crowded_lists(rng):
+    """Lists with 50 to 500 zones active at a time, in eight shapes; each twentieth is large and has few departures."""
+    for i in range(200):
+        large = i % 20 == 0
+        count = 480 if large else rng.choice([60, 60, 70, 80, 100, 120])
+        last = 4 if large else rng.choice([6, 9, 12, 15])
+        low = [4 * k - 2 * count for k in range(count)]
+        shape = i % 8 if not large else i // 20 % 8
+        if shape == 0:  # of all kinds
+            yield [crowded_zone(rng, last) for _ in range(count)]
+        elif shape == 1:  # on parallels, each within the one before
+            yield [(k * (last // 3) // count, last - k * (last // 3) // count, -900, 900, k % 3, k % 3) for k in range(count)]
+        elif shape == 2:  # stripes that overlap or don't, each of which ends by itself
+            yield [(0, rng.randint(last // 2, last), c, c + rng.randint(2, 5), -900, 900) for c in low]
+        elif shape == 3:  # stripes, and one line through all
+            yield [(0, last, c // 2, c // 2, -900, 900) for c in low] + [(0, last, -900, 900, 0, 1)]
+        elif shape == 4:  # stripes and lines that cross
+            yield [(0, last, c, c + 1, -900, 900) if c % 8 else (0, last, -900, 900, c + c % 3, c + c % 3 + 1) for c in low]
+        elif shape == 5:  # moments, each led to from all moments up to one of its own
+            yield [(0, rng.randint(last // 2, last), u, u, -900, 900) for u in rng.sample(range(2 * count), count)]
+        elif shape == 6:  # each of some zones more than once
+            zones = [crowded_zone(rng, last) for _ in range(count // 4)]
+            yield zones + [rng.choice(zones) for _ in range(3 * count // 4)]
+        else:  # wide ones
+            yield [(0, last, k, k + rng.randint(0, 40), -900, rng.randint(k, 900)) for k in range(count)]
+
+
+def most_active(zones):
+    """How many zones have pairs at the departure at which most do."""
+    spans = [(min(pairs)[0], max(pairs)[0]) for pairs in map(pairs_of, zones) if pairs]
+    return max(sum(a <= t <= b for a, b in spans) for t in range(16))
+
+
+def lists():
+    yield from cases()
+    for zones in crowded_lists(random.Random(13)):
+        assert 50 <= most_active(zones) <= 500
+        yield zones
+
+
 def main():
     with open("lists.txt", "w") as out:
-        for zones in cases():
+        for zones in lists():
             pairs = set().union(*[pairs_of(z) for z in zones]) if zones else set()
             bands = bands_of(pairs)
             check(pairs, bands)

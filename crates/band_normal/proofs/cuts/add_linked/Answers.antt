@@ -1,7 +1,7 @@
 use Rattle.std.proofs.Common.{◌≡◌, ◌++◌, List, ◌∙◌, subst}
 use Rattle.band_normal.specs.declared.band.Band.{Band}
 use Rattle.band_normal.specs.Zones.{SomeMeets}
-use Rattle.band_normal.proofs.Cutting.{both_strips, both_well, strips_own, linked_adds}
+use Rattle.band_normal.proofs.CutLemmas.{both_strips, both_well, strips_own, linked_adds}
 use Rattle.band_normal.proofs.cuts.add_linked.Goals as goal
 
 pub link-requires-clause-well_formed : goal.link-requires-clause-well_formed

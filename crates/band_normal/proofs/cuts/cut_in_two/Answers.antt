@@ -1,4 +1,4 @@
-use Rattle.band_normal.proofs.Cutting.{cut_is}
+use Rattle.band_normal.proofs.CutLemmas.{cut_is}
 use Rattle.band_normal.proofs.cuts.cut_in_two.Goals as goal
 
 pub returns : goal.returns

@@ -1,5 +1,5 @@
 use Rattle.std.proofs.Common.{◌≤ℤ◌, ◌<ℤ◌}
-use Rattle.band_normal.proofs.Cutting.{cut_more}
+use Rattle.band_normal.proofs.CutLemmas.{cut_more}
 use Rattle.band_normal.proofs.cuts.parts_at.Goals as goal
 
 pub loop-zone-preserved : goal.loop-zone-preserved

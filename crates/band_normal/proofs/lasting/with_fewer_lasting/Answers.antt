@@ -1,4 +1,4 @@
-use Rattle.band_normal.proofs.Cutting.{melted_hold}
+use Rattle.band_normal.proofs.CutLemmas.{melted_hold}
 use Rattle.band_normal.proofs.lasting.with_fewer_lasting.Goals as goal
 
 pub returns : goal.returns

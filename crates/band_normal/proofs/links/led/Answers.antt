@@ -2,7 +2,7 @@ use Rattle.std.proofs.Common.{refl, sym, subst, ◌∙◌}
 use Rattle.band_normal.specs.declared.band.Band.{Band}
 use Rattle.band_normal.specs.Rows.{Continues}
 use Rattle.band_normal.proofs.Prolonging.{not_true}
-use Rattle.band_normal.proofs.Linking.{some_one}
+use Rattle.band_normal.proofs.LinkSteps.{some_one}
 use Rattle.band_normal.proofs.links.led.Goals as goal
 
 pub returns-then-continues-clause-found : goal.returns-then-continues-clause-found

@@ -4,7 +4,7 @@ use Rattle.std.specs.List.Sorted.{IsPermutation}
 use Rattle.band_normal.specs.declared.band.Band.{Band}
 use Rattle.band_normal.specs.Links.{last_low_of}
 use Rattle.band_normal.proofs.Sweeping.{sorted_earlier}
-use Rattle.band_normal.proofs.Linked.{sorted_ends, can_link_sorted, ok_linked}
+use Rattle.band_normal.proofs.LinkLemmas.{sorted_ends, can_link_sorted, ok_linked}
 use Rattle.band_normal.proofs.links.link.Goals as goal
 
 pub linked-requires : goal.linked-requires

@@ -1,6 +1,6 @@
 use Rattle.band_normal.specs.Strips.{Holds}
 use Rattle.band_normal.proofs.WellFormed.{strip-well_formed}
-use Rattle.band_normal.proofs.Linked.{slot_formed, slot_follow}
+use Rattle.band_normal.proofs.LinkLemmas.{slot_formed, slot_follow}
 use Rattle.band_normal.proofs.links.link_strip.Goals as goal
 
 pub corner_to_continue-requires : goal.corner_to_continue-requires

@@ -1,6 +1,6 @@
 use Rattle.std.proofs.lemmas.List.{take_all}
 use Rattle.band_normal.specs.Strips.{Holds}
-use Rattle.band_normal.proofs.Linked.{can_link, linking_more, linking_end}
+use Rattle.band_normal.proofs.LinkLemmas.{can_link, linking_more, linking_end}
 use Rattle.band_normal.proofs.links.linked.Goals as goal
 
 pub link_strip-requires : goal.link_strip-requires

@@ -1,6 +1,6 @@
 use Rattle.std.proofs.Common.{take}
 use Rattle.band_normal.specs.Strips.{Holds}
-use Rattle.band_normal.proofs.Linking.{AreLinking}
+use Rattle.band_normal.proofs.LinkSteps.{AreLinking}
 use Rattle.band_normal.proofs.links.linked.Given as goal
 
 abbrev pub ghost-link_strip : goal.ghost-link_strip

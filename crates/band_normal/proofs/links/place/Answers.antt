@@ -1,6 +1,6 @@
 use Rattle.std.proofs.Common.{refl, arith}
 use Rattle.band_normal.proofs.Prolonging.{not_true}
-use Rattle.band_normal.proofs.Linked.{half_before, half_after}
+use Rattle.band_normal.proofs.LinkLemmas.{half_before, half_after}
 use Rattle.band_normal.proofs.links.place.Goals as goal
 
 pub loop-from-preserved-then-ends_before : goal.loop-from-preserved-then-ends_before

@@ -1,4 +1,4 @@
-use Rattle.band_normal.proofs.Linked.{rows_more}
+use Rattle.band_normal.proofs.LinkLemmas.{rows_more}
 use Rattle.band_normal.proofs.links.rows_linked.Goals as goal
 
 pub loop-row-preserved : goal.loop-row-preserved

@@ -3,7 +3,7 @@ use Rattle.zone_core.specs.declared.Bounds.{Bounds}
 use Rattle.band_normal.specs.Lists.{Ordered}
 use Rattle.band_normal.specs.Zones.{SomeMeets}
 use Rattle.band_normal.specs.Parts.{BeginsNoLater}
-use Rattle.band_normal.proofs.Parting.{only_adds, rows_added, parting_start, parting_step, parting_end, none_left}
+use Rattle.band_normal.proofs.PartLemmas.{only_adds, rows_added, parting_start, parting_step, parting_end, none_left}
 use Rattle.band_normal.proofs.parts.+add_parted.Goals as goal
 
 pub loop-left-init : goal.loop-left-init

@@ -1,5 +1,5 @@
 use Rattle.std.proofs.Common.{length, ◌+◌, ◌*◌}
-use Rattle.band_normal.proofs.Parting.{IsParting}
+use Rattle.band_normal.proofs.PartLemmas.{IsParting}
 use Rattle.band_normal.proofs.parts.+add_parted.Given as goal
 
 abbrev pub invariant-loop-left : goal.invariant-loop-left

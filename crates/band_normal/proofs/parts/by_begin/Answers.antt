@@ -3,7 +3,7 @@ use Rattle.std.specs.List.Sorted.{IsPermutation}
 use Rattle.std.proofs.lemmas.Fn.{always_returns_same}
 use Rattle.zone_core.specs.declared.Bounds.{Bounds}
 use Rattle.band_normal.specs.Parts.{begin_of}
-use Rattle.band_normal.proofs.Parting.{sorted_begins, some-permutation}
+use Rattle.band_normal.proofs.PartLemmas.{sorted_begins, some-permutation}
 use Rattle.band_normal.proofs.parts.by_begin.Goals as goal
 
 pub returns-clause-order : goal.returns-clause-order

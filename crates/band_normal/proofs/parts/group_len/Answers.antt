@@ -2,7 +2,7 @@ use Rattle.std.proofs.Common.{refl, sym, subst, ℤ, ◌≡◌, ◌≤ℤ◌, ar
 use Rattle.std.proofs.lemmas.Int.{ints}
 use Rattle.zone_core.specs.Zone.{Within, difference_reach}
 use Rattle.band_normal.specs.Parts.{end_of}
-use Rattle.band_normal.proofs.Parting.{reached_more, group_apart}
+use Rattle.band_normal.proofs.PartLemmas.{reached_more, group_apart}
 use Rattle.band_normal.proofs.parts.group_len.Goals as goal
 
 pub returns-then-is_above-clause-apart : goal.returns-then-is_above-clause-apart

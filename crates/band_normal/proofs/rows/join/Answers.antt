@@ -4,7 +4,7 @@ use Rattle.band_normal.specs.declared.strips.Ends.{Ends}
 use Rattle.band_normal.specs.Lists.{Among}
 use Rattle.band_normal.specs.Strips.{Holds, AreRuns}
 use Rattle.band_normal.proofs.Lists.{append_second}
-use Rattle.band_normal.proofs.Lining.{lining_start, waiting_formed, strip_formed, waiting_next, lined_follow, lining_step, lining_rows, lining_line}
+use Rattle.band_normal.proofs.LineLemmas.{lining_start, waiting_formed, strip_formed, waiting_next, lined_follow, lining_step, lining_rows, lining_line}
 use Rattle.band_normal.proofs.rows.join.Goals as goal
 
 pub loop-ends-init : goal.loop-ends-init

@@ -1,5 +1,5 @@
 use Rattle.band_normal.specs.Strips.{Holds}
-use Rattle.band_normal.proofs.Lining.{AreLining}
+use Rattle.band_normal.proofs.LineLemmas.{AreLining}
 use Rattle.band_normal.proofs.rows.join.Given as goal
 
 abbrev pub ghost-with_strip : goal.ghost-with_strip

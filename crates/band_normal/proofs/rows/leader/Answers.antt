@@ -1,4 +1,4 @@
-use Rattle.band_normal.proofs.Lining.{first_in}
+use Rattle.band_normal.proofs.LineLemmas.{first_in}
 use Rattle.band_normal.proofs.rows.leader.Goals as goal
 
 pub continues-requires-clause-row_formed : goal.continues-requires-clause-row_formed

@@ -4,7 +4,7 @@ use Rattle.band_normal.specs.declared.band.Band.{Band}
 use Rattle.band_normal.specs.Rows.{IsUnder}
 use Rattle.band_normal.proofs.Lists.{among_at}
 use Rattle.band_normal.proofs.Prolonging.{not_true}
-use Rattle.band_normal.proofs.Lining.{under_more}
+use Rattle.band_normal.proofs.LineLemmas.{under_more}
 use Rattle.band_normal.proofs.rows.under_count.Goals as goal
 
 pub is_under-requires-clause-row_formed : goal.is_under-requires-clause-row_formed

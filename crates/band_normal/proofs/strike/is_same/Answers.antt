@@ -1,6 +1,6 @@
 use Rattle.std.proofs.Common.{◌≡◌, arith}
 use Rattle.std.proofs.lemmas.Int.{ints}
-use Rattle.band_normal.proofs.Striking.{band_same, same_band}
+use Rattle.band_normal.proofs.StrikeLemmas.{band_same, same_band}
 use Rattle.band_normal.proofs.strike.is_same.Goals as goal
 
 pub returns : goal.returns

@@ -1,5 +1,5 @@
 use Rattle.std.proofs.Common.{refl}
-use Rattle.band_normal.proofs.Striking.{striking_both, striking_left, striking_right, striking_end}
+use Rattle.band_normal.proofs.StrikeLemmas.{striking_both, striking_left, striking_right, striking_end}
 use Rattle.band_normal.proofs.strike.struck.Goals as goal
 
 pub loop-row-preserved-then-is_same : goal.loop-row-preserved-then-is_same

@@ -1,5 +1,5 @@
 use Rattle.std.proofs.Common.{◌+◌, length}
-use Rattle.band_normal.proofs.Striking.{AreStriking}
+use Rattle.band_normal.proofs.StrikeLemmas.{AreStriking}
 use Rattle.band_normal.proofs.strike.struck.Given as goal
 
 abbrev pub invariant-loop-row : goal.invariant-loop-row

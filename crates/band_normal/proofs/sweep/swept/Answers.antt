@@ -5,7 +5,7 @@ use Rattle.band_normal.specs.Lists.{Among, Ordered}
 use Rattle.band_normal.specs.Strips.{BeginsEarlier}
 use Rattle.band_normal.proofs.Lists.{permutation_among}
 use Rattle.band_normal.proofs.Sweeping.{sorted_earlier}
-use Rattle.band_normal.proofs.Parting.{can_sweep, rows_swept}
+use Rattle.band_normal.proofs.PartLemmas.{can_sweep, rows_swept}
 use Rattle.band_normal.proofs.sweep.swept.Goals as goal
 
 pub departures-requires-clause-well_formed : goal.departures-requires-clause-well_formed

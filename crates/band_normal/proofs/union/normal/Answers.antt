@@ -8,7 +8,7 @@ use Rattle.band_normal.specs.Bands.{IsWellFormed}
 use Rattle.band_normal.specs.Normal.{Normal}
 use Rattle.band_normal.specs.Zones.{SomeMeets}
 use Rattle.band_normal.proofs.Sorting.{normal_like}
-use Rattle.band_normal.proofs.Parting.{first_adds, can_order, ok_ordered, ok_formed}
+use Rattle.band_normal.proofs.PartLemmas.{first_adds, can_order, ok_ordered, ok_formed}
 use Rattle.band_normal.proofs.union.normal.Goals as goal
 
 -- the bands of the one zone of a list are all there is

@@ -1,6 +1,6 @@
 use Rattle.std.proofs.lemmas.List.{take_all}
 use Rattle.band_normal.proofs.Lists.{among_at}
-use Rattle.band_normal.proofs.Parting.{zones_more}
+use Rattle.band_normal.proofs.PartLemmas.{zones_more}
 use Rattle.band_normal.proofs.zones.zones_of.Goals as goal
 
 pub zone_of-requires : goal.zone_of-requires

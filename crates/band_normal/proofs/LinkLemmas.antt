@@ -25,9 +25,9 @@ use Rattle.band_normal.proofs.Unique.{same_run, continued_one, end_steps}
 use Rattle.band_normal.proofs.WellFormed.{strip-well_formed, held-in_range}
 use Rattle.band_normal.proofs.Sweeping.{holds-permutation}
 use Rattle.band_normal.proofs.Far.{all_like}
-use Rattle.band_normal.proofs.Cutting.{strips_own}
+use Rattle.band_normal.proofs.CutLemmas.{strips_own}
 use Rattle.band_normal.proofs.Sorting.{BeginAlike, alike, same, test_fails, fails_test, alike-flip, first_low-is, not_after}
-use Rattle.band_normal.proofs.Linking.{IsOpen, AreLinking, last_pair, some_one, not_none, lt_or_eq, linking_step}
+use Rattle.band_normal.proofs.LinkSteps.{IsOpen, AreLinking, last_pair, some_one, not_none, lt_or_eq, linking_step}
 
 -- what the full places hold
 pub present_at : (os : List (Option Band)) (b : Band) → Among (present os) b → (k : ℕ) × IsOpen os k b
