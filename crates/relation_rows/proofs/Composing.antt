@@ -9,12 +9,9 @@ use Rattle.band_normal.proofs.Lists.{among_append, append_ordered}
 use Rattle.relation_rows.specs.declared.rows.Row.{Row}
 use Rattle.relation_rows.specs.declared.rows.RelFault.{RelFault}
 use Rattle.relation_rows.specs.declared.rows.RelFault.TheVariants.{Memory, Wide}
-use Rattle.relation_rows.specs.declared.timetable.Stop.{Stop}
-use Rattle.relation_rows.specs.Rows.{between, RowsHold, RowBefore, NormalRows, IsWide}
+use Rattle.relation_rows.specs.Rows.{between, RowBefore, NormalRows, IsWide}
 use Rattle.relation_rows.specs.Answers.{Gives}
 use Rattle.relation_rows.specs.Relations.{Item, ItemsHold, HasMiddlePoint}
-use Rattle.relation_rows.specs.Timetables.{StopsHold}
-use Rattle.relation_rows.specs.Ways.{AllGoOn}
 use Rattle.relation_rows.proofs.Listed.{Listed, join, goes_further, normal_of, listed_of, carried, row_apart, ordered_fewer}
 use Rattle.relation_rows.proofs.Alike.{row_alike, rows_alike, row_start, in_relation}
 use Rattle.relation_rows.proofs.Keeping.{kept_exists, kept_normal}
@@ -55,15 +52,15 @@ abbrev pub IsEarlier : List Row → ℕ → Type 0
 IsEarlier left o = (r : Row) → Among left r → o < r.source.0
 
 -- the rows are those of all ways but the ones that begin with a row that is left
-pub record HasComposed (rows : List Row) (stops : List Stop) (left done : List Row) : Type 0 where
-  pub listed : Listed (AllGoOn rows stops) (λ (o p : ℕ). IsEarlier left o) done
+pub record HasComposed (rows : List Row) (second : List Row) (left done : List Row) : Type 0 where
+  pub listed : Listed (HasMiddlePoint rows second) (λ (o p : ℕ). IsEarlier left o) done
   pub formed : (r : Row) → Among done r → IsWellFormed r.band
   pub order : Ordered RowBefore left
   pub there : (r : Row) → Among left r → Among rows r
   pub each : (r : Row) → Among rows r → IsEarlier left r.source.0 ⊎ Among left r
 
-pub start : (rows : List Row) (stops : List Stop) → Ordered RowBefore rows → HasComposed rows stops rows []
-start rows stops o = record {
+pub start : (rows : List Row) (second : List Row) → Ordered RowBefore rows → HasComposed rows second rows []
+start rows second o = record {
   listed = record {
     whole = λ x y k h. absurd (let w = h.1 in let i = w.2 in let e = i.source in let l = k w.0 w.1 in omega arith);
     keys = λ r i. absurd i;
@@ -77,11 +74,11 @@ start rows stops o = record {
   each = λ r a. inr a;
 }
 
-module _ (rows : List Row) (stops : List Stop) (left done : List Row) (g : HasComposed rows stops left done) (first : Row) (is : Some first ≡ slice_get left 0) (n : ℕ)
+module _ (rows : List Row) (second : List Row) (left done : List Row) (g : HasComposed rows second left done) (first : Row) (is : Some first ≡ slice_get left 0) (n : ℕ)
     (same : (r : Row) → Among (take n left) r → r.source.0 ≡ first.source.0)
     (behind : (r : Row) → Among (drop n left) r → first.source.0 < r.source.0)
     (group later : List Row) (front : group ≡ take n left) (back : later ≡ drop n left)
-    (items : List Item) (ways : (x y : Point) → ItemsHold items x y ↔ AllGoOn group stops x y) where
+    (items : List Item) (ways : (x y : Point) → ItemsHold items x y ↔ HasMiddlePoint group second x y) where
   abbrev o : ℕ
   o = first.source.0
 
@@ -101,7 +98,7 @@ module _ (rows : List Row) (stops : List Stop) (left done : List Row) (g : HasCo
   either r a = ⊎_elim (λ b. inl (subst (λ (v : List Row). Among v r) (sym front) b)) (λ b. inr (subst (λ (v : List Row). Among v r) (sym back) b)) (among_either left n r a)
 
   -- the items are what leads from the source
-  pub cut : (x y : Point) → ItemsHold items x y ↔ (AllGoOn rows stops x y × (x.object ≡ o))
+  pub cut : (x y : Point) → ItemsHold items x y ↔ (HasMiddlePoint rows second x y × (x.object ≡ o))
   cut x y = (
     λ h.
         let w = (ways x y).0 h in
@@ -117,10 +114,10 @@ module _ (rows : List Row) (stops : List Stop) (left done : List Row) (g : HasCo
   )
 
   module _ (more : List Row) (normal : NormalRows (ItemsHold items) more) (formed : (r : Row) → Among more r → IsWellFormed r.band) (next : List Row) (e : next ≡ done ++ more) where
-    pub next_composed : HasComposed rows stops later next
-    next_composed = subst (λ (v : List Row). HasComposed rows stops later v) (sym e) (record {
-      listed = goes_further (AllGoOn rows stops) (λ (q r : ℕ). IsEarlier left q ⊎ (q ≡ o)) (λ (q r : ℕ). IsEarlier later q) (done ++ more)
-          (join (AllGoOn rows stops) (λ (q r : ℕ). IsEarlier left q) (λ (q r : ℕ). q ≡ o) done more g.listed (at_source (AllGoOn rows stops) (ItemsHold items) o cut more normal)
+    pub next_composed : HasComposed rows second later next
+    next_composed = subst (λ (v : List Row). HasComposed rows second later v) (sym e) (record {
+      listed = goes_further (HasMiddlePoint rows second) (λ (q r : ℕ). IsEarlier left q ⊎ (q ≡ o)) (λ (q r : ℕ). IsEarlier later q) (done ++ more)
+          (join (HasMiddlePoint rows second) (λ (q r : ℕ). IsEarlier left q) (λ (q r : ℕ). q ≡ o) done more g.listed (at_source (HasMiddlePoint rows second) (ItemsHold items) o cut more normal)
           (λ q r s t k f. inl (let l = k first head in omega arith)))
           (λ q r k. ⊎_elim (λ a s b. a s (later_left s b)) (λ f s b. let l = behind_later s b in omega arith) k)
           (λ x y h k.
@@ -140,10 +137,10 @@ module _ (rows : List Row) (stops : List Stop) (left done : List Row) (g : HasCo
           (g.each r a);
     })
 
-  pub too_wide : (limit : ℕ) → length done ≤ limit → IsWide (ItemsHold items) (limit - length done) → IsWide (AllGoOn rows stops) limit
-  too_wide limit few wide = wide_after (AllGoOn rows stops) (ItemsHold items) (λ (q r : ℕ). IsEarlier left q) o cut done g.listed (λ q r k. k first head) limit few wide
+  pub too_wide : (limit : ℕ) → length done ≤ limit → IsWide (ItemsHold items) (limit - length done) → IsWide (HasMiddlePoint rows second) limit
+  too_wide limit few wide = wide_after (HasMiddlePoint rows second) (ItemsHold items) (λ (q r : ℕ). IsEarlier left q) o cut done g.listed (λ q r k. k first head) limit few wide
 
-  pub fault_after : (limit count : ℕ) → length done ≤ limit → count ≡ length done → (fault : RelFault) → Gives (Err fault) (ItemsHold items) (limit - count) → Gives (Err fault) (AllGoOn rows stops) limit
+  pub fault_after : (limit count : ℕ) → length done ≤ limit → count ≡ length done → (fault : RelFault) → Gives (Err fault) (ItemsHold items) (limit - count) → Gives (Err fault) (HasMiddlePoint rows second) limit
   fault_after limit count few e Memory h = tt
   fault_after limit count few e Wide h = too_wide limit few (subst (λ (v : ℕ). IsWide (ItemsHold items) (limit - v)) e h)
 
@@ -154,17 +151,10 @@ no_first : (left : List Row) → None ≡ slice_get left 0 → left ≡ []
 no_first [] e = refl
 no_first (i ∷ is) e = let none : ⊥ = cc in absurd none
 
-pub all_composed : (rows : List Row) (stops : List Stop) (left done : List Row) → None ≡ slice_get left 0 → HasComposed rows stops left done → NormalRows (AllGoOn rows stops) done
-all_composed rows stops left done none g =
+pub all_composed : (rows : List Row) (second : List Row) (left done : List Row) → None ≡ slice_get left 0 → HasComposed rows second left done → NormalRows (HasMiddlePoint rows second) done
+all_composed rows second left done none g =
     let e = no_first left none in
-    normal_of (AllGoOn rows stops) (λ (o p : ℕ). IsEarlier left o) done g.listed (λ x y h r a. absurd (subst (λ (v : List Row). Among v r) e a))
+    normal_of (HasMiddlePoint rows second) (λ (o p : ℕ). IsEarlier left o) done g.listed (λ x y h r a. absurd (subst (λ (v : List Row). Among v r) e a))
 
--- what goes on by the stops of a list's rows is what has a middle point
-pub middle_of : (first second : List Row) (stops : List Stop) → ((x y : Point) → StopsHold stops x y ↔ RowsHold second x y) → (x y : Point) → AllGoOn first stops x y → HasMiddlePoint first second x y
-middle_of first second stops same x y h = (h.0, h.1, (same h.0 y).0 h.2)
-
-pub of_middle : (first second : List Row) (stops : List Stop) → ((x y : Point) → StopsHold stops x y ↔ RowsHold second x y) → (x y : Point) → HasMiddlePoint first second x y → AllGoOn first stops x y
-of_middle first second stops same x y h = (h.0, h.1, (same h.0 y).1 h.2)
-
-pub group_formed : (rows : List Row) (stops : List Stop) (left done : List Row) → HasComposed rows stops left done → (n : ℕ) (group : List Row) → group ≡ take n left → ((r : Row) → Among rows r → IsWellFormed r.band) → (r : Row) → Among group r → IsWellFormed r.band
-group_formed rows stops left done g n group e formed r a = formed r (g.there r (front_among left n r (subst (λ (v : List Row). Among v r) e a)))
+pub group_formed : (rows : List Row) (second : List Row) (left done : List Row) → HasComposed rows second left done → (n : ℕ) (group : List Row) → group ≡ take n left → ((r : Row) → Among rows r → IsWellFormed r.band) → (r : Row) → Among group r → IsWellFormed r.band
+group_formed rows second left done g n group e formed r a = formed r (g.there r (front_among left n r (subst (λ (v : List Row). Among v r) e a)))

@@ -7,15 +7,15 @@ use Rattle.itpg_base.specs.Points.{Point}
 use Rattle.zone_core.specs.declared.Bounds.{Bounds}
 use Rattle.zone_core.specs.Zone.{Meets, Holds, IsZoneOf}
 use Rattle.zone_compose.specs.Compose.{HasMiddle, AreArrivals}
-use Rattle.band_normal.specs.Lists.{Among}
+use Rattle.band_normal.specs.Lists.{Among, Ordered}
 use Rattle.band_normal.specs.Bands.{InBand, IsWellFormed}
 use Rattle.band_normal.proofs.Lists.{among_append, append_first, append_second, among_at}
 use Rattle.relation_rows.specs.declared.rows.Row.{Row}
 use Rattle.relation_rows.specs.declared.timetable.Stop.{Stop}
-use Rattle.relation_rows.specs.Rows.{InRow, RowsHold}
-use Rattle.relation_rows.specs.Relations.{Item, ItemsHold}
+use Rattle.relation_rows.specs.Rows.{InRow, RowsHold, RowBefore}
+use Rattle.relation_rows.specs.Relations.{Item, ItemsHold, HasMiddlePoint}
 use Rattle.relation_rows.specs.Timetables.{DepartsWithin}
-use Rattle.relation_rows.specs.Ways.{ItemThere, GoesOn, AllGoOn}
+use Rattle.relation_rows.specs.Ways.{ItemThere, GoesOn, GoesOnBy, AreComposed}
 use Rattle.relation_rows.proofs.Pushing.{items_more, rows_more}
 
 -- an item is pushed where its zone is there
@@ -36,12 +36,12 @@ holds_there source target None x y e f h = absurd h
 holds_there source target (Some z) x y e f h = record { source = e; target = f; pair = h }
 
 module _ (row : Row) (zone : Bounds) (is : (t u : ℤ) → Meets zone t u ↔ InBand row.band t u) where
-  -- the ways by one stop
-  pub one_way : (s : Stop) (second : Bounds) → ((t u : ℤ) → Meets second t u ↔ InBand s.row.band t u) → s.row.source.0 ≡ row.target.0 → (way : Option Bounds) → IsZoneOf (HasMiddle zone second) way
-      → (x y : Point) → ItemThere row.source s.row.target way x y ↔ ((m : Point) × InRow row x m × InRow s.row m y)
+  -- the ways by one row
+  pub one_way : (s : Row) (second : Bounds) → ((t u : ℤ) → Meets second t u ↔ InBand s.band t u) → s.source.0 ≡ row.target.0 → (way : Option Bounds) → IsZoneOf (HasMiddle zone second) way
+      → (x y : Point) → ItemThere row.source s.target way x y ↔ ((m : Point) × InRow row x m × InRow s m y)
   one_way s second its same way of x y = (
     λ h.
-        let k = there_holds row.source s.row.target way x y h in
+        let k = there_holds row.source s.target way x y h in
         let w = ((of.pairs x.moment y.moment).0 k.2) in (
           record { object = row.target.0; moment = w.middle },
           record { source = k.0; target = refl; pair = (is x.moment w.middle).0 w.left },
@@ -49,30 +49,54 @@ module _ (row : Row) (zone : Bounds) (is : (t u : ℤ) → Meets zone t u ↔ In
         ),
     λ h.
         let a = h.1 in let b = h.2 in
-        holds_there row.source s.row.target way x y a.source b.target
+        holds_there row.source s.target way x y a.source b.target
         ((of.pairs x.moment y.moment).1 (record { middle = (h.0).moment; left = (is x.moment (h.0).moment).1 a.pair; right = (its (h.0).moment y.moment).1 b.pair })),
   )
+
+  -- one more row
+  pub next_more : (items now next : List Item) (here : List Row) (k : ℕ) (d : Row) → k < length here
+      → (second : Bounds) → ((t u : ℤ) → Meets second t u ↔ InBand (slice_index_or here k d).band t u) → (slice_index_or here k d).source.0 ≡ row.target.0 → (way : Option Bounds) → IsZoneOf (HasMiddle zone second) way
+      → ((x y : Point) → ItemsHold next x y ↔ (ItemsHold now x y ⊎ ItemThere row.source (slice_index_or here k d).target way x y))
+      → ((x y : Point) → ItemsHold now x y ↔ (ItemsHold items x y ⊎ GoesOn row (take k here) x y))
+      → (x y : Point) → ItemsHold next x y ↔ (ItemsHold items x y ⊎ GoesOn row (take (k + 1) here) x y)
+  next_more items now next here k d lt second its same way of pushed old x y =
+      let one = one_way (slice_index_or here k d) second its same way of x y in (
+        λ h. ⊎_elim
+            (λ a. ⊎_elim
+            (λ b. inl b)
+            (λ (b : GoesOn row (take k here) x y). inr (b.0, b.1, (rows_more here k d lt b.0 y).1 (inl b.2)))
+            ((old x y).0 a))
+            (λ a. let w = one.0 a in inr (w.0, w.1, (rows_more here k d lt w.0 y).1 (inr w.2)))
+            ((pushed x y).0 h),
+        λ h. ⊎_elim
+            (λ a. (pushed x y).1 (inl ((old x y).1 (inl a))))
+            (λ (b : GoesOn row (take (k + 1) here) x y). ⊎_elim
+            (λ c. (pushed x y).1 (inl ((old x y).1 (inr (b.0, b.1, c)))))
+            (λ c. (pushed x y).1 (inr (one.1 (b.0, b.1, c))))
+            ((rows_more here k d lt b.0 y).0 b.2))
+            h,
+      )
 
   -- one more stop
   pub stop_more : (items now next : List Item) (stops : List Stop) (k : ℕ) (d : Stop) → k < length stops
       → (second : Bounds) → ((t u : ℤ) → Meets second t u ↔ InBand (slice_index_or stops k d).row.band t u) → (slice_index_or stops k d).row.source.0 ≡ row.target.0 → (way : Option Bounds) → IsZoneOf (HasMiddle zone second) way
       → ((x y : Point) → ItemsHold next x y ↔ (ItemsHold now x y ⊎ ItemThere row.source (slice_index_or stops k d).row.target way x y))
-      → ((x y : Point) → ItemsHold now x y ↔ (ItemsHold items x y ⊎ GoesOn row (take k stops) x y))
-      → (x y : Point) → ItemsHold next x y ↔ (ItemsHold items x y ⊎ GoesOn row (take (k + 1) stops) x y)
+      → ((x y : Point) → ItemsHold now x y ↔ (ItemsHold items x y ⊎ GoesOnBy row (take k stops) x y))
+      → (x y : Point) → ItemsHold next x y ↔ (ItemsHold items x y ⊎ GoesOnBy row (take (k + 1) stops) x y)
   stop_more items now next stops k d lt second its same way of pushed old x y =
       let s : Stop = slice_index_or stops k d in
       let e = take_more stops k d lt in
-      let one = one_way (slice_index_or stops k d) second its same way of x y in (
+      let one = one_way (slice_index_or stops k d).row second its same way of x y in (
         λ h. ⊎_elim
             (λ a. ⊎_elim
             (λ b. inl b)
-            (λ (b : GoesOn row (take k stops) x y). let g = b.2 in inr (b.0, b.1, (g.0, subst (λ (v : List Stop). Among v g.0) (sym e) (append_first (take k stops) (s ∷ []) g.0 g.1), g.2)))
+            (λ (b : GoesOnBy row (take k stops) x y). let g = b.2 in inr (b.0, b.1, (g.0, subst (λ (v : List Stop). Among v g.0) (sym e) (append_first (take k stops) (s ∷ []) g.0 g.1), g.2)))
             ((old x y).0 a))
             (λ a. let w = one.0 a in inr (w.0, w.1, (s, subst (λ (v : List Stop). Among v s) (sym e) (append_second (take k stops) (s ∷ []) s (inl refl)), w.2)))
             ((pushed x y).0 h),
         λ h. ⊎_elim
             (λ a. (pushed x y).1 (inl ((old x y).1 (inl a))))
-            (λ (b : GoesOn row (take (k + 1) stops) x y).
+            (λ (b : GoesOnBy row (take (k + 1) stops) x y).
             let g = b.2 in
             ⊎_elim
             (λ c. (pushed x y).1 (inl ((old x y).1 (inr (b.0, b.1, (g.0, c, g.2))))))
@@ -84,17 +108,17 @@ module _ (row : Row) (zone : Bounds) (is : (t u : ℤ) → Meets zone t u ↔ In
   -- the stops found are all by which the row goes on
   module _ (stops found : List Stop) (first last : ℤ) (span : AreArrivals zone first last)
       (are : (s : Stop) → Among found s ↔ (Among stops s × DepartsWithin s row.target.0 first last)) where
-    pub all_ways : (items now : List Item) (k : ℕ) → length found ≤ k → ((x y : Point) → ItemsHold now x y ↔ (ItemsHold items x y ⊎ GoesOn row (take k found) x y))
-        → (x y : Point) → ItemsHold now x y ↔ (ItemsHold items x y ⊎ GoesOn row stops x y)
+    pub all_ways : (items now : List Item) (k : ℕ) → length found ≤ k → ((x y : Point) → ItemsHold now x y ↔ (ItemsHold items x y ⊎ GoesOnBy row (take k found) x y))
+        → (x y : Point) → ItemsHold now x y ↔ (ItemsHold items x y ⊎ GoesOnBy row stops x y)
     all_ways items now k le old x y =
         let e = take_all k found le in (
           λ h. ⊎_elim
               (λ a. inl a)
-              (λ (b : GoesOn row (take k found) x y). let g = b.2 in inr (b.0, b.1, (g.0, ((are g.0).0 (subst (λ (v : List Stop). Among v g.0) e g.1)).0, g.2)))
+              (λ (b : GoesOnBy row (take k found) x y). let g = b.2 in inr (b.0, b.1, (g.0, ((are g.0).0 (subst (λ (v : List Stop). Among v g.0) e g.1)).0, g.2)))
               ((old x y).0 h),
           λ h. ⊎_elim
               (λ a. (old x y).1 (inl a))
-              (λ (b : GoesOn row stops x y).
+              (λ (b : GoesOnBy row stops x y).
               let g = b.2 in
               let i = b.1 in
               let j = g.2 in
@@ -108,18 +132,52 @@ module _ (row : Row) (zone : Bounds) (is : (t u : ℤ) → Meets zone t u ↔ In
               h,
         )
 
-pub no_ways : (row : Row) (items : List Item) (x y : Point) → ItemsHold items x y ↔ (ItemsHold items x y ⊎ GoesOn row [] x y)
-no_ways row items x y = (λ h. inl h, λ h. ⊎_elim (λ a. a) (λ (b : GoesOn row [] x y). absurd ((b.2).1)) h)
+pub no_ways : (row : Row) (items : List Item) (x y : Point) → ItemsHold items x y ↔ (ItemsHold items x y ⊎ GoesOnBy row [] x y)
+no_ways row items x y = (λ h. inl h, λ h. ⊎_elim (λ a. a) (λ (b : GoesOnBy row [] x y). absurd ((b.2).1)) h)
+
+-- no rows were read
+pub none_next : (row : Row) (items : List Item) (here : List Row) (x y : Point) → ItemsHold items x y ↔ (ItemsHold items x y ⊎ GoesOn row (take 0 here) x y)
+none_next row items here x y = (λ h. inl h, λ h. ⊎_elim (λ a. a) (λ (b : GoesOn row (take 0 here) x y). absurd (none here b.2)) h)
+  where
+    none : (xs : List Row) {m : Point} → RowsHold (take 0 xs) m y → ⊥
+    none [] h = h.1
+    none (z ∷ zs) h = h.1
+
+pub all_next : (row : Row) (items now : List Item) (here : List Row) (k : ℕ) → length here ≤ k → ((x y : Point) → ItemsHold now x y ↔ (ItemsHold items x y ⊎ GoesOn row (take k here) x y))
+    → (x y : Point) → ItemsHold now x y ↔ (ItemsHold items x y ⊎ GoesOn row here x y)
+all_next row items now here k le = subst (λ (v : List Row). (x y : Point) → ItemsHold now x y ↔ (ItemsHold items x y ⊎ GoesOn row v x y)) (take_all k here le)
+
+-- the rows from the row's target are all by which it goes on
+module _ (row : Row) (second here : List Row) (are : (r : Row) → Among here r ↔ (Among second r × (r.source.0 ≡ row.target.0))) (items next : List Item) where
+  pub by_rows_from : ((x y : Point) → ItemsHold next x y ↔ (ItemsHold items x y ⊎ GoesOn row here x y)) → (x y : Point) → ItemsHold next x y ↔ (ItemsHold items x y ⊎ GoesOn row second x y)
+  by_rows_from pushed x y = (
+    λ h. ⊎_elim (λ a. inl a) (λ (b : GoesOn row here x y). let g = b.2 in inr (b.0, b.1, (g.0, ((are g.0).0 g.1).0, g.2))) ((pushed x y).0 h),
+    λ h. (pushed x y).1 (⊎_elim (λ a. inl a) (λ (b : GoesOn row second x y). inr (b.0, b.1, from_target b.0 b.1 b.2)) h),
+  )
+    where
+      from_target : (m : Point) → InRow row x m → RowsHold second m y → RowsHold here m y
+      from_target m i g = let j = g.2 in (g.0, (are g.0).1 (g.1, j.source ∙ sym i.target), g.2)
+
+  -- and so are their stops, where there are many
+  pub by_busy : (busy : List Stop) → AreComposed second busy → Ordered RowBefore here → 8 < length here → ((x y : Point) → ItemsHold next x y ↔ (ItemsHold items x y ⊎ GoesOnBy row busy x y))
+      → (x y : Point) → ItemsHold next x y ↔ (ItemsHold items x y ⊎ GoesOn row second x y)
+  by_busy busy is order many pushed x y = (
+    λ h. ⊎_elim (λ a. inl a) (λ (b : GoesOnBy row busy x y). inr (b.0, b.1, is.there b.0 y b.2)) ((pushed x y).0 h),
+    λ h. (pushed x y).1 (⊎_elim (λ a. inl a) (λ (b : GoesOn row second x y). inr (b.0, b.1, is.all row.target.0 here (order, are) many b.0 y (from_target b.0 b.1 b.2))) h),
+  )
+    where
+      from_target : (m : Point) → InRow row x m → RowsHold second m y → RowsHold here m y
+      from_target m i g = let j = g.2 in (g.0, (are g.0).1 (g.1, j.source ∙ sym i.target), g.2)
 
 -- one more row
-pub row_more : (now next : List Item) (rows : List Row) (stops : List Stop) (k : ℕ) (d : Row) → k < length rows
-    → ((x y : Point) → ItemsHold next x y ↔ (ItemsHold now x y ⊎ GoesOn (slice_index_or rows k d) stops x y))
-    → ((x y : Point) → ItemsHold now x y ↔ AllGoOn (take k rows) stops x y)
-    → (x y : Point) → ItemsHold next x y ↔ AllGoOn (take (k + 1) rows) stops x y
-row_more now next rows stops k d lt pushed old x y = (
+pub row_more : (now next : List Item) (rows : List Row) (second : List Row) (k : ℕ) (d : Row) → k < length rows
+    → ((x y : Point) → ItemsHold next x y ↔ (ItemsHold now x y ⊎ GoesOn (slice_index_or rows k d) second x y))
+    → ((x y : Point) → ItemsHold now x y ↔ HasMiddlePoint (take k rows) second x y)
+    → (x y : Point) → ItemsHold next x y ↔ HasMiddlePoint (take (k + 1) rows) second x y
+row_more now next rows second k d lt pushed old x y = (
   λ h. ⊎_elim
       (λ a. let w = (old x y).0 a in (w.0, (rows_more rows k d lt x w.0).1 (inl w.1), w.2))
-      (λ (a : GoesOn (slice_index_or rows k d) stops x y). (a.0, (rows_more rows k d lt x a.0).1 (inr a.1), a.2))
+      (λ (a : GoesOn (slice_index_or rows k d) second x y). (a.0, (rows_more rows k d lt x a.0).1 (inr a.1), a.2))
       ((pushed x y).0 h),
   λ h. ⊎_elim
       (λ a. (pushed x y).1 (inl ((old x y).1 (h.0, a, h.2))))
@@ -127,15 +185,15 @@ row_more now next rows stops k d lt pushed old x y = (
       ((rows_more rows k d lt x h.0).0 h.1),
 )
 
-pub no_rows : (items : List Item) (rows : List Row) (stops : List Stop) → items ≡ [] → (x y : Point) → ItemsHold items x y ↔ AllGoOn (take 0 rows) stops x y
-no_rows items rows stops e x y = (λ h. absurd (subst (λ (v : List Item). ItemsHold v x y) e h).1, λ h. absurd (none rows h.1))
+pub no_rows : (items : List Item) (rows : List Row) (second : List Row) → items ≡ [] → (x y : Point) → ItemsHold items x y ↔ HasMiddlePoint (take 0 rows) second x y
+no_rows items rows second e x y = (λ h. absurd (subst (λ (v : List Item). ItemsHold v x y) e h).1, λ h. absurd (none rows h.1))
   where
     none : (xs : List Row) {x y : Point} → RowsHold (take 0 xs) x y → ⊥
     none [] h = h.1
     none (z ∷ zs) h = h.1
 
-pub every_row : (items : List Item) (rows : List Row) (stops : List Stop) (k : ℕ) → length rows ≤ k → ((x y : Point) → ItemsHold items x y ↔ AllGoOn (take k rows) stops x y) → (x y : Point) → ItemsHold items x y ↔ AllGoOn rows stops x y
-every_row items rows stops k le = subst (λ (v : List Row). (x y : Point) → ItemsHold items x y ↔ AllGoOn v stops x y) (take_all k rows le)
+pub every_row : (items : List Item) (rows : List Row) (second : List Row) (k : ℕ) → length rows ≤ k → ((x y : Point) → ItemsHold items x y ↔ HasMiddlePoint (take k rows) second x y) → (x y : Point) → ItemsHold items x y ↔ HasMiddlePoint rows second x y
+every_row items rows second k le = subst (λ (v : List Row). (x y : Point) → ItemsHold items x y ↔ HasMiddlePoint v second x y) (take_all k rows le)
 
 pub stop_formed : (stops found : List Stop) (k : ℕ) (d : Stop) → k < length found → ((s : Stop) → Among found s → Among stops s) → ((s : Stop) → Among stops s → IsWellFormed s.row.band) → IsWellFormed (slice_index_or found k d).row.band
 stop_formed stops found k d lt there formed = formed (slice_index_or found k d) (there (slice_index_or found k d) (among_at found k d lt))

@@ -1,12 +1,12 @@
 -- The zones of items, one after the other.
-use Rattle.std.proofs.Common.{◌≡◌, ◌↔◌, ◌⊎◌, inl, inr, ⊎_elim, ℕ, zero, suc, ◌+◌, ◌<◌, ◌≤◌, ℤ, List, [], ◌∷◌, ◌++◌, length, map, slice_index_or, take, Option, Some, refl, sym, ◌∙◌, ap, subst}
+use Rattle.std.proofs.Common.{◌≡◌, ◌↔◌, ◌⊎◌, inl, inr, ⊎_elim, ℕ, zero, suc, ◌+◌, ◌<◌, ◌≤◌, ℤ, List, [], ◌∷◌, ◌++◌, length, map, slice_index_or, take, Some, refl, sym, ◌∙◌, ap, subst}
 use Rattle.std.specs.Prelude.{slice_get}
 use Rattle.std.proofs.lemmas.List.{take_more, take_all}
 use Rattle.zone_core.specs.declared.Bounds.{Bounds}
 use Rattle.zone_core.specs.Zone.{Meets}
 use Rattle.band_normal.specs.Zones.{SomeMeets}
 use Rattle.relation_rows.specs.Relations.{Item}
-use Rattle.relation_rows.proofs.Leaving.{meets_more, none_meets}
+use Rattle.relation_rows.proofs.Leaving.{meets_more}
 
 abbrev pub zone_of_item : Item → Bounds
 zone_of_item i = i.2

@@ -1,14 +1,22 @@
--- The first rows of a list in order that have one source.
-use Rattle.std.proofs.Common.{◌≡◌, inl, inr, ⊎_elim, ℕ, ◌<◌, ◌≤◌, List, length, get_or, take, drop, Some, refl, sym, ◌∙◌, subst, arith, Bool, true, false, true≢false}
-use Rattle.std.specs.Prelude.{slice_get, ◌==◌}
+-- The first rows of a list in order that have one source, all that have one, and those of busy sources.
+use Rattle.std.proofs.Common.{◌≡◌, ◌↔◌, ◌⊎◌, inl, inr, ⊎_elim, ℕ, ◌-◌, ◌<◌, ◌≤◌, List, [], ◌∷◌, ◌++◌, length, get_or, take, drop, Some, None, refl, sym, ◌∙◌, subst, arith, Bool, true, false, true≢false}
+use Rattle.std.specs.Prelude.{slice_get, ◌==◌, nat_lt}
 use Rattle.std.specs.List.Sorted.{IsPartitionedBy, IsPartitionPoint}
-use Rattle.std.proofs.lemmas.Bool.Decides.{eqb_tells}
+use Rattle.std.proofs.lemmas.Bool.{cases_lt}
+use Rattle.std.proofs.lemmas.Bool.Decides.{eqb_tells, Decides-ltb}
+use Rattle.std.proofs.lemmas.List.{take_all, take-append-drop, length-drop}
 use Rattle.std.proofs.lemmas.Option.{slice_get_within, get_or_from_slice_get}
+use Rattle.itpg_base.specs.Points.{Point}
 use Rattle.band_normal.specs.Lists.{Among, Ordered}
-use Rattle.band_normal.proofs.Lists.{among_at, ordered_by_place}
+use Rattle.band_normal.specs.Bands.{IsWellFormed}
+use Rattle.band_normal.proofs.Lists.{among_at, among_append, append_first, append_second, ordered_by_place, ordered_first, ordered_unique}
 use Rattle.relation_rows.specs.declared.rows.Row.{Row}
-use Rattle.relation_rows.specs.Rows.{RowBefore}
-use Rattle.relation_rows.proofs.Partitions.{among_before, among_behind, rest_among, first_before}
+use Rattle.relation_rows.specs.declared.timetable.Stop.{Stop}
+use Rattle.relation_rows.specs.Rows.{RowBefore, RowsHold}
+use Rattle.relation_rows.specs.Timetables.{StopsHold, IsTimetable}
+use Rattle.relation_rows.specs.Ways.{AreFrom, HasBusy, AreComposed}
+use Rattle.relation_rows.proofs.Listed.{row_apart}
+use Rattle.relation_rows.proofs.Partitions.{among_before, among_behind, among_either, front_among, rest_among, rest_ordered, first_before}
 
 abbrev pub has_source : Row → Row → Bool
 has_source first r = r.source.0 == first.source.0
@@ -61,3 +69,164 @@ module _ (rows : List Row) (first : Row) (order : Ordered RowBefore rows) (is : 
           )
       | inr e ↦ (let ne = e.1 in omega arith)
     ]
+
+-- ---- all rows of one source
+
+abbrev pub comes_before_source : ℕ → Row → Bool
+comes_before_source o r = nat_lt r.source.0 o
+
+abbrev pub is_of_source : ℕ → Row → Bool
+is_of_source o r = r.source.0 == o
+
+before_is : (o : ℕ) (r : Row) → comes_before_source o r ≡ true → r.source.0 < o
+before_is o r e = grind (arith, Decides-ltb)
+
+is_before : (o : ℕ) (r : Row) → r.source.0 < o → comes_before_source o r ≡ true
+is_before o r e = grind (arith, Decides-ltb)
+
+of_is : (o : ℕ) (r : Row) → is_of_source o r ≡ true → r.source.0 ≡ o
+of_is o r e = ⊎_elim (λ k. k.1) (λ k. absurd (true≢false (sym e ∙ k.0))) (eqb_tells r.source.0 o)
+
+is_of : (o : ℕ) (r : Row) → r.source.0 ≡ o → is_of_source o r ≡ true
+is_of o r e = ⊎_elim (λ k. k.0) (λ k. absurd (k.1 e)) (eqb_tells r.source.0 o)
+
+module _ (rows : List Row) (o : ℕ) (order : Ordered RowBefore rows) where
+  pub before_partitioned : IsPartitionedBy (comes_before_source o) rows
+  before_partitioned i j d le lt e = elim (eqb_tells i j) [
+    | inl s ↦ subst (λ (v : ℕ). comes_before_source o (get_or rows v d) ≡ true) (sym s.1) e
+    | inr n ↦ (
+        let there = before_is o (get_or rows j d) e in
+        let up = source_up (get_or rows i d) (get_or rows j d) (ordered_by_place RowBefore rows order i j d (let ne = n.1 in omega arith) lt) in
+        is_before o (get_or rows i d) (omega arith)
+        )
+  ]
+
+  module _ (n : ℕ) (bound : n ≤ length rows) (point : IsPartitionPoint (λ (r : Row). comes_before_source o r ≡ true) (λ (r : Row). comes_before_source o r ≡ false) rows n)
+      (from : List Row) (is : from ≡ take (length rows - n) (drop n rows)) where
+    from_is : from ≡ drop n rows
+    from_is = is ∙ take_all (length rows - n) (drop n rows) (omega (arith, length-drop n rows))
+
+    not_before : (r : Row) → Among from r → r.source.0 < o → ⊥
+    not_before r a l = true≢false (sym (is_before o r l) ∙ among_behind (λ (s : Row). comes_before_source o s ≡ false) rows n bound point.1 r (subst (λ (v : List Row). Among v r) from_is a))
+
+    order_from : Ordered RowBefore from
+    order_from = subst (λ (v : List Row). Ordered RowBefore v) (sym from_is) (rest_ordered RowBefore rows n order)
+
+    pub from_partitioned : IsPartitionedBy (is_of_source o) from
+    from_partitioned i j d le lt e = elim (eqb_tells i j) [
+      | inl s ↦ subst (λ (v : ℕ). is_of_source o (get_or from v d) ≡ true) (sym s.1) e
+      | inr m ↦ (
+          let there = of_is o (get_or from j d) e in
+          let up = source_up (get_or from i d) (get_or from j d) (ordered_by_place RowBefore from order_from i j d (let ne = m.1 in omega arith) lt) in
+          let low = not_before (get_or from i d) (among_at from i d (omega arith)) in
+          is_of o (get_or from i d) (⊎_elim (λ l. absurd (low l)) (λ g. omega arith) (cases_lt (get_or from i d).source.0 o))
+          )
+    ]
+
+    pub source_rows : (m : ℕ) → m ≤ length from → IsPartitionPoint (λ (r : Row). is_of_source o r ≡ true) (λ (r : Row). is_of_source o r ≡ false) from m → (r : Row) → Among (take m from) r ↔ (Among rows r × (r.source.0 ≡ o))
+    source_rows m within split r = (
+      λ a. (rest_among rows n r (subst (λ (v : List Row). Among v r) from_is (front_among from m r a)), of_is o r (among_before (λ (s : Row). is_of_source o s ≡ true) from m within split.0 r a)),
+      λ h. ⊎_elim
+          (λ t. let l = before_is o r (among_before (λ (s : Row). comes_before_source o s ≡ true) rows n bound point.0 r t) in let e = h.1 in absurd (omega arith))
+          (λ d. ⊎_elim (λ f. f) (λ l. absurd (true≢false (sym (is_of o r h.1) ∙ among_behind (λ (s : Row). is_of_source o s ≡ false) from m within split.1 r l)))
+          (among_either from m r (subst (λ (v : List Row). Among v r) (sym from_is) d)))
+          (among_either rows n r h.0),
+    )
+
+-- ---- the rows of busy sources, one source after the other
+
+-- the busy ones among the rows that are passed
+pub record HasPassed (rows left busy : List Row) : Type 0 where
+  pub order : Ordered RowBefore left
+  pub left_there : (r : Row) → Among left r → Among rows r
+  pub each : (r : Row) → Among rows r → ((s : Row) → Among left s → r.source.0 < s.source.0) ⊎ Among left r
+  pub there : (r : Row) → Among busy r → Among rows r
+  pub all : (o : ℕ) (group : List Row) → AreFrom rows o group → 8 < length group → ((s : Row) → Among left s → o < s.source.0) → (r : Row) → Among group r → Among busy r
+
+pub none_passed : (rows busy : List Row) → busy ≡ [] → Ordered RowBefore rows → HasPassed rows rows busy
+none_passed rows busy e o = record {
+  order = o;
+  left_there = λ r a. a;
+  each = λ r a. inr a;
+  there = λ r a. absurd (subst (λ (v : List Row). Among v r) e a);
+  all = λ o group are many early r a.
+      let k = (are.1 r).0 a in
+      let l = early r k.0 in
+      let f = k.1 in
+      absurd (omega arith);
+}
+
+module _ (rows left busy : List Row) (g : HasPassed rows left busy) (first : Row) (head : Among left first) (n : ℕ)
+    (same : (r : Row) → Among (take n left) r → r.source.0 ≡ first.source.0)
+    (behind : (r : Row) → Among (drop n left) r → first.source.0 < r.source.0)
+    (group later : List Row) (front : group ≡ take n left) (back : later ≡ drop n left) where
+  group_order : Ordered RowBefore (take n left)
+  group_order = ordered_first RowBefore (take n left) (drop n left) (subst (λ (v : List Row). Ordered RowBefore v) (sym (take-append-drop n left)) g.order)
+
+  of_group : (r : Row) → Among group r ↔ (Among rows r × (r.source.0 ≡ first.source.0))
+  of_group r = (
+    λ a. let b = subst (λ (v : List Row). Among v r) front a in (g.left_there r (front_among left n r b), same r b),
+    λ h. let e = h.1 in ⊎_elim
+        (λ k. absurd (let l = k first head in omega arith))
+        (λ a. ⊎_elim (λ b. subst (λ (v : List Row). Among v r) (sym front) b) (λ b. absurd (let l = behind r b in omega arith)) (among_either left n r a))
+        (g.each r h.0),
+  )
+
+  -- other rows from the same source are the same list
+  is_group : (o : ℕ) (those : List Row) → AreFrom rows o those → o ≡ first.source.0 → those ≡ group
+  is_group o those are e = ordered_unique RowBefore row_apart those group are.0 (subst (λ (v : List Row). Ordered RowBefore v) (sym front) group_order)
+      (λ r a. let k = (are.1 r).0 a in (of_group r).1 (k.0, k.1 ∙ e))
+      (λ r a. let k = (of_group r).0 a in (are.1 r).1 (k.0, k.1 ∙ sym e))
+
+  module _ (next : List Row) (kept : (r : Row) → Among busy r → Among next r) (pushed : 8 < length group → (r : Row) → Among group r → Among next r) (from : (r : Row) → Among next r → Among busy r ⊎ Among group r) where
+    pub next_passed : HasPassed rows later next
+    next_passed = record {
+      order = subst (λ (v : List Row). Ordered RowBefore v) (sym back) (rest_ordered RowBefore left n g.order);
+      left_there = λ r a. g.left_there r (rest_among left n r (subst (λ (v : List Row). Among v r) back a));
+      each = λ r a. ⊎_elim
+          (λ k. inl (λ s b. k s (rest_among left n s (subst (λ (v : List Row). Among v s) back b))))
+          (λ l. ⊎_elim
+          (λ b. inl (λ s d. subst (λ (v : ℕ). v < s.source.0) (sym (same r b)) (behind s (subst (λ (v : List Row). Among v s) back d))))
+          (λ b. inr (subst (λ (v : List Row). Among v r) (sym back) b))
+          (among_either left n r l))
+          (g.each r a);
+      there = λ r a. ⊎_elim (λ b. g.there r b) (λ b. ((of_group r).0 b).0) (from r a);
+      all = λ o those are many early r a.
+          let k = (are.1 r).0 a in
+          ⊎_elim
+          (λ l. kept r (g.all o those are many (λ s b. subst (λ (v : ℕ). v < s.source.0) k.1 (l s b)) r a))
+          (λ l. ⊎_elim
+          (λ b.
+          let e = is_group o those are (sym k.1 ∙ same r b) in
+          pushed (subst (λ (v : List Row). 8 < length v) e many) r (subst (λ (v : List Row). Among v r) e a))
+          (λ b. absurd (let m = early r (subst (λ (v : List Row). Among v r) (sym back) b) in let f = k.1 in omega arith))
+          (among_either left n r l))
+          (g.each r k.0);
+    }
+
+  pub many_passed : (next : List Row) → next ≡ busy ++ group → HasPassed rows later next
+  many_passed next e = next_passed next
+      (λ r a. subst (λ (v : List Row). Among v r) (sym e) (append_first busy group r a))
+      (λ many r a. subst (λ (v : List Row). Among v r) (sym e) (append_second busy group r a))
+      (λ r a. among_append busy group r (subst (λ (v : List Row). Among v r) e a))
+
+  pub few_passed : length group ≤ 8 → HasPassed rows later busy
+  few_passed few = next_passed busy (λ r a. a) (λ many r a. absurd (omega arith)) (λ r a. inl a)
+
+pub all_passed : (rows left busy : List Row) → None ≡ slice_get left 0 → HasPassed rows left busy → HasBusy rows busy
+all_passed rows left busy none g = λ o group are many. g.all o group are many (λ s a. absurd (nothing left none s a))
+  where
+    nothing : (xs : List Row) → None ≡ slice_get xs 0 → (s : Row) → Among xs s → ⊥
+    nothing [] e s a = a
+    nothing (x ∷ xs) e s a = let no : ⊥ = cc in no
+
+-- rows in order, and the timetable of the busy ones among them
+pub composed_of : (second busy : List Row) (stops : List Stop) → Ordered RowBefore second → ((r : Row) → Among second r → IsWellFormed r.band) → ((r : Row) → Among busy r → Among second r) → HasBusy second busy → IsTimetable stops
+    → ((x y : Point) → StopsHold stops x y ↔ RowsHold busy x y) → AreComposed second stops
+composed_of second busy stops order formed there all table holds = record {
+  order = order;
+  formed = formed;
+  table = table;
+  there = λ x y h. let k = (holds x y).0 h in (k.0, there k.0 k.1, k.2);
+  all = λ o group are many x y h. (holds x y).1 (h.0, all o group are many h.0 h.1, h.2);
+}

@@ -1,23 +1,41 @@
 -- Ways: a row, and then a stop's row from where it arrives.
-use Rattle.std.specs.Prelude.{Option, Some, None, List}
+use Rattle.std.specs.Prelude.{◌≡◌, ◌↔◌, ℕ, ◌<◌, Option, Some, None, List, length}
 use Rattle.itpg_base.specs.declared.object_number.ObjNo.{ObjNo}
 use Rattle.itpg_base.specs.Points.{Point, Relation}
 use Rattle.zone_core.specs.declared.Bounds.{Bounds}
+use Rattle.band_normal.specs.Lists.{Among, Ordered}
+use Rattle.band_normal.specs.Bands.{IsWellFormed}
 use Rattle.relation_rows.specs.declared.rows.Row.{Row}
 use Rattle.relation_rows.specs.declared.timetable.Stop.{Stop}
-use Rattle.relation_rows.specs.Rows.{InRow, RowsHold}
+use Rattle.relation_rows.specs.Rows.{InRow, RowsHold, RowBefore}
 use Rattle.relation_rows.specs.Relations.{InItem}
-use Rattle.relation_rows.specs.Timetables.{StopsHold}
+use Rattle.relation_rows.specs.Timetables.{StopsHold, IsTimetable}
 
 -- the zone is there, and has the pair, from the source to the target
 abbrev pub ItemThere : ObjNo → ObjNo → Option Bounds → Relation
 ItemThere source target None x y = ⊥
 ItemThere source target (Some zone) x y = InItem (source, target, zone) x y
 
--- the row leads to a point from which some stop's row does
-abbrev pub GoesOn : Row → List Stop → Relation
-GoesOn row stops x y = (m : Point) × InRow row x m × StopsHold stops m y
+-- the row leads to a point from which some row of the list does
+abbrev pub GoesOn : Row → List Row → Relation
+GoesOn row second x y = (m : Point) × InRow row x m × RowsHold second m y
 
--- so does some row of the list
-abbrev pub AllGoOn : List Row → List Stop → Relation
-AllGoOn rows stops x y = (m : Point) × RowsHold rows x m × StopsHold stops m y
+-- the row leads to a point from which some stop's row does
+abbrev pub GoesOnBy : Row → List Stop → Relation
+GoesOnBy row stops x y = (m : Point) × InRow row x m × StopsHold stops m y
+
+-- the group is in order, and has the rows from the object and no others
+abbrev pub AreFrom : List Row → ℕ → List Row → Type 0
+AreFrom rows o group = Ordered RowBefore group × ((r : Row) → Among group r ↔ (Among rows r × (r.source.0 ≡ o)))
+
+-- where there are more than 8 rows from an object, the busy ones have them
+abbrev pub HasBusy : List Row → List Row → Type 0
+HasBusy rows busy = (o : ℕ) (group : List Row) → AreFrom rows o group → 8 < length group → (r : Row) → Among group r → Among busy r
+
+-- rows in order, and a timetable of those from busy objects
+pub record AreComposed (second : List Row) (busy : List Stop) : Type 0 where
+  pub order : Ordered RowBefore second
+  pub formed : (r : Row) → Among second r → IsWellFormed r.band
+  pub table : IsTimetable busy
+  pub there : (x y : Point) → StopsHold busy x y → RowsHold second x y
+  pub all : (o : ℕ) (group : List Row) → AreFrom second o group → 8 < length group → (x y : Point) → RowsHold group x y → StopsHold busy x y

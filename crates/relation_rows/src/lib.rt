@@ -7,6 +7,7 @@
 #![tactic(auto)]
 
 pub mod answered;
+mod compose;
 mod gather;
 pub mod laws;
 mod minus;
@@ -20,7 +21,6 @@ mod tests;
 pub mod times;
 mod timetable;
 mod unite;
-mod ways;
 
 pub use answered::Answer;
 pub use relations::Relation;

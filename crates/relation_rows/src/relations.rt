@@ -11,6 +11,7 @@ ghost use Rattle.relation_rows.specs.Answers.{Gives};
 ghost use Rattle.relation_rows.specs.Times.{AreTimes, Departs, Arrives};
 ghost use Rattle.relation_rows.specs.Relations.{ItemsHold, Rise, IsItself, EitherHolds, HasMiddlePoint, IsBetween, OnlyFirstHolds};
 
+use crate::compose::{busy_rows, composed};
 use crate::gather::{from_each_to_itself, gathered, gathered_all, gathered_of};
 use crate::minus::only_in_first;
 use crate::rows::{RelFault, Row};
@@ -19,7 +20,6 @@ use crate::strike::struck;
 use crate::times::{OneTime, arrivals, departures, runs_of};
 use crate::timetable::timetable;
 use crate::unite::united;
-use crate::ways::composed;
 use interval_set::Span;
 use itpg_base::ObjNo;
 use std::alloc::{AllocError, Global};
@@ -146,8 +146,9 @@ impl Relation {
         ensures { Gives result (HasMiddlePoint self.now other.now) max_rows }
     {
         let alloc = *self.rows.allocator();
-        let stops = timetable(alloc, &other.rows)?;
-        composed(alloc, &self.rows, &stops, max_rows as usize)
+        let rows = busy_rows(alloc, &other.rows)?;
+        let busy = timetable(alloc, &rows)?;
+        composed(alloc, &self.rows, &other.rows, &busy, max_rows as usize)
     }
 
     /// The pairs that lead from one of the sources to one of the targets. Both lists rise.

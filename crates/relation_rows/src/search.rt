@@ -58,6 +58,18 @@ pub(crate) fn rows_of_key(rows: &[Row], source: ObjNo, target: ObjNo) -> &[Row]
     &from[..count]
 }
 
+/// The rows from the source, of rows in order.
+pub(crate) fn rows_from(rows: &[Row], source: ObjNo) -> &[Row]
+    requires { Ordered RowBefore rows.now }
+    ensures rows { (r : Row) → Among result.now r ↔ (Among rows.now r × (r.source.0 ≡ source.0)) }
+    ensures order { Ordered RowBefore result.now }
+{
+    let begin = rows.partition_point(|row| row.source.0 < source.0);
+    let from = &rows[begin..];
+    let count = from.partition_point(|row| row.source.0 == source.0);
+    &from[..count]
+}
+
 fn leads_between(row: &Row, sources: &[ObjNo], targets: &[ObjNo]) -> bool
     requires sources { Rise sources.now }
     requires targets { Rise targets.now }

@@ -3,14 +3,14 @@ use Rattle.std.proofs.lemmas.Result.{err_from_is_err_and}
 use Rattle.band_normal.specs.Lists.{Among}
 use Rattle.band_normal.specs.Bands.{IsWellFormed}
 use Rattle.relation_rows.specs.declared.rows.Row.{Row}
-use Rattle.relation_rows.specs.Ways.{AllGoOn}
+use Rattle.relation_rows.specs.Relations.{HasMiddlePoint}
 use Rattle.relation_rows.proofs.Alike.{relation_of}
 use Rattle.relation_rows.proofs.Composing.{HasComposed, start, next_composed, within_limit, fault_after, group_formed, all_composed}
-use Rattle.relation_rows.proofs.ways.composed.Goals as goal
+use Rattle.relation_rows.proofs.compose.composed.Goals as goal
 
 pub loop-first-init : goal.loop-first-init
 loop-first-init c = (
-  subst (λ (v : List Row). HasComposed c.args.rows.now c.args.stops.now c.args.rows.now v) (sym c.new-done.ensures.items) (start c.args.rows.now c.args.stops.now c.requires.order),
+  subst (λ (v : List Row). HasComposed c.args.rows.now c.args.second.now c.args.rows.now v) (sym c.new-done.ensures.items) (start c.args.rows.now c.args.second.now c.requires.order),
   rw c.new-done.ensures.items (omega arith),
 )
 
@@ -20,7 +20,7 @@ loop-first-preserved c =
     let gives = c.in_ok-more.ensures.gives in
     let all = extended ∙ ap (λ (v : List Row). c.loop-first.done.items ++ v) (c.deref.ensures.value ∙ c.more.view_is) in
     let count : c.len.result ≡ length c.loop-first.done.items = omega arith in (
-      next_composed c.args.rows.now c.args.stops.now c.loop-first.left.now c.loop-first.done.items c.loop-first.invariant.0 c.in-Some.first.now c.in-Some.ensures.value c.source_count.result
+      next_composed c.args.rows.now c.args.second.now c.loop-first.left.now c.loop-first.done.items c.loop-first.invariant.0 c.in-Some.first.now c.in-Some.ensures.value c.source_count.result
           c.source_count.ensures.same c.source_count.ensures.later c.split_at.result.0.now c.split_at.result.1.now c.split_at.ensures.front c.split_at.ensures.back
           c.in_ok-ways.ways.items c.in_ok-ways.ensures c.in_ok-more.more gives.0
           (subst (λ (v : List Row). (r : Row) → Among v r → IsWellFormed r.band) c.more.view_is (c.more.invariant).formed)
@@ -29,7 +29,7 @@ loop-first-preserved c =
     )
 
 pub ways_from-requires-clause-rows : goal.ways_from-requires-clause-rows
-ways_from-requires-clause-rows c = group_formed c.args.rows.now c.args.stops.now c.loop-first.left.now c.loop-first.done.items c.loop-first.invariant.0 c.source_count.result c.split_at.result.0.now c.split_at.ensures.front c.requires.rows
+ways_from-requires-clause-rows c = group_formed c.args.rows.now c.args.second.now c.loop-first.left.now c.loop-first.done.items c.loop-first.invariant.0 c.source_count.result c.split_at.result.0.now c.split_at.ensures.front c.requires.rows
 
 pub returns-in_err-more : goal.returns-in_err-more
 returns-in_err-more c =
@@ -37,9 +37,9 @@ returns-in_err-more c =
     let gives = c.in_err-more.ensures.gives in
     let count : c.len.result ≡ length c.loop-first.done.items = omega arith in
     rw (fault.1, fault.2)
-    (fault_after c.args.rows.now c.args.stops.now c.loop-first.left.now c.loop-first.done.items c.loop-first.invariant.0 c.in-Some.first.now c.in-Some.ensures.value c.source_count.result
+    (fault_after c.args.rows.now c.args.second.now c.loop-first.left.now c.loop-first.done.items c.loop-first.invariant.0 c.in-Some.first.now c.in-Some.ensures.value c.source_count.result
     c.source_count.ensures.same c.source_count.ensures.later c.split_at.result.0.now c.split_at.result.1.now c.split_at.ensures.front c.split_at.ensures.back
     c.in_ok-ways.ways.items c.in_ok-ways.ensures c.args.max_rows c.len.result c.loop-first.invariant.1 count _ gives)
 
 pub invariant_of-result : goal.invariant_of-result
-invariant_of-result c = relation_of (AllGoOn c.args.rows.now c.args.stops.now) c.loop-first.done.items (all_composed c.args.rows.now c.args.stops.now c.loop-first.left.now c.loop-first.done.items c.in_default.ensures.value c.loop-first.invariant.0) (c.loop-first.invariant.0).formed
+invariant_of-result c = relation_of (HasMiddlePoint c.args.rows.now c.args.second.now) c.loop-first.done.items (all_composed c.args.rows.now c.args.second.now c.loop-first.left.now c.loop-first.done.items c.in_default.ensures.value c.loop-first.invariant.0) (c.loop-first.invariant.0).formed

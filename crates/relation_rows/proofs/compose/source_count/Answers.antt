@@ -1,7 +1,7 @@
 use Rattle.std.proofs.Common.{rules, of_calls}
 use Rattle.std.proofs.lemmas.List.Sorted.{IsPartitionPoint-from_clause}
 use Rattle.relation_rows.proofs.Sources.{has_source, source_partitioned, source_some, source_same, source_later}
-use Rattle.relation_rows.proofs.ways.source_count.Goals as goal
+use Rattle.relation_rows.proofs.compose.source_count.Goals as goal
 
 pub returns-clause-some : goal.returns-clause-some
 returns-clause-some c = source_some c.args.rows.now c.args.first.now c.requires.order c.requires.first c.partition_point.result c.partition_point.ensures.bound
