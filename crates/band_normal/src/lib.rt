@@ -18,6 +18,3 @@ pub mod zones;
 pub use band::{Band, End};
 pub use union::normal;
 pub use zones::{bands_of, zone_of};
-
-#[cfg(test)]
-mod tests;

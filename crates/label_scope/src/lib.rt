@@ -10,8 +10,6 @@ mod laws;
 mod members;
 mod paths;
 mod scope;
-#[cfg(test)]
-mod tests;
 
 pub use labels::Labels;
 pub use laws::{law_of_cut, law_of_decided_scopes, law_of_labels, law_of_narrowing, law_of_scopes};

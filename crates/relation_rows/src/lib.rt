@@ -13,8 +13,6 @@ pub mod relations;
 mod rest;
 pub mod rows;
 mod search;
-#[cfg(test)]
-mod tests;
 pub mod times;
 mod timetable;
 mod unite;
