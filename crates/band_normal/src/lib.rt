@@ -25,6 +25,3 @@ pub use band::{Band, End};
 pub use strike::struck;
 pub use union::normal;
 pub use zones::{bands_of, zone_of};
-
-#[cfg(test)]
-mod tests;

@@ -12,8 +12,6 @@ mod moments;
 mod objects;
 mod starts;
 mod staying;
-#[cfg(test)]
-mod tests;
 
 pub use laws::{
     law_of_conditions, law_of_connectives, law_of_negation, law_of_tests_as_paths,

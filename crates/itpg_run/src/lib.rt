@@ -12,8 +12,6 @@ ghost use Rattle.std.specs.Prelude.{◌≡◌};
 mod law;
 mod reader;
 mod run;
-#[cfg(test)]
-mod tests;
 
 pub use law::{one_output, output_begins, output_grows, some_output};
 pub use run::serve;

@@ -13,8 +13,6 @@ mod laws;
 mod replies;
 mod rules;
 mod session;
-#[cfg(test)]
-mod tests;
 mod ticking;
 
 pub use asking::Asked;

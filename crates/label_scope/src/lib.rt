@@ -11,8 +11,6 @@ mod laws;
 mod members;
 mod paths;
 mod scope;
-#[cfg(test)]
-mod tests;
 
 pub use examples::{
     members_of_repetitions, members_of_sequences, scopes_of_narrowed_paths, scopes_of_short_paths,

@@ -2,6 +2,20 @@
 #![tactic(auto)]
 
 #[cfg(test)]
+mod of_band_normal;
+#[cfg(test)]
+mod of_itpg_run;
+#[cfg(test)]
+mod of_label_scope;
+#[cfg(test)]
 mod of_path_eval;
 #[cfg(test)]
+mod of_relation_rows;
+#[cfg(test)]
 mod of_repeat_engine;
+#[cfg(test)]
+mod of_trial_run;
+#[cfg(test)]
+mod of_zone_compose;
+#[cfg(test)]
+mod of_zone_core;

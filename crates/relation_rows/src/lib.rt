@@ -16,8 +16,6 @@ pub mod relations;
 pub mod rows;
 mod search;
 mod strike;
-#[cfg(test)]
-mod tests;
 pub mod times;
 mod timetable;
 mod unite;

@@ -7,8 +7,6 @@
 
 mod gain_loss;
 mod laws;
-#[cfg(test)]
-mod tests;
 mod watches;
 
 pub use gain_loss::{GainLoss, changes};

@@ -11,6 +11,3 @@ mod sums;
 
 pub use laws::law_of_summaries;
 pub use run::run_trial;
-
-#[cfg(test)]
-mod tests;

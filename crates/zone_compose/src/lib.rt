@@ -15,9 +15,6 @@ ghost use Rattle.std.specs.Prelude.{◌↔◌, ℤ, ◌≤ℤ◌, ◌<ℤ◌, Is
 ghost use Rattle.zone_core.specs.Zone.{IsNear, IsTight, IsZoneOf, Meets, Within, moment_reach};
 ghost use Rattle.zone_compose.specs.Compose.{AreArrivals, AreDepartures, AreShared, HasMiddle, IsOneStep, Moves, Stays};
 
-#[cfg(test)]
-mod tests;
-
 use zone_core::{Bounds, Zone, tight};
 
 /// The moments that can stand in the middle of a composition: none where `low` is above `high`.

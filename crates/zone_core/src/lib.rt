@@ -14,8 +14,6 @@ ghost use Rattle.zone_core.specs.Zone.{AreApart, IsDeterminedByPairs, IsMet, IsN
 
 mod pieces;
 mod steps;
-#[cfg(test)]
-mod tests;
 
 use std::marker::Model;
 
