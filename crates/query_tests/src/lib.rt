@@ -14,8 +14,6 @@ mod of_relation_rows;
 #[cfg(test)]
 mod of_repeat_engine;
 #[cfg(test)]
-mod of_trial_run;
-#[cfg(test)]
 mod of_zone_compose;
 #[cfg(test)]
 mod of_zone_core;

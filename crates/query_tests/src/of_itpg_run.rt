@@ -31,3 +31,18 @@ fn a_failing_device_ends_the_run(rt: HostRuntime) {
     assert!(rt; run(&rt, alloc, 2, 0) == (Status::ReadFault, 0));
     assert!(rt; run(&rt, alloc, 0, 1) == (Status::WriteFault, 5));
 }
+
+// The second write fails, and takes 5 bytes. The summary was worked out by a program apart from this one.
+#[test]
+fn a_trial_over_a_failing_sink_leaves_a_front_part(rt: HostRuntime) {
+    let alloc = rt.alloc();
+    let word = String::from_str(alloc, "--trial=7").expect(&rt, "memory");
+    let words = vec![in alloc; word].expect(&rt, "memory");
+    let mut source = MemSource::new(Vec::new(alloc), 16, Vec::new(alloc));
+    let failing = vec![in alloc; 2].expect(&rt, "memory");
+    let room = vec![in alloc; 0; 128].expect(&rt, "memory");
+    let mut sink = MemSink::new(failing, 5, room);
+    let status = serve(alloc, &words, &mut source, &mut sink);
+    assert!(rt; status == Status::WriteFault);
+    assert!(rt; sink.held() == b"ask 1 rows 20 sum 432580\nask 2".as_slice());
+}
