@@ -57,13 +57,6 @@ fn below(measure: Measure, border: i64) -> Option<Zone> {
     }
 }
 
-fn push_begins(begins: &mut Vec<i64>, zones: &[Zone], measure: Measure) -> Result<(), AllocError> {
-    for zone in zones {
-        begins.push(extremes(zone, measure).0)?;
-    }
-    Ok(())
-}
-
 // The middle one of the least of each zone.
 fn middle_of(
     alloc: Global,
@@ -72,8 +65,9 @@ fn middle_of(
     measure: Measure,
 ) -> Result<Option<i64>, AllocError> {
     let mut begins = Vec::new(alloc);
-    push_begins(&mut begins, zones, measure)?;
-    push_begins(&mut begins, cuts, measure)?;
+    for zone in zones.iter().chain(cuts.iter()) {
+        begins.push(extremes(zone, measure).0)?;
+    }
     if begins.is_empty() {
         return Ok(None);
     }
@@ -82,38 +76,26 @@ fn middle_of(
     Ok(Some(*middle))
 }
 
-/// How many zones have a pair below a border, and how many have another.
-#[derive(Clone, Copy)]
-struct Parts {
-    below: usize,
-    other: usize,
-}
-
-fn counted(parts: Parts, zones: &[Zone], measure: Measure, border: i64) -> Parts {
-    let mut parts = parts;
-    for zone in zones {
+// How many zones have a pair below the border, and how many have another, together. The greatest number where one part has
+// most of all.
+fn cost(zones: &[Zone], cuts: &[Zone], measure: Measure, border: i64) -> usize {
+    let mut below = 0usize;
+    let mut other = 0usize;
+    for zone in zones.iter().chain(cuts.iter()) {
         let (least, greatest) = extremes(zone, measure);
         if least < border {
-            parts.below = parts.below.saturating_add(1);
+            below = below.saturating_add(1);
         }
         if border <= greatest {
-            parts.other = parts.other.saturating_add(1);
+            other = other.saturating_add(1);
         }
     }
-    parts
-}
-
-// How many zones both parts have together, or the greatest number where a part has most of all.
-fn cost(zones: &[Zone], cuts: &[Zone], measure: Measure, border: i64) -> usize {
-    let none = Parts { below: 0, other: 0 };
-    let some = counted(none, zones, measure, border);
-    let parts = counted(some, cuts, measure, border);
     let count = zones.len().saturating_add(cuts.len());
     let most = count - count / 8;
-    if most < parts.below || most < parts.other {
+    if most < below || most < other {
         return usize::MAX;
     }
-    parts.below.saturating_add(parts.other)
+    below.saturating_add(other)
 }
 
 /// A zone that parts them, if that is worth its while: the first that leaves hardly a zone in both parts, or else the best.

@@ -1,6 +1,6 @@
 //! Two lists of rows without the rows that stand in both.
 
-ghost use Rattle.std.specs.Prelude.{◌≡◌, ◌↔◌, IsTrue, IfOk};
+ghost use Rattle.std.specs.Prelude.{◌≡◌, ◌↔◌, IfOk};
 ghost use Rattle.itpg_base.specs.Points.{Point};
 ghost use Rattle.band_normal.specs.Lists.{Among, Ordered};
 ghost use Rattle.relation_rows.specs.declared.rows.Row.{Row as PlainRow};
@@ -8,27 +8,18 @@ ghost use Rattle.relation_rows.specs.Rows.{RowBefore, IsRelation};
 ghost use Rattle.relation_rows.specs.Relations.{OnlyFirstHolds};
 
 use crate::rows::Row;
-use band_normal::{Band, End};
+use band_normal::End;
 use itpg_base::ObjNo;
 use std::alloc::{AllocError, Global};
 
-// The low end at the first departure.
-fn first_low(band: &Band) -> i64 {
-    match band.low {
-        End::Fixed(low) => low,
-        End::Moving(difference) => band.from.saturating_add(difference),
-    }
-}
-
 // By this rows stand in order.
 fn place_of(row: &Row) -> (ObjNo, ObjNo, i64, i64) {
-    (row.source, row.target, row.band.from, first_low(&row.band))
-}
-
-fn is_same(row: &Row, other: &Row) -> bool
-    ensures { IsTrue result ↔ (row.now ≡ other.now) }
-{
-    row == other
+    let band = row.band;
+    let low = match band.low {
+        End::Fixed(low) => low,
+        End::Moving(difference) => band.from.saturating_add(difference),
+    };
+    (row.source, row.target, band.from, low)
 }
 
 /// Both lists without the rows that stand in both. What the first holds and the second doesn't stays the same.
@@ -55,7 +46,7 @@ pub(crate) fn struck(
         let Some((other, others)) = right.split_first() else {
             break;
         };
-        if is_same(row, other) {
+        if row == other {
             left = rows;
             right = others;
         } else if place_of(row) < place_of(other) {

@@ -72,18 +72,6 @@ fn push_stops(stops: &mut Vec<Stop>, rows: &[Row]) -> Result<(), AllocError>
     Ok(())
 }
 
-/// The stops of rows that stand by source and first departure.
-pub(crate) fn stops_of(alloc: Global, rows: &[Row]) -> Result<Vec<Stop>, AllocError>
-    requires { Ordered DepartsUpTo rows.now }
-    ensures rows { IfOk result (λ stops. map (λ (s : PlainStop). s.row) stops.items ≡ rows.now) }
-    ensures order { IfOk result (λ stops. Ordered StopUpTo stops.items) }
-    ensures reach { IfOk result (λ stops. (depth : ℕ) → AreReached depth stops.items) }
-{
-    let mut stops = Vec::new(alloc);
-    push_stops(&mut stops, rows)?;
-    Ok(stops)
-}
-
 /// The rows by source and first departure.
 pub(crate) fn timetable(alloc: Global, rows: &[Row]) -> Result<Vec<Stop>, AllocError>
     requires { (r : PlainRow) → Among rows.now r → IsWellFormed r.band }
@@ -92,7 +80,8 @@ pub(crate) fn timetable(alloc: Global, rows: &[Row]) -> Result<Vec<Stop>, AllocE
 {
     let mut sorted = Vec::from_slice(alloc, rows)?;
     sorted.sort_by_key(|row| (row.source, row.band.from))?;
-    let stops = stops_of(alloc, &sorted)?;
+    let mut stops = Vec::new(alloc);
+    push_stops(&mut stops, &sorted)?;
     Ok(stops)
 }
 
