@@ -8,7 +8,7 @@ use crate::Composed;
 use crate::grown_union::{Grown, grown_to, newest_of};
 use crate::single_steps::walked;
 
-// Twice as far, or where no further power adds anything.
+/// Twice as far, or where no further power adds anything.
 pub(crate) fn doubled<C: Composed>(
     c: &C,
     x: &C::Value,

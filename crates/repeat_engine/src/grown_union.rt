@@ -25,7 +25,7 @@ pub(crate) fn newest_of<V: Drop>(grown: &Grown<V>) -> &V
     }
 }
 
-// A further union, with what is new in it.
+/// A further union, with what is new in it.
 pub(crate) fn grown_to<C: Composed>(
     c: &C,
     half: &Grown<C::Value>,

@@ -7,8 +7,8 @@ ghost use Rattle.repeat_engine.specs.GrownUnions.{newest_or, OfEach, IsNewest, I
 use crate::Composed;
 use crate::grown_union::{Grown, grown_to, newest_of};
 
-// Twice as far by single steps, while these look much cheaper than what is new composed with the union. None where they
-// don't, or where what they need doesn't fit.
+/// Twice as far by single steps, while these look much cheaper than what is new composed with the union. None where they
+/// don't, or where what they need doesn't fit.
 pub(crate) fn walked<C: Composed>(
     c: &C,
     x: &C::Value,
@@ -79,7 +79,7 @@ fn step_from<C: Composed>(c: &C, x: &C::Value, half: &Grown<C::Value>) -> Option
     Some(grown_to(c, half, all, Some(newest)))
 }
 
-// One step further. Where a single step doesn't do, the union is composed with that of the powers 0 and 1.
+/// One step further. Where a single step doesn't do, the union is composed with that of the powers 0 and 1.
 pub(crate) fn stepped<C: Composed>(
     c: &C,
     x: &C::Value,
