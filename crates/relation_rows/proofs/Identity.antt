@@ -1,5 +1,6 @@
--- Items that lead from each object to itself.
-use Rattle.std.proofs.Common.{◌≡◌, ◌↔◌, inl, inr, ◌<◌, ℤ, List, [], ◌∷◌, map, Option, Some, refl, sym, ◌∙◌, ap, subst}
+-- Items that lead from each object to itself, and their rows.
+use Rattle.std.proofs.Common.{◌≡◌, ◌↔◌, inl, inr, ⊎_elim, ℕ, ◌+◌, ◌<◌, ◌≤◌, ℤ, List, [], ◌∷◌, ◌++◌, length, map, slice_index_or, take, drop, Option, Some, refl, sym, ◌∙◌, ap, subst}
+use Rattle.std.proofs.lemmas.List.{drop_more, drop_all}
 use Rattle.itpg_base.specs.declared.object_number.ObjNo.{ObjNo}
 use Rattle.itpg_base.specs.Spans.{Span}
 use Rattle.itpg_base.specs.Points.{Point}
@@ -7,9 +8,17 @@ use Rattle.itpg_base.proofs.PointSearch.{point_ext}
 use Rattle.zone_core.specs.declared.Bounds.{Bounds}
 use Rattle.zone_core.specs.Zone.{Meets, Holds, IsZoneOf}
 use Rattle.zone_compose.specs.Compose.{Stays}
+use Rattle.band_normal.specs.declared.band.Band.{Band}
 use Rattle.band_normal.specs.Lists.{Among, Ordered}
+use Rattle.band_normal.specs.Bands.{IsWellFormed}
+use Rattle.band_normal.specs.Normal.{Normal}
+use Rattle.band_normal.specs.Zones.{SomeMeets}
+use Rattle.relation_rows.specs.declared.rows.Row.{Row}
+use Rattle.relation_rows.specs.Rows.{KeyBefore, NormalRows, IsWide, rows_at}
 use Rattle.relation_rows.specs.Relations.{Item, ItemsHold, Rise, IsItself}
-use Rattle.relation_rows.specs.Gathering.{ItemUpTo}
+use Rattle.relation_rows.specs.Gathering.{HaveOneKey, ItemUpTo}
+use Rattle.relation_rows.proofs.Gathering.{HasGathered, start, step_gathered, step_wide, all_gathered}
+use Rattle.relation_rows.proofs.Partitions.{rest_ordered}
 
 module _ (zone : Bounds) where
   abbrev pub to_itself : ObjNo → Item
@@ -69,3 +78,70 @@ zone_there o zone from to horizon e is f g t u =
     let h = subst (λ (v : Option Bounds). Holds v t u ↔ Stays from to t u) e (is.pairs t u) in
     let k = subst (λ (v : ℤ). Meets zone t u ↔ Stays v to t u) f h in
     subst (λ (v : ℤ). Meets zone t u ↔ Stays horizon.from v t u) g k
+
+-- ---- rows from one object after the other
+
+none_taken : (items : List Item) → take 0 items ≡ []
+none_taken [] = refl
+none_taken (i ∷ is) = refl
+
+none_dropped : {X : Type 0} (xs : List X) → drop 0 xs ≡ xs
+none_dropped [] = refl
+none_dropped (x ∷ xs) = refl
+
+-- the rows of the objects that were read
+abbrev pub HasEach : Bounds → List ObjNo → ℕ → List Row → Type 0
+HasEach zone objects i rows = HasGathered (map (to_itself zone) objects) (map (to_itself zone) (drop i objects)) rows
+
+pub none_yet : (zone : Bounds) (objects : List ObjNo) (rows : List Row) → Rise objects → rows ≡ [] → HasEach zone objects 0 rows
+none_yet zone objects rows rise e =
+    let P : List Row → Type 0 = λ v. HasEach zone objects 0 v in
+    let Q : List ObjNo → Type 0 = λ v. HasGathered (map (to_itself zone) objects) (map (to_itself zone) v) [] in
+    subst P (sym e) (subst Q (sym (none_dropped objects)) (start (map (to_itself zone) objects) (items_rise zone objects rise)))
+
+module _ (zone : Bounds) (objects : List ObjNo) (rise : Rise objects) (i : ℕ) (d : ObjNo) (lt : i < length objects) (rows : List Row) (g : HasEach zone objects i rows)
+    (zones : List Bounds) (is : zones ≡ zone ∷ []) (bands pushed : List Band) (read : pushed ≡ bands) (normal : Normal (SomeMeets zones) bands) (formed : (b : Band) → Among bands b → IsWellFormed b)
+    (next : List Row) (more : next ≡ rows ++ rows_at (slice_index_or objects i d).0 (slice_index_or objects i d).0 pushed) where
+  abbrev o : ObjNo
+  o = slice_index_or objects i d
+
+  abbrev rest : List Item
+  rest = map (to_itself zone) (drop (i + 1) objects)
+
+  is_left : map (to_itself zone) (drop i objects) ≡ to_itself zone o ∷ rest
+  is_left = ap (λ (v : List ObjNo). map (to_itself zone) v) (drop_more objects i d lt)
+
+  left : HasGathered (map (to_itself zone) objects) (to_itself zone o ∷ rest) rows
+  left = subst (λ (v : List Item). HasGathered (map (to_itself zone) objects) v rows) is_left g
+
+  front : to_itself zone o ∷ [] ≡ take 1 (to_itself zone o ∷ rest)
+  front = ap (λ (v : List Item). to_itself zone o ∷ v) (sym (none_taken rest))
+
+  back : rest ≡ drop 1 (to_itself zone o ∷ rest)
+  back = sym (none_dropped rest)
+
+  same : (j : Item) → Among (take 1 (to_itself zone o ∷ rest)) j → HaveOneKey (to_itself zone o) j
+  same j a = ⊎_elim
+      (λ (e : to_itself zone o ≡ j). (ap (λ (v : Item). v.0.0) e, ap (λ (v : Item). v.1.0) e))
+      (λ b. absurd b)
+      (subst (λ (v : List Item). Among v j) (sym front) a)
+
+  behind : (j : Item) → Among (drop 1 (to_itself zone o ∷ rest)) j → KeyBefore o.0 o.0 j.0.0 j.1.0
+  behind j a =
+      let w = of_mapped zone (drop (i + 1) objects) j (subst (λ (v : List Item). Among v j) (sym back) a) in
+      let order = subst (λ (v : List ObjNo). Rise v) (drop_more objects i d lt) (rest_ordered (λ (q r : ObjNo). q.0 < r.0) objects i rise) in
+      inl (subst (λ (v : Item). o.0 < v.0.0) w.2 (order.0 w.0 w.1))
+
+  own : Normal (SomeMeets (map (λ (j : Item). j.2) (to_itself zone o ∷ []))) bands
+  own = subst (λ (v : List Bounds). Normal (SomeMeets v) bands) is normal
+
+  pub each_more : HasEach zone objects (i + 1) next
+  each_more = step_gathered (map (to_itself zone) objects) (to_itself zone o ∷ rest) rows left (to_itself zone o) refl 1 same behind (to_itself zone o ∷ []) rest front back bands pushed read own formed next more
+
+  pub each_wide : (limit : ℕ) → limit < length next → IsWide (ItemsHold (map (to_itself zone) objects)) limit
+  each_wide limit many = step_wide (map (to_itself zone) objects) (to_itself zone o ∷ rest) rows left (to_itself zone o) refl 1 same behind (to_itself zone o ∷ []) rest front back bands pushed read own formed next more limit many
+
+pub all_each : (zone : Bounds) (objects : List ObjNo) (i : ℕ) (rows : List Row) → length objects ≤ i → HasEach zone objects i rows → NormalRows (ItemsHold (map (to_itself zone) objects)) rows
+all_each zone objects i rows le g =
+    let none : map (to_itself zone) (drop i objects) ≡ [] = ap (λ (v : List ObjNo). map (to_itself zone) v) (drop_all i objects le) in
+    all_gathered (map (to_itself zone) objects) [] rows refl (subst (λ (v : List Item). HasGathered (map (to_itself zone) objects) v rows) none g)

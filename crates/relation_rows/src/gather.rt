@@ -16,7 +16,7 @@ ghost use Rattle.band_normal.specs.Zones.{SomeMeets};
 ghost use Rattle.relation_rows.specs.declared.rows.Row.{Row};
 ghost use Rattle.relation_rows.specs.Rows.{KeyBefore, RowsHold, NormalRows, rows_at};
 ghost use Rattle.relation_rows.specs.Answers.{Gives};
-ghost use Rattle.relation_rows.specs.Relations.{Item, ItemsHold};
+ghost use Rattle.relation_rows.specs.Relations.{Item, ItemsHold, Rise};
 ghost use Rattle.relation_rows.specs.Gathering.{ItemUpTo, HaveOneKey, IsCounted, have_one_key};
 
 use crate::relations::Relation;
@@ -145,19 +145,26 @@ pub(crate) fn gathered_all(alloc: Global, items: Vec<Item>) -> Result<Relation, 
     }
 }
 
-/// The zone from each object to itself.
-pub(crate) fn from_each_to_itself(
+/// The relation of the zone from each object to itself. The zone is made normal once for all.
+pub(crate) fn each_to_itself(
     alloc: Global,
     objects: &[ObjNo],
     zone: Zone,
-) -> Result<Vec<Item>, AllocError>
-    ensures { IfOk result (λ items. items.items ≡ map (λ (o : PlainObjNo). (o, o, zone)) objects.now) }
+    room: usize,
+) -> Result<Relation, RelFault>
+    requires { Rise objects.now }
+    ensures { Gives result (ItemsHold (map (λ (o : PlainObjNo). (o, o, zone)) objects.now)) room }
 {
-    let mut items = Vec::new(alloc);
+    let zones = Vec::from_slice(alloc, &[zone])?;
+    let bands = normal(alloc, zones)?;
+    let mut all = Vec::new(alloc);
     for object in objects {
-        items.push((*object, *object, zone))?;
+        push_bands(&mut all, *object, *object, &bands)?;
+        if all.len() > room {
+            return Err(RelFault::Wide);
+        }
     }
-    Ok(items)
+    Ok(Relation { rows: all })
 }
 
 /// Adds the zone of each row.

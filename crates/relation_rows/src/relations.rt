@@ -12,7 +12,7 @@ ghost use Rattle.relation_rows.specs.Times.{AreTimes, Departs, Arrives};
 ghost use Rattle.relation_rows.specs.Relations.{ItemsHold, Rise, IsItself, EitherHolds, HasMiddlePoint, IsBetween, OnlyFirstHolds};
 
 use crate::compose::{busy_rows, composed};
-use crate::gather::{from_each_to_itself, gathered, gathered_all, gathered_of};
+use crate::gather::{each_to_itself, gathered_all, gathered_of};
 use crate::minus::only_in_first;
 use crate::rows::{RelFault, Row};
 use crate::search::{is_in_band, rows_between, rows_of_key};
@@ -108,8 +108,7 @@ impl Relation {
         ensures { Gives result (IsItself objects.now horizon) max_rows }
     {
         let zone = diagonal(horizon.from(), horizon.to()).unwrap();
-        let items = from_each_to_itself(alloc, objects, zone)?;
-        gathered(alloc, &items, max_rows as usize)
+        each_to_itself(alloc, objects, zone, max_rows as usize)
     }
 
     /// The relation of items: each leads from its first object to its second, between the moments of

@@ -1,15 +1,8 @@
-use Rattle.std.proofs.Common.{◌∙◌, List, SFits, w64, to_z-of_z, rules, sym, subst}
-use Rattle.band_normal.specs.Lists.{Ordered}
-use Rattle.relation_rows.specs.Answers.{Gives}
-use Rattle.relation_rows.specs.Gathering.{ItemUpTo}
-use Rattle.relation_rows.specs.Relations.{Item, ItemsHold, IsItself}
+use Rattle.std.proofs.Common.{SFits, w64, to_z-of_z, rules}
+use Rattle.relation_rows.specs.Relations.{IsItself}
 use Rattle.relation_rows.proofs.Giving.{gives_alike}
-use Rattle.relation_rows.proofs.Identity.{items_rise, are_itself, itself_are, zone_there}
+use Rattle.relation_rows.proofs.Identity.{are_itself, itself_are, zone_there}
 use Rattle.relation_rows.proofs.relations.Relation.identity.Goals as goal
-
-pub gathered-requires : goal.gathered-requires
-gathered-requires c =
-    subst (λ (v : List Item). Ordered ItemUpTo v) (sym (c.deref.ensures.value ∙ c.in_ok-items.ensures)) (items_rise c.unwrap-zone.result c.args.objects.now c.requires.rise)
 
 pub returns : goal.returns
 returns c =
@@ -20,4 +13,4 @@ returns c =
     gives_alike _ (IsItself c.args.objects.now c.args.horizon)
     (are_itself c.unwrap-zone.result c.args.objects.now c.args.horizon stays)
     (itself_are c.unwrap-zone.result c.args.objects.now c.args.horizon stays)
-    c.args.max_rows c.gathered.result (subst (λ (v : List Item). Gives c.gathered.result (ItemsHold v) c.args.max_rows) (c.deref.ensures.value ∙ c.in_ok-items.ensures) c.gathered.ensures.gives)
+    c.args.max_rows c.each_to_itself.result c.each_to_itself.ensures
