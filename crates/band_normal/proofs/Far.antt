@@ -25,13 +25,6 @@ far_flip R S f = record {
   after = f.before;
 }
 
-pub far_like : (R S R' S' : ℤ → ℤ → Type 0) → ((t u : ℤ) → R' t u → R t u) → ((t u : ℤ) → S' t u → S t u) → AreFar R S → AreFar R' S'
-far_like R S R' S' r s f = record {
-  beside = λ t u v a b. f.beside t u v (r t u a) (s t v b);
-  before = λ t u v a b. f.before t u v (r t u a) (s (t +ℤ pos 1) v b);
-  after = λ t u v a b. f.after t u v (s t u a) (r (t +ℤ pos 1) v b);
-}
-
 -- what holds at the low end and goes on from each arrival to the next holds up to the high end
 climb : (P : ℤ → Type 0) (low high : ℤ) → P low → ((u : ℤ) → low ≤ℤ u → (u +ℤ pos 1) ≤ℤ high → P u → P (u +ℤ pos 1)) → (n : ℕ) → (low +ℤ pos n) ≤ℤ high → P (low +ℤ pos n)
 climb P low high first next zero le = subst P (omega (arith, ints)) first

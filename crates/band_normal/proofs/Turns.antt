@@ -1,6 +1,5 @@
 -- The pieces of a zone, and that together they are its normal list.
-use Rattle.std.proofs.Common.{◌≡◌, ◌↔◌, List, [], ◌∷◌, ◌⊎◌, ⊎_elim, inl, inr, ℤ, pos, ◌+ℤ◌, ◌-ℤ◌, ◌≤ℤ◌, ◌<ℤ◌, arith, refl, sym, ap, subst, ◌∙◌, true≢false, false}
-use Rattle.std.specs.Prelude.{IsTrue}
+use Rattle.std.proofs.Common.{◌≡◌, List, [], ◌∷◌, ◌⊎◌, ⊎_elim, inl, inr, ℤ, pos, ◌+ℤ◌, ◌-ℤ◌, ◌≤ℤ◌, ◌<ℤ◌, arith, refl, sym, ap, subst, ◌∙◌}
 use Rattle.std.proofs.lemmas.Int.{ints, clamps, by_lt_z}
 use Rattle.std.specs.Int.{int_max, int_min}
 use Rattle.zone_core.specs.declared.Bounds.{Bounds}
@@ -174,9 +173,6 @@ third_last k from x y z p q r nx ny =
 -- where a piece begins and ends
 pub piece-span : (k : Bounds) (from : ℤ) (b : Band) → IsPiece k from b → (from ≤ℤ b.to) × (b.to ≤ℤ k.b)
 piece-span k from b p = let s = p.starts in let l = p.row.span in (omega (arith, ints), p.within)
-
-pub piece-goes_on : (k : Bounds) (from : ℤ) (b : Band) → IsPiece k from b → (IsTrue false ↔ (b.to ≡ k.b)) → b.to <ℤ k.b
-piece-goes_on k from b p more = by_lt_z b.to k.b (λ lt. lt) (λ le. absurd (true≢false (sym (more.1 (let w = p.within in omega (arith, ints))))))
 
 -- what `bands_of` promises of its list
 pub record Lists (z : Bounds) (xs : List Band) : Type 0 where

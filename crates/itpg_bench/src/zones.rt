@@ -73,7 +73,12 @@ impl Shape {
                 let low = plus(index, times(index, 13) % 2_000);
                 let end = plus(index, 1_000 + times(index, 31) % 501);
                 let high = plus(low, 300 + times(index, 17) % 900);
-                zone((index, end), (low, high), -ANY, whole(times(index, 19) % 3_000))
+                zone(
+                    (index, end),
+                    (low, high),
+                    -ANY,
+                    whole(times(index, 19) % 3_000),
+                )
             }
             Shape::Moments => {
                 let moment = times(index, 2);
@@ -96,7 +101,12 @@ fn spread(index: u32, moments: u32) -> Option<Zone> {
     let begin = times(index, moments);
     let low = plus(begin, index % 11);
     let high = plus(low, 10 + index % 21);
-    zone((begin, plus(begin, 10 + index % 31)), (low, high), 0, whole(5 + index % 13))
+    zone(
+        (begin, plus(begin, 10 + index % 31)),
+        (low, high),
+        0,
+        whole(5 + index % 13),
+    )
 }
 
 // The zone with these departures and arrivals, and differences from the least to the most.
