@@ -2,46 +2,39 @@
 use itpg_base::Name;
 use label_scope::{Scope, narrow};
 use match_parser::read_query;
-use std::alloc::Global;
-use std::process::Abort;
 
-fn labelled(rt: &impl Abort, alloc: Global, label: &[u8]) -> Scope {
-    let label = Name::new(label).expect(rt, "a name");
-    Scope::one(alloc, label).expect(rt, "memory")
-}
-
-// Whether the scope is the list of these labels.
-fn lists(scope: &Scope, labels: &[&[u8]]) -> bool {
+fn labels(scope: &Scope) -> &[Name] {
     match scope {
-        Scope::All => false,
-        Scope::These(names) => names
-            .names()
-            .iter()
-            .map(|name| name.bytes())
-            .eq(labels.iter().copied()),
+        Scope::All => &[],
+        Scope::These(labels) => labels.names(),
     }
 }
 
 #[test]
 fn a_path_starts_and_ends_within_its_labels(rt: HostRuntime) {
-    let text = b"MATCH (x:Person)-/F/-(y:meets)";
-    let query = read_query(rt.alloc(), text).ok().expect(&rt, "a query");
+    let person = Name::new(b"Person").expect(&rt, "a name");
+    let meets = Name::new(b"meets").expect(&rt, "a name");
+    let query = read_query(rt.alloc(), b"MATCH (x:Person)-/F/-(y:meets)")
+        .ok()
+        .expect(&rt, "a query");
     let scopes = narrow(rt.alloc(), &query.path, &Scope::All, &Scope::All).expect(&rt, "memory");
-    assert!(rt; lists(&scopes.0, &[b"Person"]));
-    assert!(rt; lists(&scopes.1, &[b"meets"]));
+    assert!(rt; labels(&scopes.0) == [person].as_slice());
+    assert!(rt; labels(&scopes.1) == [meets].as_slice());
 }
 
 #[test]
 fn scopes_are_met_and_joined(rt: HostRuntime) {
     let alloc = rt.alloc();
-    let room = labelled(&rt, alloc, b"Room");
-    let two = room
-        .join(alloc, &labelled(&rt, alloc, b"Person"))
-        .expect(&rt, "memory");
-    let three = two
-        .join(alloc, &labelled(&rt, alloc, b"Tag"))
-        .expect(&rt, "memory");
-    assert!(rt; lists(&three, &[b"Person", b"Room", b"Tag"]));
+    let person = Name::new(b"Person").expect(&rt, "a name");
+    let room = Name::new(b"Room").expect(&rt, "a name");
+    let tag = Name::new(b"Tag").expect(&rt, "a name");
+    let rooms = Scope::one(alloc, room).expect(&rt, "memory");
+    let persons = Scope::one(alloc, person).expect(&rt, "memory");
+    let tags = Scope::one(alloc, tag).expect(&rt, "memory");
+    let two = rooms.join(alloc, &persons).expect(&rt, "memory");
+    let three = two.join(alloc, &tags).expect(&rt, "memory");
+    assert!(rt; labels(&three) == [person, room, tag].as_slice());
     let copy = three.copy(alloc).expect(&rt, "memory");
-    assert!(rt; lists(&copy.meet(alloc, &room).expect(&rt, "memory"), &[b"Room"]));
+    let both = copy.meet(alloc, &rooms).expect(&rt, "memory");
+    assert!(rt; labels(&both) == [room].as_slice());
 }
