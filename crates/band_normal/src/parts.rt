@@ -14,6 +14,9 @@ use crate::zones::bands_of;
 use std::alloc::{AllocError, Global};
 use zone_core::Zone;
 
+// Fewer zones than these aren't parted, since a sweep over them costs less.
+const FEW_ZONES: usize = 8;
+
 /// How often at most groups are parted further, before they are cut.
 pub const ROUNDS: u32 = 12;
 
@@ -143,7 +146,7 @@ pub fn add_parted(
     // What one measure leaves together another may part, and each part may then be parted by the first again. Once all three
     // part nothing, the zones are swept together; where the sweep would be slow they are cut, and a cut changes what they
     // reach, so that both parts are parted anew.
-    if rounds == 0 || idle >= 3 {
+    if zones.len() < FEW_ZONES || rounds == 0 || idle >= 3 {
         let effort = if cuts == 0 {
             Effort::Full
         } else {
