@@ -78,15 +78,15 @@ person_waits = Sequence at_person Next
 abbrev pub two_waits_members : List Member
 two_waits_members =
     within persons
-      (exactly 2 person_waits ∷ person_waits ∷ at_person ∷ Next ∷ exactly 1 person_waits ∷ exactly 2 person_waits ∷ exactly 2 person_waits ∷ [])
+    (exactly 2 person_waits ∷ person_waits ∷ at_person ∷ Next ∷ exactly 1 person_waits ∷ exactly 2 person_waits ∷ exactly 2 person_waits ∷ [])
 
 -- F[5,7]: the powers on the way to 5, then the unions on the way to the 2 that are left
 abbrev pub five_to_seven_members : List Member
 five_to_seven_members =
     within All
-      (Repetition Forward 5 (Some 7) ∷ Forward
-        ∷ exactly 1 Forward ∷ exactly 2 Forward ∷ exactly 2 Forward ∷ exactly 4 Forward ∷ exactly 5 Forward
-        ∷ at_most 1 Forward ∷ at_most 2 Forward ∷ at_most 2 Forward ∷ [])
+    (Repetition Forward 5 (Some 7) ∷ Forward
+    ∷ exactly 1 Forward ∷ exactly 2 Forward ∷ exactly 2 Forward ∷ exactly 4 Forward ∷ exactly 5 Forward
+    ∷ at_most 1 Forward ∷ at_most 2 Forward ∷ at_most 2 Forward ∷ [])
 
 -- the powers of two up to 2^60
 abbrev pub powers_of_two : List ℕ
