@@ -8,8 +8,6 @@ mod of_itpg_run;
 #[cfg(test)]
 mod of_label_scope;
 #[cfg(test)]
-mod of_path_eval;
-#[cfg(test)]
 mod of_relation_rows;
 #[cfg(test)]
 mod of_repeat_engine;
