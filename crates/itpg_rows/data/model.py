@@ -814,9 +814,9 @@ def run(script, limit=100_000):
 
 
 def stale_copies(folder):
-    """The names of the files in examples/ that aren't the same as here."""
-    examples = folder.parents[2] / "examples"
-    return [path.name for path in sorted(examples.iterdir()) if path.read_bytes() != (folder / path.name).read_bytes()]
+    """The names of the scripts and outputs in examples/ that aren't the same as here."""
+    examples = sorted(path for path in (folder.parents[2] / "examples").iterdir() if path.suffix != ".md")
+    return [path.name for path in examples if path.read_bytes() != (folder / path.name).read_bytes()]
 
 
 def number_in(path, otherwise):
