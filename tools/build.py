@@ -42,7 +42,7 @@ def libraries():
 def seconds_of(names):
     """The seconds that the prover takes for each crate, from the page that the gate's run was written to."""
     page = TOP / "docs" / "GATE.md"
-    rows = dict(re.findall(r"^\| `(\w+)` \| (\d+)", page.read_text() if page.is_file() else "", re.M))
+    rows = dict(re.findall(r"^(\w+) +(\d+) ", page.read_text() if page.is_file() else "", re.M))
     return {name: max(int(rows.get(name, 60)), 1) for name in names}
 
 

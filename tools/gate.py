@@ -108,15 +108,16 @@ def page(seconds, whole, took, uses, last):
         f"- dearest chain, {dear:.0f} seconds one after another: {', '.join(chain)}",
         f"- longest chain, {count} crates: {', '.join(deep)}",
         "",
-        "Seconds of the processor:",
+        "Seconds of the processor, and how many wrong bodies there are:",
         "",
-        "| Crate | Proof | Tests | Wrong bodies | How many | Building |",
-        "|---|---|---|---|---|---|",
+        "```",
+        f"{'crate':18}{'proof':>7}{'tests':>7}{'wrong bodies':>14}{'many':>6}{'building':>10}",
     ]
     for name in uses:
-        own = [f"{seconds[name, kind]:.0f}" for kind in KINDS]
+        own = {kind: f"{seconds[name, kind]:.0f}" for kind in KINDS}
         edits = len(list((TOP / "crates" / name / "must-fail").glob("*.edit")))
-        lines.append(f"| `{name}` | {own[0]} | {own[1]} | {own[2]} | {edits} | {own[3]} |")
+        lines.append(f"{name:18}{own['proof']:>7}{own['tests']:>7}{own['wrong bodies']:>14}{edits:>6}{own['building']:>10}")
+    lines.append("```")
     return "\n".join(lines) + "\n"
 
 
