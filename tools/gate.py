@@ -53,7 +53,8 @@ class Watch:
             try:
                 stat = pathlib.Path(f"/proc/{pid}/stat").read_text().rpartition(")")[2].split()
                 key = pid, stat[19]
-                if key not in self.owner:
+                if not self.owner.get(key):
+                    # A process that was seen before it became the prover is asked again.
                     self.owner[key] = self.owner_of(pid, stat[1])
                 if self.owner[key]:
                     self.used[key] = (int(stat[11]) + int(stat[12])) / TICK
