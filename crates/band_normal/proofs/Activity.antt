@@ -10,11 +10,11 @@ use Rattle.band_normal.specs.declared.band.Band.{Band}
 use Rattle.band_normal.specs.declared.strips.Stretch.{Stretch}
 use Rattle.band_normal.specs.declared.strips.Ends.{Ends}
 use Rattle.band_normal.specs.declared.active.Reach.{Reach}
-use Rattle.band_normal.specs.Lists.{Among, Ordered}
+use Rattle.itpg_base.specs.Lists.{Among, Ordered}
 use Rattle.band_normal.specs.Bands.{end_at, IsWellFormed}
 use Rattle.band_normal.specs.Strips.{Holds, AreNear, IsFront, AddsBand, AreMerged, AreRuns}
 use Rattle.band_normal.specs.Actives.{ends_of, BeginsLower, IsReach, IsActiveAt, AreActive, AddsReach, IsFit}
-use Rattle.band_normal.proofs.Lists.{among_append, append_first, append_second, among_at, permutation_among, among_permutation, ordered_from_neighbours, among_take, ordered_at}
+use Rattle.itpg_base.proofs.Lists.{among_append, append_first, append_second, among_at, permutation_among, among_permutation, ordered_from_neighbours, among_take, ordered_at}
 use Rattle.band_normal.proofs.Stretches.{front_front}
 use Rattle.band_normal.proofs.Merging.{front-span, adds-front, adds-merged, runs_of_merged}
 

@@ -6,7 +6,7 @@ use Rattle.std.proofs.lemmas.List.{take_more}
 use Rattle.zone_core.specs.declared.Bounds.{Bounds}
 use Rattle.zone_core.specs.Zone.{Meets, Holds as ZoneHolds}
 use Rattle.band_normal.specs.declared.band.Band.{Band}
-use Rattle.band_normal.specs.Lists.{Among}
+use Rattle.itpg_base.specs.Lists.{Among}
 use Rattle.band_normal.specs.Bands.{end_at, IsWellFormed}
 use Rattle.band_normal.specs.Normal.{IsRun, IsRow, IsStrip}
 use Rattle.band_normal.specs.Zones.{SomeMeets}
@@ -15,7 +15,7 @@ use Rattle.band_normal.specs.Rows.{AreApart, AreAll}
 use Rattle.band_normal.specs.Parts.{AreRowsOf, AddsRows}
 use Rattle.band_normal.specs.Links.{AreStrips}
 use Rattle.band_normal.specs.Cuts.{MeetsUpTo, MeetsAfter, AreCut}
-use Rattle.band_normal.proofs.Lists.{among_append, append_ordered}
+use Rattle.itpg_base.proofs.Lists.{among_append, append_ordered}
 use Rattle.band_normal.proofs.WellFormed.{row-well_formed, held-in_range}
 use Rattle.band_normal.proofs.Zoning.{some-append, holds-append, more_formed}
 use Rattle.band_normal.proofs.Far.{all_like, all-holds}

@@ -10,12 +10,12 @@ use Rattle.band_normal.specs.declared.band.End.TheVariants.{Fixed, Moving}
 use Rattle.band_normal.specs.declared.band.Band.{Band}
 use Rattle.band_normal.specs.declared.strips.Stretch.{Stretch}
 use Rattle.band_normal.specs.declared.strips.Ends.{Ends}
-use Rattle.band_normal.specs.Lists.{Among, Ordered}
+use Rattle.itpg_base.specs.Lists.{Among, Ordered}
 use Rattle.band_normal.specs.Bands.{end_at, IsFixed, InBand}
 use Rattle.band_normal.specs.Normal.{IsRun, Steps, IsRow, IsBefore, Normal, LiesWithin, IsStrip}
 use Rattle.band_normal.specs.Strips.{InEnds, HaveGap, AreRuns}
 use Rattle.band_normal.specs.Rows.{strip, Continues, IsRowTo, AreApart, IsAlone, IsGrown, IsJoint, IsTaken, AreRowsTo, AreAll}
-use Rattle.band_normal.proofs.Lists.{among_append, append_first, append_second, append_ordered, ordered_across, ordered_either}
+use Rattle.itpg_base.proofs.Lists.{among_append, append_first, append_second, append_ordered, ordered_across, ordered_either}
 use Rattle.band_normal.proofs.Prolonging.{first_joint, closed_joint, whole_joint}
 use Rattle.band_normal.proofs.Joining.{AreJoining, taken_among, joining_start, joining_step, joining_end}
 use Rattle.band_normal.proofs.Sorting.{row_start, rows_all, before-trans}

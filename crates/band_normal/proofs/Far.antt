@@ -8,7 +8,7 @@ use Rattle.band_normal.specs.Normal.{IsRun, Steps, IsRow}
 use Rattle.band_normal.specs.Strips.{Holds}
 use Rattle.band_normal.specs.Rows.{AreApart, AreAll}
 use Rattle.band_normal.specs.Parts.{AreFar}
-use Rattle.band_normal.proofs.Lists.{among_append, append_ordered}
+use Rattle.itpg_base.proofs.Lists.{among_append, append_ordered}
 use Rattle.band_normal.proofs.Unique.{steps_near}
 use Rattle.band_normal.proofs.Zoning.{holds-append}
 use Rattle.band_normal.proofs.Sorting.{row_like}

@@ -6,12 +6,12 @@ use Rattle.std.proofs.lemmas.List.{take_more}
 use Rattle.band_normal.specs.declared.band.Band.{Band}
 use Rattle.band_normal.specs.declared.strips.Stretch.{Stretch}
 use Rattle.band_normal.specs.declared.strips.Ends.{Ends}
-use Rattle.band_normal.specs.Lists.{Among, Ordered}
+use Rattle.itpg_base.specs.Lists.{Among, Ordered}
 use Rattle.band_normal.specs.Bands.{end_at, InBand}
 use Rattle.band_normal.specs.Normal.{IsRun, Steps, IsRow, IsStrip, IsInRange}
 use Rattle.band_normal.specs.Strips.{Holds, HaveGap, AreRuns}
 use Rattle.band_normal.specs.Rows.{strip, Continues, IsRowTo, AreApart, IsTaken, CanTake, CanFollow, TakesStrip, AreRowsTo}
-use Rattle.band_normal.proofs.Lists.{among_append, append_first, append_second, append_ordered, ordered_first, ordered_second, ordered_across, ordered_at, among_at}
+use Rattle.itpg_base.proofs.Lists.{among_append, append_first, append_second, append_ordered, ordered_first, ordered_second, ordered_across, ordered_at, among_at}
 use Rattle.band_normal.proofs.Unique.{same_run, continued_one}
 
 -- three lists of rows: complete, up to the end of the stretch, and up to its beginning

@@ -1,4 +1,3 @@
-pub mod Lists
 pub mod Unique
 pub mod Extended
 pub mod WellFormed

@@ -9,12 +9,12 @@ use Rattle.band_normal.specs.declared.band.Band.{Band}
 use Rattle.band_normal.specs.declared.rows.Rows.{Rows}
 use Rattle.band_normal.specs.declared.strips.Stretch.{Stretch}
 use Rattle.band_normal.specs.declared.strips.Ends.{Ends}
-use Rattle.band_normal.specs.Lists.{Among, Ordered}
+use Rattle.itpg_base.specs.Lists.{Among, Ordered}
 use Rattle.band_normal.specs.Bands.{end_at, InBand, IsWellFormed}
 use Rattle.band_normal.specs.Normal.{IsInRange}
 use Rattle.band_normal.specs.Strips.{HaveGap, AreRuns}
 use Rattle.band_normal.specs.Rows.{strip, Continues, IsTaken, CanTake, CanFollow, TakesStrip, AreRowsTo, IsUnder, RunsBelow, JoinsStrip}
-use Rattle.band_normal.proofs.Lists.{among_append, append_first, append_second, append_ordered, ordered_second, among_at}
+use Rattle.itpg_base.proofs.Lists.{among_append, append_first, append_second, append_ordered, ordered_second, among_at}
 use Rattle.band_normal.proofs.Unique.{same_run, steps_near}
 use Rattle.band_normal.proofs.WellFormed.{strip-well_formed}
 use Rattle.band_normal.proofs.Joining.{AreJoining, joining_start, joining_more, joining_end, can_take, leader_follows}

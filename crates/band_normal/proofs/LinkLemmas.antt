@@ -13,14 +13,14 @@ use Rattle.std.proofs.lemmas.List.{take_more}
 use Rattle.std.proofs.lemmas.Map.Keys.{apart_from_distinct, IsDistinct-from_apart, IsDistinct-IsPermutation}
 use Rattle.band_normal.specs.declared.band.Band.{Band}
 use Rattle.band_normal.specs.declared.links.Corner.{Corner}
-use Rattle.band_normal.specs.Lists.{Among, Ordered}
+use Rattle.itpg_base.specs.Lists.{Among, Ordered}
 use Rattle.band_normal.specs.Bands.{end_at, InBand, IsWellFormed}
 use Rattle.band_normal.specs.Normal.{IsRun, Steps, IsRow, IsInRange}
 use Rattle.band_normal.specs.Strips.{Holds, BeginsEarlier}
 use Rattle.band_normal.specs.Zones.{present}
 use Rattle.band_normal.specs.Rows.{Continues, CanFollow, AreApart, AreAll, first_low_of}
 use Rattle.band_normal.specs.Links.{AreStrips, EndsUpTo, EndsBefore, last_low_of, LinksAt, CanLink, CanLinkAll}
-use Rattle.band_normal.proofs.Lists.{among_append, append_first, append_second, append_ordered, among_at, place_of, ordered_either, ordered_by_place, ordered_at, ordered_from_neighbours, among_permutation, permutation_among}
+use Rattle.itpg_base.proofs.Lists.{among_append, append_first, append_second, append_ordered, among_at, place_of, ordered_either, ordered_by_place, ordered_at, ordered_from_neighbours, among_permutation, permutation_among}
 use Rattle.band_normal.proofs.Unique.{same_run, continued_one, end_steps}
 use Rattle.band_normal.proofs.WellFormed.{strip-well_formed, held-in_range}
 use Rattle.band_normal.proofs.Sweeping.{holds-permutation}

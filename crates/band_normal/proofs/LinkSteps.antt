@@ -4,13 +4,13 @@ use Rattle.std.specs.Option.{option_to_list}
 use Rattle.std.proofs.lemmas.Int.{ints, by_lt_z}
 use Rattle.std.proofs.lemmas.List.{get_or-set_same, get_or-set_other, length-set}
 use Rattle.band_normal.specs.declared.band.Band.{Band}
-use Rattle.band_normal.specs.Lists.{Among, Ordered}
+use Rattle.itpg_base.specs.Lists.{Among, Ordered}
 use Rattle.band_normal.specs.Bands.{end_at, InBand, IsWellFormed}
 use Rattle.band_normal.specs.Normal.{IsRun, Steps, IsRow, IsStrip}
 use Rattle.band_normal.specs.Strips.{Holds}
 use Rattle.band_normal.specs.Rows.{Continues, IsRowTo, AreApart}
 use Rattle.band_normal.specs.Links.{EndsBefore, EndsUpTo, last_low_of, last_corner, corner_before, cleared, LinksStrip}
-use Rattle.band_normal.proofs.Lists.{among_append, append_first, append_second, append_ordered, among_at, place_of, ordered_first, ordered_across, ordered_by_place}
+use Rattle.itpg_base.proofs.Lists.{among_append, append_first, append_second, append_ordered, among_at, place_of, ordered_first, ordered_across, ordered_by_place}
 use Rattle.band_normal.proofs.Unique.{same_run, continued_one, steps_near}
 use Rattle.band_normal.proofs.Sorting.{clamped-end}
 

@@ -6,10 +6,10 @@ use Rattle.band_normal.specs.declared.band.End.{End}
 use Rattle.band_normal.specs.declared.strips.Stretch.{Stretch}
 use Rattle.band_normal.specs.declared.strips.Ends.{Ends}
 use Rattle.band_normal.specs.declared.strips.Merged.{Merged}
-use Rattle.band_normal.specs.Lists.{Among}
+use Rattle.itpg_base.specs.Lists.{Among}
 use Rattle.band_normal.specs.Bands.{end_at}
 use Rattle.band_normal.specs.Strips.{InEnds, AreNear, IsFront, StayOrdered, HaveGap, AreOne, AddsBand, first, joins, follows, AreMerged, AreRuns}
-use Rattle.band_normal.proofs.Lists.{among_append, append_first, append_second, append_ordered, ordered_first, ordered_across, ordered_as, ordered_either}
+use Rattle.itpg_base.proofs.Lists.{among_append, append_first, append_second, append_ordered, ordered_first, ordered_across, ordered_as, ordered_either}
 use Rattle.band_normal.proofs.Stretches.{front_ordered}
 
 pub whole_front : (s : Stretch) → s.from ≤ℤ s.to → IsFront s s

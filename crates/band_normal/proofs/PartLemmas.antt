@@ -13,7 +13,7 @@ use Rattle.zone_core.specs.Zone.{Meets}
 use Rattle.band_normal.specs.declared.band.Band.{Band}
 use Rattle.band_normal.specs.declared.parts.Measure.{Measure}
 use Rattle.band_normal.specs.declared.parts.Measure.TheVariants.{Departure, Arrival, Difference}
-use Rattle.band_normal.specs.Lists.{Among, Ordered}
+use Rattle.itpg_base.specs.Lists.{Among, Ordered}
 use Rattle.band_normal.specs.Bands.{IsWellFormed, InBand}
 use Rattle.band_normal.specs.Normal.{Normal, IsBefore}
 use Rattle.band_normal.specs.Zones.{SomeMeets}
@@ -21,7 +21,7 @@ use Rattle.band_normal.specs.declared.strips.Stretch.{Stretch}
 use Rattle.band_normal.specs.Strips.{Holds, Covers, BeginsEarlier}
 use Rattle.band_normal.specs.Rows.{AreApart, AreAll, AreRowsTo, CanSweep, CanOrder}
 use Rattle.band_normal.specs.Parts.{begin_of, end_of, BeginsNoLater, IsBelow, AreFar, AreRowsOf, AddsRows}
-use Rattle.band_normal.proofs.Lists.{among_append, append_first, append_second, ordered_from_neighbours, ordered_from, ordered_second, permutation_among, among_permutation}
+use Rattle.itpg_base.proofs.Lists.{among_append, append_first, append_second, ordered_from_neighbours, ordered_from, ordered_second, permutation_among, among_permutation}
 use Rattle.band_normal.proofs.Activity.{not_below}
 use Rattle.band_normal.proofs.WellFormed.{row-well_formed, held-in_range}
 use Rattle.band_normal.proofs.Zoning.{some-append, holds-append, more_formed}

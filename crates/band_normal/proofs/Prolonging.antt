@@ -5,7 +5,7 @@ use Rattle.zone_core.specs.Zone.{Within, moment_reach}
 use Rattle.std.proofs.lemmas.Int.{ints, by_lt_z}
 use Rattle.band_normal.specs.declared.band.End.{End}
 use Rattle.band_normal.specs.declared.band.Band.{Band}
-use Rattle.band_normal.specs.Lists.{Among}
+use Rattle.itpg_base.specs.Lists.{Among}
 use Rattle.band_normal.specs.Bands.{end_at, InBand, IsWellFormed}
 use Rattle.band_normal.specs.Normal.{IsRun, Steps, IsRow, IsStrip}
 use Rattle.band_normal.specs.Strips.{Holds}

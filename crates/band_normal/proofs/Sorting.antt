@@ -13,12 +13,12 @@ use Rattle.band_normal.specs.declared.band.End.{End}
 use Rattle.band_normal.specs.declared.band.End.TheVariants.{Fixed, Moving}
 use Rattle.band_normal.specs.declared.band.Band.{Band}
 use Rattle.band_normal.specs.declared.strips.Stretch.{Stretch}
-use Rattle.band_normal.specs.Lists.{Among}
+use Rattle.itpg_base.specs.Lists.{Among}
 use Rattle.band_normal.specs.Bands.{end_at, InBand, IsWellFormed}
 use Rattle.band_normal.specs.Normal.{IsRun, IsRow, IsBefore, Normal}
 use Rattle.band_normal.specs.Strips.{Holds}
 use Rattle.band_normal.specs.Rows.{IsRowTo, AreApart, AreRowsTo, AreAll, CanOrder, clamped_at, first_low_of, CanSweep}
-use Rattle.band_normal.proofs.Lists.{among_append, among_at, permutation_among, among_permutation, ordered_from_neighbours, ordered_either, ordered_by_place}
+use Rattle.itpg_base.proofs.Lists.{among_append, among_at, permutation_among, among_permutation, ordered_from_neighbours, ordered_either, ordered_by_place}
 use Rattle.band_normal.proofs.WellFormed.{row-well_formed, held-in_range}
 
 -- in range a number isn't clamped

@@ -8,10 +8,10 @@ use Rattle.band_normal.specs.declared.band.End.TheVariants.{Fixed, Moving}
 use Rattle.band_normal.specs.declared.strips.Stretch.{Stretch}
 use Rattle.band_normal.specs.declared.strips.Ends.{Ends}
 use Rattle.band_normal.specs.declared.strips.Merged.{Merged}
-use Rattle.band_normal.specs.Lists.{Among}
+use Rattle.itpg_base.specs.Lists.{Among}
 use Rattle.band_normal.specs.Bands.{end_at}
 use Rattle.band_normal.specs.Strips.{IsFront, StayOrdered, AreOne}
-use Rattle.band_normal.proofs.Lists.{append_second}
+use Rattle.itpg_base.proofs.Lists.{append_second}
 
 pub le_tells : (a b a' b' : ℤ) → a' ≡ a → b' ≡ b → IsTrue (le_z a' b') ↔ (a ≤ℤ b)
 le_tells a b a' b' e f = (λ h. grind (arith, ints), λ h. grind (arith, ints))

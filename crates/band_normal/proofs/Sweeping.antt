@@ -9,12 +9,12 @@ use Rattle.std.specs.Ordering.{int_cmp}
 use Rattle.band_normal.specs.declared.band.Band.{Band}
 use Rattle.band_normal.specs.declared.strips.Stretch.{Stretch}
 use Rattle.band_normal.specs.declared.strips.Ends.{Ends}
-use Rattle.band_normal.specs.Lists.{Among, Ordered}
+use Rattle.itpg_base.specs.Lists.{Among, Ordered}
 use Rattle.band_normal.specs.Bands.{IsWellFormed}
 use Rattle.band_normal.specs.Normal.{IsRun}
 use Rattle.band_normal.specs.Actives.{IsActiveAt}
 use Rattle.band_normal.specs.Strips.{Holds, BeginsEarlier, AreRuns}
-use Rattle.band_normal.proofs.Lists.{among_append, append_first, append_second, ordered_second, ordered_from, ordered_from_neighbours, permutation_among, among_permutation}
+use Rattle.itpg_base.proofs.Lists.{among_append, append_first, append_second, ordered_second, ordered_from, ordered_from_neighbours, permutation_among, among_permutation}
 use Rattle.band_normal.proofs.Activity.{not_below}
 
 pub later_than : (bands : List Band) (i : ℕ) (d : Band) (from : ℤ) → Ordered BeginsEarlier bands → i < length bands → from <ℤ (get_or bands i d).from → (b : Band) → Among (drop i bands) b → from <ℤ b.from

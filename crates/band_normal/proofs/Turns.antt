@@ -4,7 +4,7 @@ use Rattle.std.proofs.lemmas.Int.{ints, clamps, by_lt_z}
 use Rattle.std.specs.Int.{int_max, int_min}
 use Rattle.zone_core.specs.declared.Bounds.{Bounds}
 use Rattle.zone_core.specs.Zone.{Meets, IsNear, IsTight}
-use Rattle.band_normal.specs.Lists.{Among, Ordered}
+use Rattle.itpg_base.specs.Lists.{Among, Ordered}
 use Rattle.band_normal.specs.Bands.{end_at, IsFixed, InBand, IsWellFormed}
 use Rattle.band_normal.specs.Normal.{IsRun, IsRow, IsBefore, Normal}
 use Rattle.band_normal.specs.Pieces.{IsPiece}

@@ -3,8 +3,8 @@ use Rattle.std.proofs.Common.{◌≡◌, inl, inr, ⊎_elim, ℕ, zero, suc, ◌
 use Rattle.std.proofs.lemmas.Int.{ints, clamps, by_lt_z}
 use Rattle.std.specs.Int.{int_min}
 use borrow.Author.Differences.{up, down}
-use Rattle.band_normal.specs.Lists.{Among}
-use Rattle.band_normal.proofs.Lists.{ordered_unique}
+use Rattle.itpg_base.specs.Lists.{Among}
+use Rattle.itpg_base.proofs.Lists.{ordered_unique}
 use Rattle.band_normal.specs.Bands.{end_at, IsFixed}
 use Rattle.band_normal.specs.Normal.{IsRun, Steps, IsRow, IsBefore, Normal}
 use Rattle.band_normal.specs.declared.band.End.{End}

@@ -4,7 +4,7 @@ use Rattle.std.proofs.lemmas.Int.{ints}
 use Rattle.zone_core.specs.declared.Bounds.{Bounds}
 use Rattle.zone_core.specs.Zone.{Meets, IsNear}
 use Rattle.band_normal.specs.declared.band.Band.{Band}
-use Rattle.band_normal.specs.Lists.{Among}
+use Rattle.itpg_base.specs.Lists.{Among}
 use Rattle.band_normal.specs.Strips.{Holds}
 use Rattle.band_normal.specs.Bands.{end_at, IsWellFormed}
 use Rattle.band_normal.specs.Normal.{IsRow, IsStrip, IsInRange}

@@ -4,12 +4,12 @@ use Rattle.std.proofs.lemmas.List.{take_more}
 use Rattle.zone_core.specs.declared.Bounds.{Bounds}
 use Rattle.zone_core.specs.Zone.{Meets}
 use Rattle.band_normal.specs.declared.band.Band.{Band}
-use Rattle.band_normal.specs.Lists.{Among}
+use Rattle.itpg_base.specs.Lists.{Among}
 use Rattle.band_normal.specs.Bands.{IsWellFormed}
 use Rattle.band_normal.specs.Normal.{Normal}
 use Rattle.band_normal.specs.Zones.{SomeMeets}
 use Rattle.band_normal.specs.Strips.{Holds}
-use Rattle.band_normal.proofs.Lists.{among_append, append_first, append_second}
+use Rattle.itpg_base.proofs.Lists.{among_append, append_first, append_second}
 
 -- the rows of a normal list hold the pairs of the relation
 pub normal-holds : (R : ℤ → ℤ → Type 0) (rows : List Band) → Normal R rows → (t u : ℤ) → Holds rows t u ↔ R t u

@@ -4,7 +4,7 @@ use Rattle.band_normal.specs.declared.band.Band.{Band}
 use Rattle.band_normal.specs.declared.strips.Stretch.{Stretch}
 use Rattle.band_normal.specs.declared.strips.Ends.{Ends}
 use Rattle.band_normal.specs.declared.active.Reach.{Reach}
-use Rattle.band_normal.specs.Lists.{Among}
+use Rattle.itpg_base.specs.Lists.{Among}
 use Rattle.band_normal.specs.Bands.{end_at}
 use Rattle.band_normal.specs.Strips.{AreNear, IsFront}
 

@@ -1,4 +1,3 @@
-pub mod Lists
 pub mod Bands
 pub mod Normal
 pub mod Zones

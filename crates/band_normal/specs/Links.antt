@@ -3,7 +3,7 @@ use Rattle.std.specs.Prelude.{◌≡◌, ◌⊎◌, ℕ, ◌<◌, ◌≤◌, ℤ
 use Rattle.std.specs.Option.{option_to_list}
 use Rattle.band_normal.specs.declared.band.Band.{Band}
 use Rattle.band_normal.specs.declared.links.Corner.{Corner}
-use Rattle.band_normal.specs.Lists.{Among, Ordered}
+use Rattle.itpg_base.specs.Lists.{Among, Ordered}
 use Rattle.band_normal.specs.Bands.{end_at}
 use Rattle.band_normal.specs.Normal.{IsStrip, IsInRange}
 use Rattle.band_normal.specs.Strips.{Holds, BeginsEarlier}

@@ -4,7 +4,7 @@ use Rattle.zone_core.specs.declared.Bounds.{Bounds}
 use Rattle.band_normal.specs.declared.band.Band.{Band}
 use Rattle.band_normal.specs.declared.parts.Measure.{Measure}
 use Rattle.band_normal.specs.declared.parts.Measure.TheVariants.{Departure, Arrival, Difference}
-use Rattle.band_normal.specs.Lists.{Among}
+use Rattle.itpg_base.specs.Lists.{Among}
 use Rattle.band_normal.specs.Bands.{IsWellFormed}
 use Rattle.band_normal.specs.Zones.{SomeMeets}
 use Rattle.band_normal.specs.Rows.{AreAll}

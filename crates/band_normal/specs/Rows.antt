@@ -7,7 +7,7 @@ use Rattle.band_normal.specs.declared.band.End.TheVariants.{Fixed, Moving}
 use Rattle.band_normal.specs.declared.band.Band.{Band}
 use Rattle.band_normal.specs.declared.strips.Stretch.{Stretch}
 use Rattle.band_normal.specs.declared.strips.Ends.{Ends}
-use Rattle.band_normal.specs.Lists.{Among, Ordered}
+use Rattle.itpg_base.specs.Lists.{Among, Ordered}
 use Rattle.band_normal.specs.Bands.{end_at, IsFixed, InBand, IsWellFormed}
 use Rattle.band_normal.specs.Normal.{Steps, IsRow, IsStrip, IsInRange}
 use Rattle.band_normal.specs.Strips.{Holds, AreRuns, Covers, BeginsEarlier}

@@ -6,7 +6,7 @@ use Rattle.band_normal.specs.declared.band.Band.{Band}
 use Rattle.band_normal.specs.declared.strips.Stretch.{Stretch}
 use Rattle.band_normal.specs.declared.strips.Ends.{Ends}
 use Rattle.band_normal.specs.declared.strips.Merged.{Merged}
-use Rattle.band_normal.specs.Lists.{Among, Ordered}
+use Rattle.itpg_base.specs.Lists.{Among, Ordered}
 use Rattle.band_normal.specs.Bands.{end_at, InBand}
 use Rattle.band_normal.specs.Normal.{IsRun}
 

@@ -3,7 +3,7 @@
 ghost use Rattle.std.specs.Prelude.{◌≡◌, ◌↔◌, ◌++◌, ◌≤◌, ◌≤ℤ◌, ◌<ℤ◌, IsTrue, IfOk, OnOk, length, take, drop, filter, int_le};
 ghost use Rattle.zone_core.specs.Zone.{Within, moment_reach};
 ghost use Rattle.band_normal.specs.declared.band.Band.{Band};
-ghost use Rattle.band_normal.specs.Lists.{Among, Ordered};
+ghost use Rattle.itpg_base.specs.Lists.{Among, Ordered};
 ghost use Rattle.band_normal.specs.Bands.{IsWellFormed, end_at};
 ghost use Rattle.band_normal.specs.Strips.{Holds, IsFront, AreMerged, AreRuns, BeginsEarlier};
 

@@ -10,7 +10,7 @@ ghost use Rattle.std.specs.Int.{w64};
 ghost use Rattle.std.specs.Option.{option_to_list};
 ghost use Rattle.std.specs.List.Sorted.{IsPermutation};
 ghost use Rattle.band_normal.specs.declared.band.Band.{Band as PlainBand};
-ghost use Rattle.band_normal.specs.Lists.{Among, Ordered};
+ghost use Rattle.itpg_base.specs.Lists.{Among, Ordered};
 ghost use Rattle.band_normal.specs.Bands.{IsWellFormed};
 ghost use Rattle.band_normal.specs.Strips.{Holds, BeginsEarlier};
 ghost use Rattle.band_normal.specs.Rows.{Continues, CanFollow, IsJoint, AreAll, clamped_at};

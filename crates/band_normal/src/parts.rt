@@ -3,7 +3,7 @@
 ghost use Rattle.std.specs.Prelude.{◌≡◌, ◌↔◌, ◌≤◌, ◌<◌, ◌∷◌, [], ℤ, pos, ◌+ℤ◌, ◌≤ℤ◌, ◌<ℤ◌, IsTrue, IfOk, length, take, drop};
 ghost use Rattle.zone_core.specs.declared.Bounds.{Bounds as PlainBounds};
 ghost use Rattle.zone_core.specs.Zone.{Within, difference_reach};
-ghost use Rattle.band_normal.specs.Lists.{Among, Ordered};
+ghost use Rattle.itpg_base.specs.Lists.{Among, Ordered};
 ghost use Rattle.band_normal.specs.Zones.{SomeMeets};
 ghost use Rattle.band_normal.specs.declared.sweep.Effort.{Effort};
 

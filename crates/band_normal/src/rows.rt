@@ -5,7 +5,7 @@
 ghost use Rattle.std.specs.Prelude.{◌≡◌, ◌∷◌, [], ◌++◌, ℤ, pos, ◌+ℤ◌, ◌≤◌, ◌<◌, List, length, take, Some, IfOk, OnOk, IfSome, IfNone, slice_get};
 ghost use Rattle.std.specs.Option.{option_to_list};
 ghost use Rattle.band_normal.specs.declared.band.Band.{Band};
-ghost use Rattle.band_normal.specs.Lists.{Among, Ordered};
+ghost use Rattle.itpg_base.specs.Lists.{Among, Ordered};
 ghost use Rattle.band_normal.specs.Bands.{IsWellFormed};
 ghost use Rattle.band_normal.specs.Strips.{Holds};
 ghost use Rattle.band_normal.specs.Rows.{strip, Continues, IsUnder, RunsBelow, CanFollow, JoinsStrip, CanJoin, AreRowsTo};

@@ -1,7 +1,7 @@
 //! Two lists without the rows that stand in both.
 
 ghost use Rattle.std.specs.Prelude.{◌≡◌, ◌↔◌, ℤ, IsTrue, IfOk};
-ghost use Rattle.band_normal.specs.Lists.{Ordered};
+ghost use Rattle.itpg_base.specs.Lists.{Ordered};
 ghost use Rattle.band_normal.specs.Strips.{Holds};
 ghost use Rattle.band_normal.specs.Rows.{AreApart};
 ghost use Rattle.band_normal.specs.Strike.{OnlyFirst};

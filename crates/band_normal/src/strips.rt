@@ -2,7 +2,7 @@
 
 ghost use Rattle.std.specs.Prelude.{◌≡◌, ◌↔◌, ℤ, pos, negsuc, ◌+ℤ◌, ◌≤ℤ◌, IsTrue, IfOk, ◌++◌, ◌∷◌, []};
 ghost use Rattle.zone_core.specs.Zone.{Within, moment_reach};
-ghost use Rattle.band_normal.specs.Lists.{Among};
+ghost use Rattle.itpg_base.specs.Lists.{Among};
 ghost use Rattle.band_normal.specs.Bands.{end_at};
 
 use crate::band::End;

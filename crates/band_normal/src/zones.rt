@@ -3,7 +3,7 @@
 ghost use Rattle.std.specs.Prelude.{◌≡◌, ◌↔◌, ℤ, IfOk};
 ghost use Rattle.zone_core.specs.Zone.{Meets};
 ghost use Rattle.band_normal.specs.declared.band.Band.{Band};
-ghost use Rattle.band_normal.specs.Lists.{Among};
+ghost use Rattle.itpg_base.specs.Lists.{Among};
 ghost use Rattle.band_normal.specs.Bands.{InBand, IsWellFormed};
 ghost use Rattle.band_normal.specs.Normal.{Normal};
 ghost use Rattle.band_normal.specs.Zones.{SomeMeets, present, EmptyComeLast, with_low, with_high, bounds_of};

@@ -5,7 +5,7 @@ use Rattle.std.proofs.lemmas.Option.{slice_get_within}
 use Rattle.itpg_base.specs.declared.object_number.ObjNo.{ObjNo}
 use Rattle.itpg_base.specs.Graphs.{Graph, Stands}
 use Rattle.itpg_base.proofs.Objects.{there}
-use Rattle.band_normal.proofs.Lists.{among_append, append_first, append_second, append_ordered}
+use Rattle.itpg_base.proofs.Lists.{among_append, append_first, append_second, append_ordered}
 use Rattle.relation_rows.specs.Relations.{Rise, IsOneOf}
 use Rattle.label_scope.specs.declared.scope.Scope.{Scope}
 use Rattle.label_scope.specs.Scopes.{IsWithin}

@@ -6,8 +6,8 @@ use Rattle.itpg_base.specs.Spans.{Span, Covers, IsCoalesced}
 use Rattle.itpg_base.specs.Points.{Point}
 use Rattle.interval_set.specs.Runs.{AreRuns}
 use Rattle.zone_core.specs.Zone.{Within, moment_reach}
-use Rattle.band_normal.specs.Lists.{Among, Ordered}
-use Rattle.band_normal.proofs.Lists.{among_append, append_first, append_second, ordered_either}
+use Rattle.itpg_base.specs.Lists.{Among, Ordered}
+use Rattle.itpg_base.proofs.Lists.{among_append, append_first, append_second, ordered_either}
 use Rattle.relation_rows.specs.Relations.{Rise, IsOneOf}
 use Rattle.condition_eval.specs.declared.marks.Marked.{Marked}
 use Rattle.condition_eval.specs.Marking.{objects_of, InMark, IsMarked, AreMarks, IsMarks}

@@ -5,8 +5,8 @@ use Rattle.itpg_base.specs.Spans.{Span, Covers}
 use Rattle.itpg_base.specs.Graphs.{Graph}
 use Rattle.itpg_base.specs.Points.{Point, IsAt}
 use Rattle.interval_set.proofs.Unique.{coalesced_unique}
-use Rattle.band_normal.specs.Lists.{Among}
-use Rattle.band_normal.proofs.Lists.{ordered_unique}
+use Rattle.itpg_base.specs.Lists.{Among}
+use Rattle.itpg_base.proofs.Lists.{ordered_unique}
 use Rattle.relation_rows.specs.declared.rows.Row.{Row}
 use Rattle.relation_rows.specs.Rows.{RowsHold, NormalRows}
 use Rattle.relation_rows.specs.Relations.{Rise, IsOneOf}

@@ -9,8 +9,8 @@ use Rattle.itpg_base.specs.Spans.{Span, Within, Covers}
 use Rattle.itpg_base.specs.Graphs.{Graph, Stands}
 use Rattle.interval_set.specs.Runs.{AreRuns}
 use Rattle.interval_set.proofs.Unique.{runs_alike}
-use Rattle.band_normal.specs.Lists.{Among, Ordered}
-use Rattle.band_normal.proofs.Lists.{among_at, ordered_by_place}
+use Rattle.itpg_base.specs.Lists.{Among, Ordered}
+use Rattle.itpg_base.proofs.Lists.{among_at, ordered_by_place}
 use Rattle.relation_rows.specs.declared.rows.Row.{Row}
 use Rattle.relation_rows.specs.declared.times.OneRow.{OneRow}
 use Rattle.relation_rows.specs.Times.{TimeBefore, TimesHold, AreTimes, Departs}

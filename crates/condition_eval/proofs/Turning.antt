@@ -5,7 +5,7 @@ use Rattle.itpg_base.specs.declared.object_number.ObjNo.{ObjNo}
 use Rattle.itpg_base.specs.Spans.{Span, Within, Covers}
 use Rattle.interval_set.specs.Runs.{AreRuns}
 use Rattle.interval_set.proofs.Unique.{runs_alike}
-use Rattle.band_normal.specs.Lists.{Among}
+use Rattle.itpg_base.specs.Lists.{Among}
 use Rattle.relation_rows.specs.Relations.{Rise}
 use Rattle.condition_eval.specs.declared.marks.Marked.{Marked}
 use Rattle.condition_eval.specs.declared.marks.Connective.{Connective}

@@ -4,7 +4,7 @@ use Rattle.itpg_base.specs.declared.object_number.ObjNo.{ObjNo}
 use Rattle.itpg_base.specs.Spans.{Covers, IsCoalesced}
 use Rattle.itpg_base.specs.Points.{Point}
 use Rattle.zone_core.specs.Zone.{Within, moment_reach}
-use Rattle.band_normal.specs.Lists.{Among}
+use Rattle.itpg_base.specs.Lists.{Among}
 use Rattle.relation_rows.specs.Relations.{Rise, IsOneOf}
 use Rattle.condition_eval.specs.declared.marks.Marked.{Marked}
 

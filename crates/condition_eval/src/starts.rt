@@ -3,7 +3,7 @@
 ghost use Rattle.std.specs.Prelude.{◌≡◌, ◌↔◌, IsSome, IfOk};
 ghost use Rattle.itpg_base.specs.Spans.{Covers};
 ghost use Rattle.interval_set.specs.Runs.{AreRuns};
-ghost use Rattle.band_normal.specs.Lists.{Among, Ordered};
+ghost use Rattle.itpg_base.specs.Lists.{Among, Ordered};
 ghost use Rattle.relation_rows.specs.declared.times.OneRow.{OneRow as PlainOneRow};
 ghost use Rattle.relation_rows.specs.Relations.{Rise};
 ghost use Rattle.relation_rows.specs.Times.{TimeBefore, TimesHold, SomeHas};

@@ -1,3 +1,4 @@
+pub mod Lists
 pub mod Searches
 pub mod Objects
 pub mod PointSearch

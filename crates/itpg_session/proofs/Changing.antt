@@ -3,7 +3,7 @@ use Rattle.std.proofs.Common.{◌≡◌, inl, inr, ℕ, ◌<◌, List, [], ◌�
 use Rattle.std.proofs.lemmas.Int.{ints}
 use Rattle.itpg_base.specs.Graphs.{Graph}
 use Rattle.itpg_base.specs.Points.{Relation}
-use Rattle.band_normal.specs.Lists.{Among}
+use Rattle.itpg_base.specs.Lists.{Among}
 use Rattle.relation_rows.specs.Rows.{between}
 use Rattle.relation_rows.specs.Relations.{OnlyFirstHolds}
 use Rattle.relation_rows.specs.Answered.{Answered, pairs, times}

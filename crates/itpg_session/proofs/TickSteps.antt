@@ -6,7 +6,7 @@ use Rattle.std.proofs.lemmas.List.{map-append}
 use Rattle.std.proofs.lemmas.Option.{slice_get_within}
 use Rattle.itpg_base.specs.Words.{Word}
 use Rattle.itpg_base.specs.Graphs.{Graph}
-use Rattle.band_normal.specs.Lists.{Among, Ordered}
+use Rattle.itpg_base.specs.Lists.{Among, Ordered}
 use Rattle.relation_rows.specs.Answered.{Answered as Answers}
 use Rattle.standing_queries.specs.Watches.{Watch, NamesDiffer, rebased}
 use Rattle.itpg_session.specs.declared.ticking.Ticked.{Ticked as TickedValue}

@@ -11,7 +11,7 @@ use Rattle.edit_reader.specs.Readings.{Reading, Nothing, Changes, Asks, Watches,
 use Rattle.edit_reader.specs.Lines.{LineOf}
 use Rattle.path_ast.specs.Terms.{QueryTerm}
 use Rattle.match_parser.specs.Reading.{Reads, FaultOf}
-use Rattle.band_normal.specs.Lists.{Among, Ordered}
+use Rattle.itpg_base.specs.Lists.{Among, Ordered}
 use Rattle.relation_rows.specs.Answered.{Answered}
 use Rattle.standing_queries.specs.Watches.{Watch, IsOfKind, NamesDiffer, new_watch, without}
 use Rattle.itpg_session.specs.Rules.{watch_rules, name_rules, tick_rules, WatchBreaks, NameBreaks, TickBreaks}

@@ -1,7 +1,7 @@
 -- What holds of the watches of a machine, and of what a tick finds of them.
 use Rattle.std.specs.Prelude.{List, [], ◌∷◌, ◌||◌, IsTrue, length}
 use Rattle.itpg_base.specs.Graphs.{Graph}
-use Rattle.band_normal.specs.Lists.{Among}
+use Rattle.itpg_base.specs.Lists.{Among}
 use Rattle.path_ast.specs.Terms.{QueryTerm}
 use Rattle.row_printer.specs.Texts.{AreDeclared}
 use Rattle.standing_queries.specs.Watches.{Watch, IsOfKind}

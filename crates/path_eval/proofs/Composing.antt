@@ -4,7 +4,7 @@ use Rattle.itpg_base.specs.declared.object_number.ObjNo.{ObjNo}
 use Rattle.itpg_base.specs.Spans.{Span}
 use Rattle.itpg_base.specs.Graphs.{Graph, Good}
 use Rattle.itpg_base.specs.Points.{Point, IsAt}
-use Rattle.band_normal.specs.Lists.{Among}
+use Rattle.itpg_base.specs.Lists.{Among}
 use Rattle.relation_rows.specs.declared.rows.Row.{Row}
 use Rattle.relation_rows.specs.declared.rows.RelFault.{RelFault}
 use Rattle.relation_rows.specs.declared.rows.RelFault.TheVariants.{Memory, Wide}

@@ -7,7 +7,7 @@ use Rattle.itpg_base.specs.Graphs.{Graph, Begun, Good}
 use Rattle.itpg_base.specs.Points.{Point, Relation}
 use Rattle.band_normal.specs.declared.band.End.{End}
 use Rattle.band_normal.specs.declared.band.End.TheVariants.{Fixed, Moving}
-use Rattle.band_normal.specs.Lists.{Among, Ordered}
+use Rattle.itpg_base.specs.Lists.{Among, Ordered}
 use Rattle.band_normal.specs.Bands.{end_at}
 use Rattle.band_normal.specs.Normal.{IsRun}
 use Rattle.relation_rows.specs.declared.rows.Row.{Row}

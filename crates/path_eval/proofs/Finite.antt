@@ -11,7 +11,7 @@ use Rattle.itpg_base.proofs.Searches.{both, as_well}
 use Rattle.itpg_base.proofs.PointSearch.{some_point}
 use Rattle.zone_core.specs.Zone.{Between}
 use Rattle.interval_set.proofs.Exists.{runs_exist}
-use Rattle.band_normal.specs.Lists.{Among}
+use Rattle.itpg_base.specs.Lists.{Among}
 use Rattle.relation_rows.specs.declared.rows.Row.{Row}
 use Rattle.relation_rows.specs.declared.times.OneRow.{OneRow}
 use Rattle.relation_rows.specs.Rows.{NormalRows, Fits, IsWide, IsFinite}

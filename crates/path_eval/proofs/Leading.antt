@@ -8,7 +8,7 @@ use Rattle.itpg_base.proofs.Objects.{there, here, same_some}
 use Rattle.itpg_graph.specs.Edges.{HasNumber, AreNumbers}
 use Rattle.itpg_graph.specs.Kinds.{ends_of, IsNode}
 use Rattle.zone_core.specs.declared.Bounds.{Bounds}
-use Rattle.band_normal.specs.Lists.{Among}
+use Rattle.itpg_base.specs.Lists.{Among}
 use Rattle.label_scope.specs.declared.scope.Scope.{Scope}
 use Rattle.condition_eval.specs.Tested.{Stand}
 use Rattle.path_eval.specs.declared.axes.Direction.{Direction}

@@ -3,7 +3,7 @@ use Rattle.std.proofs.Common.{◌≡◌, inl, inr, ⊎_elim, ℕ, zero, suc, ◌
 use Rattle.std.specs.List.{AllByRecursion}
 use Rattle.itpg_base.specs.Graphs.{Graph}
 use Rattle.itpg_base.proofs.Searches.{at_most}
-use Rattle.band_normal.proofs.Lists.{among_append, append_first, append_second}
+use Rattle.itpg_base.proofs.Lists.{among_append, append_first, append_second}
 use Rattle.relation_rows.specs.Rows.{Fits, IsWide}
 use Rattle.path_ast.specs.Terms.{PathTerm, Repetition}
 use Rattle.label_scope.specs.declared.scope.Scope.{Scope}

@@ -5,7 +5,7 @@ use Rattle.itpg_base.specs.Graphs.{Graph, Stands}
 use Rattle.itpg_base.specs.Points.{Point, Relation}
 use Rattle.itpg_graph.specs.Edges.{LeadsFrom, LeadsTo}
 use Rattle.zone_core.specs.declared.Bounds.{Bounds}
-use Rattle.band_normal.specs.Lists.{Among}
+use Rattle.itpg_base.specs.Lists.{Among}
 use Rattle.relation_rows.specs.Relations.{InItem}
 use Rattle.path_ast.specs.Terms.{PathTerm, Forward, Backward, Next, Previous}
 use Rattle.path_ast.specs.Meaning.{HasSource, HasTarget}

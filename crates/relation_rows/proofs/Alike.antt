@@ -3,7 +3,7 @@ use Rattle.std.proofs.Common.{ℕ, ℤ, List, subst, arith}
 use Rattle.std.proofs.lemmas.Int.{ints}
 use Rattle.itpg_base.specs.Points.{Point, Relation}
 use Rattle.band_normal.specs.declared.band.Band.{Band}
-use Rattle.band_normal.specs.Lists.{Among}
+use Rattle.itpg_base.specs.Lists.{Among}
 use Rattle.band_normal.specs.Bands.{InBand, IsWellFormed, end_at}
 use Rattle.band_normal.specs.Normal.{IsRun, IsRow}
 use Rattle.relation_rows.specs.declared.rows.Row.{Row}

@@ -4,8 +4,8 @@ use Rattle.std.proofs.lemmas.Int.{ints, clamps, by_lt_z}
 use Rattle.std.specs.Int.{int_max}
 use Rattle.itpg_base.specs.Spans.{Span, Within, IsSpan}
 use Rattle.itpg_base.specs.declared.object_number.ObjNo.{ObjNo}
-use Rattle.band_normal.specs.Lists.{Among, Ordered}
-use Rattle.band_normal.proofs.Lists.{among_append, append_first, append_second, append_ordered, ordered_first, ordered_across}
+use Rattle.itpg_base.specs.Lists.{Among, Ordered}
+use Rattle.itpg_base.proofs.Lists.{among_append, append_first, append_second, append_ordered, ordered_first, ordered_across}
 use Rattle.relation_rows.specs.declared.times.OneRow.{OneRow}
 use Rattle.relation_rows.specs.Times.{InTime, TimesHold, TimeBefore, TimeUpTo, AreTimes, Joins}
 

@@ -5,8 +5,8 @@ use Rattle.std.proofs.lemmas.List.{take_more, take_all}
 use Rattle.itpg_base.specs.declared.object_number.ObjNo.{ObjNo}
 use Rattle.itpg_base.specs.Spans.{Span, Within, Covers, IsSpan, IsCoalesced}
 use Rattle.interval_set.specs.Runs.{AreRuns}
-use Rattle.band_normal.specs.Lists.{Among}
-use Rattle.band_normal.proofs.Lists.{among_append, append_first, append_second}
+use Rattle.itpg_base.specs.Lists.{Among}
+use Rattle.itpg_base.proofs.Lists.{among_append, append_first, append_second}
 use Rattle.relation_rows.specs.declared.times.OneRow.{OneRow}
 use Rattle.relation_rows.specs.Times.{InTime, TimesHold, OnlyFirstHas, SomeHas}
 use Rattle.relation_rows.proofs.Coalescing.{hold_more}

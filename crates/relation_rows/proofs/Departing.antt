@@ -2,8 +2,8 @@
 use Rattle.std.proofs.Common.{◌≡◌, ◌↔◌, ◌⊎◌, inl, inr, ⊎_elim, ℕ, suc, ◌<◌, ◌/◌, ℤ, ◌≤ℤ◌, ◌<ℤ◌, List, [], ◌∷◌, ◌++◌, length, sym, ◌∙◌, subst, arith, true, false, true≢false}
 use Rattle.std.proofs.lemmas.Int.{ints}
 use Rattle.std.proofs.lemmas.Bool.Decides.{Decides-ltb}
-use Rattle.band_normal.specs.Lists.{Among, Ordered}
-use Rattle.band_normal.proofs.Lists.{among_append, append_first, append_second, ordered_first, ordered_second}
+use Rattle.itpg_base.specs.Lists.{Among, Ordered}
+use Rattle.itpg_base.proofs.Lists.{among_append, append_first, append_second, ordered_first, ordered_second}
 use Rattle.relation_rows.specs.declared.timetable.Reach.{Reach}
 use Rattle.relation_rows.specs.declared.timetable.Stop.{Stop}
 use Rattle.relation_rows.specs.Timetables.{StopUpTo, AreReached, DepartsWithin, HasFound, departs_within, departs_by, is_short_of}

@@ -4,11 +4,11 @@ use Rattle.std.specs.Prelude.{slice_get}
 use Rattle.itpg_base.specs.Points.{Point}
 use Rattle.zone_core.specs.Zone.{Meets}
 use Rattle.band_normal.specs.declared.band.Band.{Band}
-use Rattle.band_normal.specs.Lists.{Among, Ordered}
+use Rattle.itpg_base.specs.Lists.{Among, Ordered}
 use Rattle.band_normal.specs.Bands.{IsWellFormed}
 use Rattle.band_normal.specs.Normal.{Normal}
 use Rattle.band_normal.specs.Zones.{SomeMeets}
-use Rattle.band_normal.proofs.Lists.{among_append}
+use Rattle.itpg_base.proofs.Lists.{among_append}
 use Rattle.band_normal.proofs.Sorting.{normal_like}
 use Rattle.relation_rows.specs.declared.rows.Row.{Row}
 use Rattle.relation_rows.specs.Rows.{between, KeyBefore, NormalRows, IsWide, rows_at}

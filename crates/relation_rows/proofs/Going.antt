@@ -7,9 +7,9 @@ use Rattle.itpg_base.specs.Points.{Point}
 use Rattle.zone_core.specs.declared.Bounds.{Bounds}
 use Rattle.zone_core.specs.Zone.{Meets, Holds, IsZoneOf}
 use Rattle.zone_compose.specs.Compose.{HasMiddle, AreArrivals}
-use Rattle.band_normal.specs.Lists.{Among, Ordered}
+use Rattle.itpg_base.specs.Lists.{Among, Ordered}
 use Rattle.band_normal.specs.Bands.{InBand, IsWellFormed}
-use Rattle.band_normal.proofs.Lists.{among_append, append_first, append_second, among_at}
+use Rattle.itpg_base.proofs.Lists.{among_append, append_first, append_second, among_at}
 use Rattle.relation_rows.specs.declared.rows.Row.{Row}
 use Rattle.relation_rows.specs.declared.timetable.Stop.{Stop}
 use Rattle.relation_rows.specs.Rows.{InRow, RowsHold, RowBefore}

@@ -1,9 +1,9 @@
 -- Whether some of the rows of one source and one target has a pair.
 use Rattle.std.proofs.Common.{◌≡◌, ◌↔◌, ⊎_elim, ℕ, ◌+◌, ◌<◌, ◌≤◌, ℤ, List, [], ◌∷◌, length, take, slice_index_or, sym, subst}
 use Rattle.std.proofs.lemmas.List.{take_more, take_all}
-use Rattle.band_normal.specs.Lists.{Among}
+use Rattle.itpg_base.specs.Lists.{Among}
 use Rattle.band_normal.specs.Bands.{InBand, IsWellFormed}
-use Rattle.band_normal.proofs.Lists.{among_append, among_at}
+use Rattle.itpg_base.proofs.Lists.{among_append, among_at}
 use Rattle.relation_rows.specs.declared.rows.Row.{Row}
 use Rattle.relation_rows.specs.Rows.{HasKey, RowsHold}
 

@@ -5,10 +5,10 @@ use Rattle.std.proofs.lemmas.List.{take_more, take_all}
 use Rattle.itpg_base.specs.Points.{Point}
 use Rattle.zone_core.specs.declared.Bounds.{Bounds}
 use Rattle.zone_core.specs.Zone.{Meets, MeetsBoth, MeetsFirstOnly, Holds, SomeHolds, IsZoneOf}
-use Rattle.band_normal.specs.Lists.{Among}
+use Rattle.itpg_base.specs.Lists.{Among}
 use Rattle.band_normal.specs.Bands.{InBand}
 use Rattle.band_normal.specs.Zones.{SomeMeets}
-use Rattle.band_normal.proofs.Lists.{among_append, append_first, append_second}
+use Rattle.itpg_base.proofs.Lists.{among_append, append_first, append_second}
 use Rattle.relation_rows.specs.declared.rows.Row.{Row}
 use Rattle.relation_rows.specs.Rows.{HasKey}
 use Rattle.relation_rows.specs.Relations.{Item, ItemsHold}

@@ -4,10 +4,10 @@ use Rattle.std.proofs.lemmas.Bool.Decides.{eqb_tells}
 use Rattle.itpg_base.specs.Points.{Point, Relation}
 use Rattle.itpg_base.proofs.Searches.{at_most}
 use Rattle.band_normal.specs.declared.band.Band.{Band}
-use Rattle.band_normal.specs.Lists.{Among, Ordered}
+use Rattle.itpg_base.specs.Lists.{Among, Ordered}
 use Rattle.band_normal.specs.Bands.{InBand}
 use Rattle.band_normal.specs.Normal.{IsRow, IsBefore, Normal}
-use Rattle.band_normal.proofs.Lists.{among_append, append_first, append_second, append_ordered, ordered_unique}
+use Rattle.itpg_base.proofs.Lists.{among_append, append_first, append_second, append_ordered, ordered_unique}
 use Rattle.band_normal.proofs.Unique.{normal_unique, before_apart}
 use Rattle.relation_rows.specs.declared.rows.Row.{Row}
 use Rattle.relation_rows.specs.Rows.{between, InRow, KeyBefore, RowBefore, NormalRows, IsWide, rows_at}

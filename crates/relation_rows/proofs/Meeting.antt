@@ -4,8 +4,8 @@ use Rattle.std.proofs.lemmas.Int.{ints}
 use Rattle.std.proofs.lemmas.List.{take_all, length-drop, take-append-drop}
 use Rattle.std.proofs.lemmas.Bool.Decides.{eqb_tells, Decides-ltb}
 use Rattle.std.specs.List.Sorted.{IsPartitionedBy, IsPartitionPoint}
-use Rattle.band_normal.specs.Lists.{Among, Ordered}
-use Rattle.band_normal.proofs.Lists.{ordered_by_place, ordered_first}
+use Rattle.itpg_base.specs.Lists.{Among, Ordered}
+use Rattle.itpg_base.proofs.Lists.{ordered_by_place, ordered_first}
 use Rattle.relation_rows.specs.declared.times.OneRow.{OneRow}
 use Rattle.itpg_base.specs.Spans.{IsSpan}
 use Rattle.relation_rows.specs.Times.{TimeBefore, IsOneTime, begins_by, ends_before}

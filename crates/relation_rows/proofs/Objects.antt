@@ -8,7 +8,7 @@ use Rattle.std.specs.Cmp.{nat_cmp_is}
 use Rattle.std.specs.List.Sorted.{IsBinarySearchResult, IsSearchInRange}
 use Rattle.std.proofs.lemmas.Bool.Decides.{eqb_tells}
 use Rattle.itpg_base.specs.declared.object_number.ObjNo.{ObjNo}
-use Rattle.band_normal.proofs.Lists.{among_at, place_of, ordered_by_place}
+use Rattle.itpg_base.proofs.Lists.{among_at, place_of, ordered_by_place}
 use Rattle.itpg_base.proofs.Searches.{at_most}
 use Rattle.relation_rows.specs.Relations.{Rise, IsOneOf}
 

@@ -3,8 +3,8 @@ use Rattle.std.proofs.Common.{◌≡◌, ◌⊎◌, inl, inr, ⊎_elim, ℕ, zer
 use Rattle.std.specs.Prelude.{slice_get}
 use Rattle.std.specs.List.{AllWithin}
 use Rattle.std.proofs.lemmas.List.{length-take, length-drop, get_or-take, get_or-drop, take_more, take-append-drop}
-use Rattle.band_normal.specs.Lists.{Among, Ordered}
-use Rattle.band_normal.proofs.Lists.{all_among, among_append, append_first, append_second, among_at}
+use Rattle.itpg_base.specs.Lists.{Among, Ordered}
+use Rattle.itpg_base.proofs.Lists.{all_among, among_append, append_first, append_second, among_at}
 
 pub among_before : {X : Type 0} (P : X → Type 0) (xs : List X) (n : ℕ) → n ≤ length xs → AllWithin P xs 0 n → (x : X) → Among (take n xs) x → P x
 among_before P xs n le all = all_among P (take n xs) (λ k d lt. let below : k < n = omega (arith, length-take n xs) in subst P (sym (get_or-take n xs k d below)) (all k d (omega arith) below))

@@ -5,9 +5,9 @@ use Rattle.itpg_base.specs.Points.{Point}
 use Rattle.zone_core.specs.declared.Bounds.{Bounds}
 use Rattle.zone_core.specs.Zone.{Meets}
 use Rattle.band_normal.specs.declared.band.Band.{Band}
-use Rattle.band_normal.specs.Lists.{Among}
+use Rattle.itpg_base.specs.Lists.{Among}
 use Rattle.band_normal.specs.Bands.{InBand}
-use Rattle.band_normal.proofs.Lists.{among_append, append_first, append_second}
+use Rattle.itpg_base.proofs.Lists.{among_append, append_first, append_second}
 use Rattle.relation_rows.specs.declared.rows.Row.{Row}
 use Rattle.relation_rows.specs.Rows.{InRow, RowsHold, rows_at}
 use Rattle.relation_rows.specs.Relations.{Item, InItem, ItemsHold}

@@ -1,8 +1,8 @@
 -- How far rows reach, and the stops that are made of them by halves.
 use Rattle.std.proofs.Common.{◌≡◌, ⊎_elim, ℕ, zero, suc, ◌+◌, ◌<◌, ◌≤◌, ◌/◌, List, [], ◌∷◌, ◌++◌, length, map, slice_index_or, take, drop, refl, sym, ◌∙◌, ap, subst, arith, append_assoc}
 use Rattle.std.proofs.lemmas.List.{take_all, take_at, drop_at, take_more, append-nil, map-append, length-map}
-use Rattle.band_normal.specs.Lists.{Among}
-use Rattle.band_normal.proofs.Lists.{among_append}
+use Rattle.itpg_base.specs.Lists.{Among}
+use Rattle.itpg_base.proofs.Lists.{among_append}
 use Rattle.relation_rows.specs.declared.rows.Row.{Row}
 use Rattle.relation_rows.specs.declared.timetable.Reach.{Reach}
 use Rattle.relation_rows.specs.declared.timetable.Stop.{Stop}

@@ -5,8 +5,8 @@ use Rattle.std.specs.declared.cmp.Ordering.{Ordering}
 use Rattle.std.specs.declared.cmp.Ordering.TheVariants.{Less, Equal}
 use Rattle.std.specs.List.Sorted.{IsPermutation}
 use Rattle.itpg_base.specs.Points.{Point}
-use Rattle.band_normal.specs.Lists.{Ordered}
-use Rattle.band_normal.proofs.Lists.{ordered_from_neighbours, permutation_among, among_permutation}
+use Rattle.itpg_base.specs.Lists.{Ordered}
+use Rattle.itpg_base.proofs.Lists.{ordered_from_neighbours, permutation_among, among_permutation}
 use Rattle.relation_rows.specs.Rows.{KeyBefore}
 use Rattle.relation_rows.specs.Relations.{Item, ItemsHold}
 use Rattle.relation_rows.specs.Gathering.{ItemUpTo}

@@ -6,10 +6,10 @@ use Rattle.std.specs.declared.cmp.Ordering.{Ordering}
 use Rattle.std.specs.declared.cmp.Ordering.TheVariants.{Less, Equal}
 use Rattle.std.specs.List.Sorted.{IsPermutation}
 use Rattle.itpg_base.specs.Points.{Point}
-use Rattle.band_normal.specs.Lists.{Among, Ordered}
+use Rattle.itpg_base.specs.Lists.{Among, Ordered}
 use Rattle.band_normal.specs.Bands.{IsWellFormed}
 use Rattle.band_normal.proofs.Activity.{not_below}
-use Rattle.band_normal.proofs.Lists.{ordered_from_neighbours, permutation_among, among_permutation}
+use Rattle.itpg_base.proofs.Lists.{ordered_from_neighbours, permutation_among, among_permutation}
 use Rattle.relation_rows.specs.declared.rows.Row.{Row}
 use Rattle.relation_rows.specs.declared.timetable.Stop.{Stop}
 use Rattle.relation_rows.specs.Rows.{InRow, RowsHold}

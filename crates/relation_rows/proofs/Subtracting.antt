@@ -7,10 +7,10 @@ use Rattle.std.proofs.lemmas.Bool.Decides.{eqb_tells}
 use Rattle.std.proofs.lemmas.Option.{slice_get_within, get_or_from_slice_get}
 use Rattle.itpg_base.specs.Points.{Point}
 use Rattle.zone_core.specs.declared.Bounds.{Bounds}
-use Rattle.band_normal.specs.Lists.{Among, Ordered}
+use Rattle.itpg_base.specs.Lists.{Among, Ordered}
 use Rattle.band_normal.specs.Bands.{IsWellFormed}
 use Rattle.band_normal.specs.Zones.{SomeMeets}
-use Rattle.band_normal.proofs.Lists.{among_at}
+use Rattle.itpg_base.proofs.Lists.{among_at}
 use Rattle.relation_rows.specs.declared.rows.Row.{Row}
 use Rattle.relation_rows.specs.Rows.{HasKey, RowsHold, RowBefore}
 use Rattle.relation_rows.specs.Relations.{Item, ItemsHold, OnlyFirstHolds}

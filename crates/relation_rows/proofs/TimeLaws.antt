@@ -9,8 +9,8 @@ use Rattle.interval_set.specs.Runs.{AreRuns}
 use Rattle.interval_set.proofs.Coalesced.{covered_late}
 use Rattle.interval_set.proofs.Exists.{runs_exist}
 use Rattle.zone_core.specs.Zone.{Between}
-use Rattle.band_normal.specs.Lists.{Among, Ordered}
-use Rattle.band_normal.proofs.Lists.{among_append, append_first, append_second, append_ordered, ordered_either, ordered_unique}
+use Rattle.itpg_base.specs.Lists.{Among, Ordered}
+use Rattle.itpg_base.proofs.Lists.{among_append, append_first, append_second, append_ordered, ordered_either, ordered_unique}
 use Rattle.relation_rows.specs.declared.times.OneRow.{OneRow}
 use Rattle.relation_rows.specs.Times.{TimesHold, TimeBefore, AreTimes}
 

@@ -5,7 +5,7 @@ use Rattle.itpg_base.specs.Spans.{Span, Within}
 use Rattle.itpg_base.specs.Points.{Point, Relation}
 use Rattle.zone_core.specs.declared.Bounds.{Bounds}
 use Rattle.zone_core.specs.Zone.{Meets}
-use Rattle.band_normal.specs.Lists.{Among, Ordered}
+use Rattle.itpg_base.specs.Lists.{Among, Ordered}
 use Rattle.relation_rows.specs.declared.rows.Row.{Row}
 use Rattle.relation_rows.specs.Rows.{RowsHold}
 

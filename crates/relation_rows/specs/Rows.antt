@@ -3,7 +3,7 @@ use Rattle.std.specs.Prelude.{◌≡◌, ◌⊎◌, ℕ, ◌<◌, ◌≤◌, ℤ
 use Rattle.itpg_base.specs.Points.{Point, Relation}
 use Rattle.zone_core.specs.Zone.{Between}
 use Rattle.band_normal.specs.declared.band.Band.{Band}
-use Rattle.band_normal.specs.Lists.{Among, Ordered}
+use Rattle.itpg_base.specs.Lists.{Among, Ordered}
 use Rattle.band_normal.specs.Bands.{InBand, IsWellFormed}
 use Rattle.band_normal.specs.Normal.{IsRow, IsBefore}
 use Rattle.relation_rows.specs.declared.rows.Row.{Row}

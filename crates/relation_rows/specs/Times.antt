@@ -3,7 +3,7 @@ use Rattle.std.specs.Prelude.{◌≡◌, ◌⊎◌, ◌==◌, ◌&&◌, ◌||◌
 use Rattle.itpg_base.specs.Spans.{Within, IsSpan}
 use Rattle.itpg_base.specs.Points.{Point}
 use Rattle.band_normal.specs.declared.band.Band.{Band}
-use Rattle.band_normal.specs.Lists.{Among, Ordered}
+use Rattle.itpg_base.specs.Lists.{Among, Ordered}
 use Rattle.band_normal.specs.Bands.{InBand}
 use Rattle.relation_rows.specs.declared.rows.Row.{Row}
 use Rattle.relation_rows.specs.declared.times.OneRow.{OneRow}

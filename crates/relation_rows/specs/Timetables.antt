@@ -1,7 +1,7 @@
 -- Rows in order of source and departure, and stops.
 use Rattle.std.specs.Prelude.{◌≡◌, ◌⊎◌, ◌↔◌, ◌==◌, ◌&&◌, ◌||◌, nat_lt, int_le, int_lt, Bool, ℕ, ◌<◌, ◌/◌, zero, suc, ℤ, ◌≤ℤ◌, List, ◌∷◌, ◌++◌, length, map}
 use Rattle.itpg_base.specs.Points.{Relation}
-use Rattle.band_normal.specs.Lists.{Among, Ordered}
+use Rattle.itpg_base.specs.Lists.{Among, Ordered}
 use Rattle.band_normal.specs.Bands.{IsWellFormed}
 use Rattle.relation_rows.specs.declared.rows.Row.{Row}
 use Rattle.relation_rows.specs.declared.timetable.Reach.{Reach}

@@ -1,7 +1,7 @@
 -- Rows of one source and one target, and the union of those of two lists.
 use Rattle.std.specs.Prelude.{◌≡◌, ◌⊎◌, ◌++◌, ℤ, List, map}
 use Rattle.band_normal.specs.declared.band.Band.{Band}
-use Rattle.band_normal.specs.Lists.{Among}
+use Rattle.itpg_base.specs.Lists.{Among}
 use Rattle.band_normal.specs.Bands.{InBand, IsWellFormed}
 use Rattle.band_normal.specs.Normal.{Normal}
 use Rattle.relation_rows.specs.declared.rows.Row.{Row}

@@ -9,7 +9,7 @@ ghost use Rattle.itpg_base.specs.declared.object_number.ObjNo.{ObjNo as PlainObj
 ghost use Rattle.itpg_base.specs.Points.{Point};
 ghost use Rattle.zone_core.specs.Zone.{Meets};
 ghost use Rattle.band_normal.specs.declared.band.Band.{Band};
-ghost use Rattle.band_normal.specs.Lists.{Among, Ordered};
+ghost use Rattle.itpg_base.specs.Lists.{Among, Ordered};
 ghost use Rattle.band_normal.specs.Bands.{IsWellFormed};
 ghost use Rattle.band_normal.specs.Normal.{Normal};
 ghost use Rattle.band_normal.specs.Zones.{SomeMeets};

@@ -6,7 +6,7 @@
 ghost use Rattle.std.specs.Prelude.{◌≡◌, ◌⊎◌, ◌↔◌, ◌<◌, ◌≤◌, ℤ, length, take, slice_get, Some, IfOk, OnOk};
 ghost use Rattle.itpg_base.specs.Points.{Point};
 ghost use Rattle.zone_core.specs.Zone.{Meets, MeetsBoth, MeetsFirstOnly, SomeHolds};
-ghost use Rattle.band_normal.specs.Lists.{Among, Ordered};
+ghost use Rattle.itpg_base.specs.Lists.{Among, Ordered};
 ghost use Rattle.band_normal.specs.Bands.{IsWellFormed};
 ghost use Rattle.band_normal.specs.Zones.{SomeMeets};
 ghost use Rattle.relation_rows.specs.declared.rows.Row.{Row as PlainRow};

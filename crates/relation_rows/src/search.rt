@@ -2,7 +2,7 @@
 
 ghost use Rattle.std.specs.Prelude.{◌≡◌, ◌↔◌, ℕ, IsTrue, IfOk};
 ghost use Rattle.band_normal.specs.Bands.{InBand, IsWellFormed};
-ghost use Rattle.band_normal.specs.Lists.{Among, Ordered};
+ghost use Rattle.itpg_base.specs.Lists.{Among, Ordered};
 ghost use Rattle.relation_rows.specs.declared.rows.Row.{Row};
 ghost use Rattle.relation_rows.specs.Rows.{RowBefore, HasKey};
 ghost use Rattle.relation_rows.specs.Relations.{Rise, IsOneOf};

@@ -3,7 +3,7 @@
 ghost use Rattle.std.specs.Prelude.{◌≡◌, ◌⊎◌, ◌↔◌, ◌≤◌, ℕ, ℤ, pos, ◌+ℤ◌, ◌≤ℤ◌, length, IfOk, OnOk, IsTrue};
 ghost use Rattle.itpg_base.specs.Spans.{Within, Covers, IsSpan, IsCoalesced};
 ghost use Rattle.band_normal.specs.declared.band.Band.{Band as PlainBand};
-ghost use Rattle.band_normal.specs.Lists.{Among, Ordered};
+ghost use Rattle.itpg_base.specs.Lists.{Among, Ordered};
 ghost use Rattle.band_normal.specs.Bands.{IsWellFormed};
 ghost use Rattle.relation_rows.specs.declared.rows.Row.{Row as PlainRow};
 ghost use Rattle.relation_rows.specs.declared.times.OneRow.{OneRow as PlainOneRow};

@@ -4,7 +4,7 @@
 
 ghost use Rattle.std.specs.Prelude.{◌≡◌, ◌⊎◌, ◌≤◌, [], length, take, drop, IfOk, OnOk, IfSome, IfNone};
 ghost use Rattle.band_normal.specs.declared.band.Band.{Band as PlainBand};
-ghost use Rattle.band_normal.specs.Lists.{Among, Ordered};
+ghost use Rattle.itpg_base.specs.Lists.{Among, Ordered};
 ghost use Rattle.band_normal.specs.Bands.{IsWellFormed};
 ghost use Rattle.band_normal.specs.Normal.{Normal};
 ghost use Rattle.relation_rows.specs.declared.rows.Row.{Row as PlainRow};

@@ -4,7 +4,7 @@ use Rattle.std.specs.Fmt.{signed_decimal}
 use Rattle.itpg_base.specs.Graphs.{Graph, name_at}
 use Rattle.band_normal.specs.declared.band.End.{End}
 use Rattle.band_normal.specs.declared.band.End.TheVariants.{Fixed, Moving}
-use Rattle.band_normal.specs.Lists.{Among}
+use Rattle.itpg_base.specs.Lists.{Among}
 use Rattle.relation_rows.specs.declared.rows.Row.{Row}
 use Rattle.relation_rows.specs.declared.times.OneRow.{OneRow}
 use Rattle.relation_rows.specs.Answered.{Answered, pairs, times}

@@ -9,7 +9,7 @@ use Rattle.itpg_base.specs.Words.{Word}
 use Rattle.itpg_base.proofs.Objects.{word_same, word_refl}
 use Rattle.path_ast.specs.Terms.{QueryTerm, query_term, path_term}
 use Rattle.path_ast.specs.Sizes.{IsPathInRange}
-use Rattle.band_normal.specs.Lists.{Among}
+use Rattle.itpg_base.specs.Lists.{Among}
 use Rattle.relation_rows.specs.declared.answered.Answer.{Answer}
 use Rattle.relation_rows.specs.Answered.{Answered, pairs, times, answered}
 use Rattle.relation_rows.proofs.Partitions.{among_more}

@@ -5,8 +5,8 @@ use Rattle.std.specs.Prelude.{nat_eq, slice_get, IsSomeAnd}
 use Rattle.std.specs.Cmp.Lexicographic.{pointwise}
 use Rattle.itpg_base.specs.Words.{Word}
 use Rattle.itpg_base.proofs.Objects.{word_same, word_refl}
-use Rattle.band_normal.specs.Lists.{Among, Ordered}
-use Rattle.band_normal.proofs.Lists.{among_append, append_ordered}
+use Rattle.itpg_base.specs.Lists.{Among, Ordered}
+use Rattle.itpg_base.proofs.Lists.{among_append, append_ordered}
 use Rattle.relation_rows.specs.Answered.{Answered}
 use Rattle.standing_queries.specs.Watches.{Watch, IsWatched, IsOfKind, NamesDiffer, without, rebased}
 use Rattle.standing_queries.specs.Stores.{IsSound, AreSound}

@@ -1,6 +1,6 @@
 -- What is kept of the watches.
 use Rattle.std.specs.Prelude.{◌||◌, ◌≤◌, IsTrue, List, length}
-use Rattle.band_normal.specs.Lists.{Among, Ordered}
+use Rattle.itpg_base.specs.Lists.{Among, Ordered}
 use Rattle.path_ast.specs.Terms.{query_term}
 use Rattle.path_ast.specs.Sizes.{IsPathInRange}
 use Rattle.relation_rows.specs.Answered.{answered}

@@ -1,4 +1,4 @@
-use Rattle.band_normal.proofs.Lists.{among_at}
+use Rattle.itpg_base.proofs.Lists.{among_at}
 use Rattle.band_normal.proofs.Stretches.{front_front}
 use Rattle.band_normal.proofs.Activity.{active_at, active_step}
 use Rattle.band_normal.proofs.active.active_along.Goals as goal

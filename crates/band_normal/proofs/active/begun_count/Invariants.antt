@@ -1,6 +1,6 @@
 use Rattle.std.proofs.Common.{take, ◌≤ℤ◌}
 use Rattle.band_normal.specs.declared.band.Band.{Band}
-use Rattle.band_normal.specs.Lists.{Among}
+use Rattle.itpg_base.specs.Lists.{Among}
 use Rattle.band_normal.proofs.active.begun_count.Given as goal
 
 abbrev pub invariant-loop-i : goal.invariant-loop-i

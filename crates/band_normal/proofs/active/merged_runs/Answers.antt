@@ -1,6 +1,6 @@
 use Rattle.std.proofs.Common.{List, subst, sym}
 use Rattle.band_normal.specs.declared.active.Reach.{Reach}
-use Rattle.band_normal.specs.Lists.{Among, Ordered}
+use Rattle.itpg_base.specs.Lists.{Among, Ordered}
 use Rattle.band_normal.specs.Actives.{BeginsLower}
 use Rattle.band_normal.proofs.Activity.{band_near, band_lower, band_merged, band_front}
 use Rattle.band_normal.proofs.active.merged_runs.Goals as goal

@@ -1,6 +1,6 @@
 use Rattle.std.proofs.Common.{List, sym, subst, ℤ, ◌↔◌}
 use Rattle.zone_core.specs.declared.Bounds.{Bounds}
-use Rattle.band_normal.specs.Lists.{Ordered}
+use Rattle.itpg_base.specs.Lists.{Ordered}
 use Rattle.band_normal.specs.Zones.{SomeMeets}
 use Rattle.band_normal.specs.Parts.{BeginsNoLater}
 use Rattle.band_normal.proofs.PartLemmas.{only_adds, rows_added, parting_start, parting_step, parting_end, none_left}

@@ -1,9 +1,9 @@
 use Rattle.std.proofs.Common.{List, sym, subst}
 use Rattle.band_normal.specs.declared.band.Band.{Band}
 use Rattle.band_normal.specs.declared.strips.Ends.{Ends}
-use Rattle.band_normal.specs.Lists.{Among}
+use Rattle.itpg_base.specs.Lists.{Among}
 use Rattle.band_normal.specs.Strips.{Holds, AreRuns}
-use Rattle.band_normal.proofs.Lists.{append_second}
+use Rattle.itpg_base.proofs.Lists.{append_second}
 use Rattle.band_normal.proofs.LineLemmas.{lining_start, waiting_formed, strip_formed, waiting_next, lined_follow, lining_step, lining_rows, lining_line}
 use Rattle.band_normal.proofs.rows.join.Goals as goal
 

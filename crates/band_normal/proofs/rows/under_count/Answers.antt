@@ -2,7 +2,7 @@ use Rattle.std.proofs.Common.{◌<◌, length, refl, sym, subst, arith}
 use Rattle.std.proofs.lemmas.Option.{get_or_from_slice_get, slice_get_within}
 use Rattle.band_normal.specs.declared.band.Band.{Band}
 use Rattle.band_normal.specs.Rows.{IsUnder}
-use Rattle.band_normal.proofs.Lists.{among_at}
+use Rattle.itpg_base.proofs.Lists.{among_at}
 use Rattle.band_normal.proofs.Prolonging.{not_true}
 use Rattle.band_normal.proofs.LineLemmas.{under_more}
 use Rattle.band_normal.proofs.rows.under_count.Goals as goal

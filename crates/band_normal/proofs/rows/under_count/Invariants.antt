@@ -1,6 +1,6 @@
 use Rattle.std.proofs.Common.{take}
 use Rattle.band_normal.specs.declared.band.Band.{Band}
-use Rattle.band_normal.specs.Lists.{Among}
+use Rattle.itpg_base.specs.Lists.{Among}
 use Rattle.band_normal.specs.Rows.{IsUnder}
 use Rattle.band_normal.proofs.rows.under_count.Given as goal
 

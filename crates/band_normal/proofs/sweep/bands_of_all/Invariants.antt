@@ -1,7 +1,7 @@
 use Rattle.std.proofs.Common.{take, ℤ}
 use Rattle.std.specs.Prelude.{◌↔◌}
 use Rattle.band_normal.specs.declared.band.Band.{Band}
-use Rattle.band_normal.specs.Lists.{Among}
+use Rattle.itpg_base.specs.Lists.{Among}
 use Rattle.band_normal.specs.Bands.{IsWellFormed}
 use Rattle.band_normal.specs.Zones.{SomeMeets}
 use Rattle.band_normal.specs.Strips.{Holds}

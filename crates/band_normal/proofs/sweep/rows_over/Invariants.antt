@@ -1,7 +1,7 @@
 use Rattle.std.proofs.Common.{◌≡◌, pos, ◌+ℤ◌, ◌-ℤ◌, ◌≤ℤ◌}
 use borrow.Author.Differences.{up}
 use Rattle.band_normal.specs.Strips.{Holds}
-use Rattle.band_normal.specs.Lists.{Ordered}
+use Rattle.itpg_base.specs.Lists.{Ordered}
 use Rattle.band_normal.specs.Rows.{AreRowsTo, RunsBelow}
 use Rattle.band_normal.proofs.Sweeping.{IsSweeping}
 use Rattle.band_normal.proofs.sweep.rows_over.Given as goal

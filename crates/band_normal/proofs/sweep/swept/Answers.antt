@@ -1,9 +1,9 @@
 use Rattle.std.proofs.Common.{List, sym, subst, rules}
 use Rattle.std.proofs.lemmas.Fn.{always_returns_same}
 use Rattle.band_normal.specs.declared.band.Band.{Band}
-use Rattle.band_normal.specs.Lists.{Among, Ordered}
+use Rattle.itpg_base.specs.Lists.{Among, Ordered}
 use Rattle.band_normal.specs.Strips.{BeginsEarlier}
-use Rattle.band_normal.proofs.Lists.{permutation_among}
+use Rattle.itpg_base.proofs.Lists.{permutation_among}
 use Rattle.band_normal.proofs.Sweeping.{sorted_earlier}
 use Rattle.band_normal.proofs.PartLemmas.{can_sweep, rows_swept}
 use Rattle.band_normal.proofs.sweep.swept.Goals as goal

@@ -1,5 +1,5 @@
 use Rattle.std.proofs.lemmas.List.{take_all}
-use Rattle.band_normal.proofs.Lists.{among_at}
+use Rattle.itpg_base.proofs.Lists.{among_at}
 use Rattle.band_normal.proofs.PartLemmas.{zones_more}
 use Rattle.band_normal.proofs.zones.zones_of.Goals as goal
 

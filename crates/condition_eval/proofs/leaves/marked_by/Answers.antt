@@ -1,5 +1,5 @@
 use Rattle.std.proofs.Common.{refl}
-use Rattle.band_normal.proofs.Lists.{among_at}
+use Rattle.itpg_base.proofs.Lists.{among_at}
 use Rattle.condition_eval.specs.Tested.{HoldsAt}
 use Rattle.condition_eval.specs.Parts.{leaf_test}
 use Rattle.condition_eval.proofs.Marked.{next_object, all_objects, are_marks}

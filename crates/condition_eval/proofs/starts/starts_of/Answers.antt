@@ -1,7 +1,7 @@
 use Rattle.std.proofs.Common.{refl, sym, ◌∙◌, subst, List}
 use Rattle.relation_rows.specs.declared.times.OneRow.{OneRow}
 use Rattle.relation_rows.specs.Times.{AreTimes, Departs}
-use Rattle.band_normal.proofs.Lists.{among_at}
+use Rattle.itpg_base.proofs.Lists.{among_at}
 use Rattle.condition_eval.specs.Tested.{StartsAt}
 use Rattle.condition_eval.proofs.Marked.{next_object, all_objects, are_marks}
 use Rattle.condition_eval.proofs.Points.{near_point}

@@ -1,5 +1,5 @@
 use Rattle.std.proofs.Common.{refl}
-use Rattle.band_normal.proofs.Lists.{among_at}
+use Rattle.itpg_base.proofs.Lists.{among_at}
 use Rattle.path_eval.specs.Axes.{StepTo}
 use Rattle.path_eval.proofs.Adding.{added_at, added_all}
 use Rattle.path_eval.proofs.axes.push_each.Goals as goal

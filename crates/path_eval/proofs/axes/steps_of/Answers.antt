@@ -1,5 +1,5 @@
 use Rattle.std.proofs.Common.{[], List, refl, sym, subst}
-use Rattle.band_normal.proofs.Lists.{among_at}
+use Rattle.itpg_base.proofs.Lists.{among_at}
 use Rattle.relation_rows.specs.Relations.{Item}
 use Rattle.path_eval.specs.Axes.{StepsFrom}
 use Rattle.path_eval.proofs.Adding.{Added, added_none, added_at, added_all, all_added}

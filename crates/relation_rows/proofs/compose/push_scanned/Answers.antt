@@ -1,4 +1,4 @@
-use Rattle.band_normal.proofs.Lists.{among_at}
+use Rattle.itpg_base.proofs.Lists.{among_at}
 use Rattle.relation_rows.proofs.Going.{row_formed, next_more, none_next, all_next}
 use Rattle.relation_rows.proofs.compose.push_scanned.Goals as goal
 

@@ -1,6 +1,6 @@
 use Rattle.std.proofs.Common.{rules, sym, subst, List}
 use Rattle.std.proofs.lemmas.Fn.{always_returns_same}
-use Rattle.band_normal.specs.Lists.{Ordered}
+use Rattle.itpg_base.specs.Lists.{Ordered}
 use Rattle.relation_rows.specs.Gathering.{ItemUpTo}
 use Rattle.relation_rows.specs.Answers.{Gives}
 use Rattle.relation_rows.specs.Relations.{Item, ItemsHold}

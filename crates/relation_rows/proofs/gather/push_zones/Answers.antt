@@ -1,4 +1,4 @@
-use Rattle.band_normal.proofs.Lists.{among_at}
+use Rattle.itpg_base.proofs.Lists.{among_at}
 use Rattle.relation_rows.proofs.Pushing.{zone_more, zones_all}
 use Rattle.relation_rows.proofs.gather.push_zones.Goals as goal
 

@@ -1,7 +1,7 @@
 use Rattle.std.proofs.Common.{List, rules, sym, subst}
 use Rattle.std.proofs.lemmas.Fn.{always_returns_same}
-use Rattle.band_normal.specs.Lists.{Among, Ordered}
-use Rattle.band_normal.proofs.Lists.{permutation_among}
+use Rattle.itpg_base.specs.Lists.{Among, Ordered}
+use Rattle.itpg_base.proofs.Lists.{permutation_among}
 use Rattle.relation_rows.specs.declared.times.OneRow.{OneRow}
 use Rattle.relation_rows.specs.Times.{TimesHold, TimeUpTo, AreTimes}
 use Rattle.relation_rows.proofs.Runs.{sorted_times, times_permuted, one_time_of}

@@ -1,5 +1,5 @@
 use Rattle.std.proofs.Common.{take}
-use Rattle.band_normal.specs.Lists.{Among}
+use Rattle.itpg_base.specs.Lists.{Among}
 use Rattle.relation_rows.specs.declared.rows.Row.{Row}
 use Rattle.relation_rows.specs.Timetables.{Reaches}
 use Rattle.relation_rows.proofs.timetable.reach_of.Given as goal

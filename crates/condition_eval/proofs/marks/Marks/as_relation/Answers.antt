@@ -1,5 +1,5 @@
 use Rattle.std.proofs.Common.{List, refl, ◌∙◌, subst}
-use Rattle.band_normal.specs.Lists.{Among}
+use Rattle.itpg_base.specs.Lists.{Among}
 use Rattle.relation_rows.specs.Relations.{ItemsHold}
 use Rattle.relation_rows.proofs.Partitions.{read_among}
 use Rattle.relation_rows.proofs.Giving.{gives_alike}

@@ -1,6 +1,6 @@
 use Rattle.std.proofs.Common.{List, subst, sym}
 use Rattle.band_normal.specs.declared.band.Band.{Band}
-use Rattle.band_normal.specs.Lists.{Ordered}
+use Rattle.itpg_base.specs.Lists.{Ordered}
 use Rattle.band_normal.specs.Rows.{AreApart}
 use Rattle.band_normal.proofs.PartLemmas.{normal_all}
 use Rattle.itpg_bench.proofs.zones.Shape.measure_struck.Goals as goal

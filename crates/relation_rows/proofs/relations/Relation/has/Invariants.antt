@@ -1,5 +1,5 @@
 use Rattle.std.proofs.Common.{take}
-use Rattle.band_normal.specs.Lists.{Among}
+use Rattle.itpg_base.specs.Lists.{Among}
 use Rattle.band_normal.specs.Bands.{InBand}
 use Rattle.relation_rows.specs.declared.rows.Row.{Row}
 use Rattle.relation_rows.proofs.relations.Relation.has.Given as goal

@@ -1,5 +1,5 @@
 use Rattle.std.proofs.Common.{◌≡◌, take}
-use Rattle.band_normal.specs.Lists.{Among}
+use Rattle.itpg_base.specs.Lists.{Among}
 use Rattle.standing_queries.specs.declared.watches.Kept.{Kept}
 use Rattle.standing_queries.proofs.watches.Watches.find.Given as goal
 
