@@ -7,7 +7,7 @@ use Rattle.itpg_base.specs.Spans.{Span, Within, Covers}
 use Rattle.itpg_base.specs.Points.{Point}
 use Rattle.itpg_base.proofs.PointSearch.{point_ext}
 use Rattle.interval_set.proofs.Coalesced.{covers_from}
-use Rattle.interval_set.proofs.Members.{among_at}
+use Rattle.itpg_base.proofs.Lists.{among_at}
 use Rattle.zone_core.specs.declared.Bounds.{Bounds}
 use Rattle.zone_core.specs.Zone.{Meets}
 use Rattle.zone_compose.specs.Compose.{Stays}

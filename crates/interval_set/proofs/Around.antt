@@ -5,7 +5,7 @@ use Rattle.std.proofs.lemmas.Int.{ints}
 use Rattle.itpg_base.specs.Spans.{Span, IsSpan}
 use Rattle.itpg_base.specs.Graphs.{Valued, AreRunsOfValues}
 use Rattle.interval_set.specs.Places.{IsNear, AreNeighbours}
-use Rattle.interval_set.proofs.Members.{among_at}
+use Rattle.itpg_base.proofs.Lists.{among_at}
 use Rattle.interval_set.proofs.Rising.{each_run_span}
 use Rattle.interval_set.proofs.Searched.{at_take, at_drop, at_middle}
 

@@ -6,7 +6,8 @@ use Rattle.itpg_base.specs.Spans.{Span, Within}
 use Rattle.itpg_base.specs.Graphs.{Valued, AreRunsOfValues}
 use Rattle.interval_set.specs.Places.{IsNear}
 use Rattle.interval_set.specs.Borders.{IsPartBefore, IsPartAfter, IsLeftBefore, IsLeftAfter, LeavesBefore, LeavesAfter, MeetsBefore, MeetsAfter}
-use Rattle.interval_set.proofs.Members.{Among, among_at, at_among, all_among}
+use Rattle.itpg_base.specs.Lists.{Among}
+use Rattle.itpg_base.proofs.Lists.{among_at, place_of, all_among}
 use Rattle.interval_set.proofs.Rising.{Rises, rises, one_run}
 
 -- the first of the runs: none, or one that begins no later than any
@@ -23,7 +24,7 @@ pub first_of : (M : List Valued) → AreRunsOfValues M → IsFirst M (slice_get 
 first_of [] c = λ m n. n
 first_of (h ∷ M) c = (
   inl refl,
-  λ m n. let k = at_among (h ∷ M) m n in (subst (λ (y : Valued). Rises h y) (k.2 h) (rises (h ∷ M) 0 k.0 h c (omega arith) k.1)).from,
+  λ m n. let k = place_of (h ∷ M) m n in (subst (λ (y : Valued). Rises h y) (k.2 h) (rises (h ∷ M) 0 k.0 h c (omega arith) k.1)).from,
 )
 
 pub last_of : (M : List Valued) → AreRunsOfValues M → IsLast M (slice_get M (length M - 1))
@@ -33,7 +34,7 @@ last_of (h ∷ M) c =
     let is : slice_get (h ∷ M) (length (h ∷ M) - 1) ≡ Some l = slice_get-get_or (h ∷ M) (length (h ∷ M) - 1) h (omega arith) in
     subst (IsLast (h ∷ M)) (sym is) (
       among_at (h ∷ M) (length (h ∷ M) - 1) h (omega arith),
-      λ m n. let k = at_among (h ∷ M) m n in
+      λ m n. let k = place_of (h ∷ M) m n in
           let below = k.1 in
           (subst (λ (y : Valued). Rises y l) (k.2 h) (rises (h ∷ M) k.0 (length (h ∷ M) - 1) h c (omega arith) (omega arith))).to,
     )
@@ -43,14 +44,14 @@ module _ (M : List Valued) (c : AreRunsOfValues M) (s : Span) (near : All (λ m.
   is_first : (h m : Valued) (t : ℤ) → Among M h → Among M m → h.span.from ≤ℤ m.span.from → Within t m.span → t <ℤ s.from → Within t h.span × (h ≡ m)
   is_first h m t a b first w early =
       let begun = w.begun in
-      let reach = (all_among (λ m. IsNear m.span s) M h near a).from in
+      let reach = (all_among (λ m. IsNear m.span s) M near h a).from in
       let v : Within t h.span = record { begun = omega (arith, ints); going = omega (arith, ints) } in
       (v, one_run M h m t c a b v w)
 
   is_last : (l m : Valued) (t : ℤ) → Among M l → Among M m → m.span.to ≤ℤ l.span.to → Within t m.span → s.to <ℤ t → Within t l.span × (l ≡ m)
   is_last l m t a b last w late =
       let going = w.going in
-      let reach = (all_among (λ m. IsNear m.span s) M l near a).to in
+      let reach = (all_among (λ m. IsNear m.span s) M near l a).to in
       let v : Within t l.span = record { begun = omega (arith, ints); going = omega (arith, ints) } in
       (v, one_run M l m t c a b v w)
 

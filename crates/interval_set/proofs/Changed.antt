@@ -1,10 +1,9 @@
 -- What a change leaves has a list: the list after each change exists, whether or not the change is made.
-use Rattle.std.proofs.Common.{◌≡◌, ◌⊎◌, inl, inr, ⊎_elim, ℤ, pos, ◌+ℤ◌, ◌≤ℤ◌, ◌<ℤ◌, List, [], ◌∷◌, refl, sym, arith, ◌∙◌}
+use Rattle.std.proofs.Common.{◌≡◌, ◌⊎◌, inl, inr, ⊎_elim, ℤ, pos, ◌≤ℤ◌, List, [], ◌∷◌, refl, sym, arith, ◌∙◌}
 use Rattle.std.specs.Int.{int_max, int_min}
 use Rattle.std.proofs.lemmas.Int.{ints, clamps}
-use Rattle.itpg_base.specs.Spans.{Span, IsSpan, Within, Covers, IsCoalesced}
+use Rattle.itpg_base.specs.Spans.{Span, Within, Covers}
 use Rattle.itpg_base.specs.Words.{Word}
-use Rattle.itpg_base.specs.Decided.{Decided}
 use Rattle.itpg_base.specs.Graphs.{Valued, RunsHave, AreRunsOfValues}
 use Rattle.interval_set.specs.Runs.{AreRuns, AreRunsOf, HasPut, HasCleared}
 use Rattle.interval_set.proofs.Coalesced.{decide_within, decide_covers}

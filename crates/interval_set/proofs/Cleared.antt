@@ -8,7 +8,8 @@ use Rattle.interval_set.specs.Runs.{AreRunsOf, HasCleared}
 use Rattle.interval_set.specs.Places.{IsApartBefore, IsNear, AreNeighbours}
 use Rattle.interval_set.specs.Borders.{LeavesBefore, LeavesAfter}
 use Rattle.interval_set.specs.Splices.{replaced}
-use Rattle.interval_set.proofs.Members.{Among, among-append_left, among-append_right, among-append_cases, all_among}
+use Rattle.itpg_base.specs.Lists.{Among}
+use Rattle.itpg_base.proofs.Lists.{append_first, append_second, among_append, all_among}
 use Rattle.interval_set.proofs.Rising.{Precedes, precedes_apart, has_from, has_by, has-append_left, has-append_right, has-append_cases, each_run_span, runs_append, runs_left, runs_right, runs_between, among_option, runs_option}
 use Rattle.interval_set.proofs.Border.{Before, After, left_before, left_after}
 use Rattle.interval_set.proofs.Parts.{three_parts}
@@ -43,14 +44,14 @@ module _ (A M B : List Valued) (s : Span) (left right : Option Valued) (c : AreR
   a_left : (a p : Valued) → Among A a → left ≡ Some p → Precedes a p
   a_left a p m e =
       let h = first.parts p e in
-      let far = runs_between A (M ++ B) a h.0 c m (among-append_left M B h.0 h.1) in
+      let far = runs_between A (M ++ B) a h.0 c m (append_first M B h.0 h.1) in
       let from = h.2.from in let rise = far.rise in
       record { rise = omega (arith, ints); gap = λ same. let gap = far.gap (same ∙ h.2.value) in omega (arith, ints) }
 
   a_right : (a q : Valued) → Among A a → right ≡ Some q → Precedes a q
   a_right a q m e =
       let l = last.parts q e in
-      let far = all_among (λ r. IsApartBefore r.span s) A a before m in
+      let far = all_among (λ r. IsApartBefore r.span s) A before a m in
       let from = l.2.from in let own : s.from ≤ℤ s.to = span in
       precedes_apart a q (omega (arith, ints, clamps))
 
@@ -78,11 +79,11 @@ module _ (A M B : List Valued) (s : Span) (left right : Option Valued) (c : AreR
   cleared_coalesced =
       let tail = runs_append (option_to_list right) B (runs_option right right_span) (runs_right M B middle) (λ q b m n. right_b q b (of_right q m) n) in
       let both = runs_append (option_to_list left) (option_to_list right ++ B) (runs_option left left_span) tail
-      (λ p r m n. ⊎_elim (λ q. left_right p r (of_left p m) (of_right r q)) (λ b. left_b p r (of_left p m) b) (among-append_cases (option_to_list right) B r n)) in
+      (λ p r m n. ⊎_elim (λ q. left_right p r (of_left p m) (of_right r q)) (λ b. left_b p r (of_left p m) b) (among_append (option_to_list right) B r n)) in
       runs_append A (option_to_list left ++ (option_to_list right ++ B)) (runs_left A (M ++ B) c) both
       (λ a r m n. ⊎_elim (λ p. a_left a r m (of_left r p))
-      (λ rest. ⊎_elim (λ q. a_right a r m (of_right r q)) (λ b. runs_between A (M ++ B) a r c m (among-append_right M B r b)) (among-append_cases (option_to_list right) B r rest))
-      (among-append_cases (option_to_list left) (option_to_list right ++ B) r n))
+      (λ rest. ⊎_elim (λ q. a_right a r m (of_right r q)) (λ b. runs_between A (M ++ B) a r c m (append_second M B r b)) (among_append (option_to_list right) B r rest))
+      (among_append (option_to_list left) (option_to_list right ++ B) r n))
 
   -- each old value outside the span is kept
   kept : (t : ℤ) (value : Word) → HasCleared (A ++ (M ++ B)) s t value → RunsHave (A ++ (option_to_list left ++ (option_to_list right ++ B))) t value
@@ -130,14 +131,14 @@ module _ (A M B : List Valued) (s : Span) (left right : Option Valued) (c : AreR
   pub from_before : (t : ℤ) (value : Word) → RunsHave A t value → HasCleared (A ++ (M ++ B)) s t value
   from_before t value h =
       let a = has_by A t value h in
-      let far = all_among (λ r. IsApartBefore r.span s) A a.0 before a.1 in
+      let far = all_among (λ r. IsApartBefore r.span s) A before a.0 a.1 in
       let w = a.2 in let going = w.going in
       (has-append_left A (M ++ B) t value h, λ v. let begun = v.begun in omega (arith, ints))
 
   pub from_after : (t : ℤ) (value : Word) → RunsHave B t value → HasCleared (A ++ (M ++ B)) s t value
   from_after t value h =
       let b = has_by B t value h in
-      let far = all_among (λ r. IsApartBefore s r.span) B b.0 after b.1 in
+      let far = all_among (λ r. IsApartBefore s r.span) B after b.0 b.1 in
       let w = b.2 in let begun = w.begun in
       (has-append_right A (M ++ B) t value (has-append_right M B t value h), λ v. let going = v.going in omega (arith, ints))
 

@@ -4,7 +4,8 @@ use Rattle.std.proofs.lemmas.Int.{ints, by_lt_z}
 use Rattle.itpg_base.specs.Spans.{Span, IsSpan, Within, Covers, StartsApart, IsCoalesced}
 use Rattle.itpg_base.specs.Decided.{Decided}
 use Rattle.interval_set.specs.Places.{IsApartBefore}
-use Rattle.interval_set.proofs.Members.{Among, among_at}
+use Rattle.itpg_base.specs.Lists.{Among}
+use Rattle.itpg_base.proofs.Lists.{among_at}
 
 -- a span of the list has the moment
 pub covers_from : (xs : List Span) (s : Span) (t : ℤ) → Among xs s → Within t s → Covers xs t

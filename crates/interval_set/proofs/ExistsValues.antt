@@ -1,22 +1,11 @@
 -- Values over moments within bounds have a list of runs: the runs are made from the last moment to the first.
-use Rattle.std.proofs.Common.{◌≡◌, ◌⊎◌, inl, inr, ⊎_elim, ℕ, zero, suc, ◌+◌, ℤ, pos, ◌+ℤ◌, ◌-ℤ◌, ◌≤ℤ◌, ◌<ℤ◌, List, [], ◌∷◌, Bool, true, false, nat_eq, true≢false, refl, sym, subst, arith, ◌∙◌}
+use Rattle.std.proofs.Common.{◌≡◌, ◌⊎◌, inl, inr, ⊎_elim, ℕ, zero, suc, ◌+◌, ℤ, pos, ◌+ℤ◌, ◌-ℤ◌, ◌≤ℤ◌, List, [], ◌∷◌, refl, sym, subst, arith, ◌∙◌}
 use Rattle.std.proofs.lemmas.Int.{ints, by_lt_z}
-use Rattle.std.proofs.lemmas.Slice.Eq.{bytes_eq-Decides}
-use Rattle.std.specs.Cmp.Lexicographic.{pointwise}
 use borrow.Author.Differences.{up, down}
-use Rattle.itpg_base.specs.Spans.{Span, IsSpan, Within}
 use Rattle.itpg_base.specs.Words.{Word}
-use Rattle.itpg_base.specs.Decided.{Decided}
 use Rattle.itpg_base.specs.Graphs.{Valued, RunsHave, RunsApart, AreRunsOfValues}
+use Rattle.itpg_base.proofs.Searches.{same_word}
 use Rattle.interval_set.specs.Runs.{AreRunsOf}
-
--- whether two names are equal
-pub decide_same : (v w : Word) → Decided (v ≡ w)
-decide_same v w = by_test (pointwise nat_eq v w) refl
-  where
-    by_test : (b : Bool) → pointwise nat_eq v w ≡ b → Decided (v ≡ w)
-    by_test true e = inl ((bytes_eq-Decides v w).0 e)
-    by_test false e = inr (λ same. true≢false (sym ((bytes_eq-Decides v w).1 same) ∙ e))
 
 -- whether something has a value, and which
 abbrev pub SomeValue : (Word → Type 0) → Type 0
@@ -76,7 +65,7 @@ module _ (H : ℤ → Word → Type 0) (low high : ℤ) (from : (t : ℤ) (value
       let far = l.late r.span.from r.value (inl (record { begun = omega (arith, ints); going = span }, refl)) in
       by_lt_z (p +ℤ pos 1) r.span.from
       (λ lt. begun p (r ∷ rest) value here l (omega (arith, ints), λ same. lt))
-      (λ le. elim (decide_same r.value value) [
+      (λ le. elim (same_word r.value value) [
         | inl same ↦ longer p r rest value here l (omega (arith, ints)) same
         | inr other ↦ begun p (r ∷ rest) value here l (omega (arith, ints), λ same. absurd (other (sym same)))
       ])

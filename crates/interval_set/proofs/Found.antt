@@ -8,7 +8,8 @@ use Rattle.itpg_base.specs.Spans.{Within}
 use Rattle.itpg_base.specs.Words.{Word}
 use Rattle.itpg_base.specs.Graphs.{Valued, RunsHave, AreRunsOfValues}
 use Rattle.interval_set.specs.Places.{IsNextRun, IsNext}
-use Rattle.interval_set.proofs.Members.{Among, among_at, at_among}
+use Rattle.itpg_base.specs.Lists.{Among}
+use Rattle.itpg_base.proofs.Lists.{among_at, place_of}
 use Rattle.interval_set.proofs.Rising.{has_from, has_by, each_run_span, rises, one_run, precedes_later}
 use Rattle.interval_set.proofs.Searched.{at_take, at_drop}
 
@@ -17,7 +18,7 @@ module _ (xs : List Valued) (t : ℤ) (n : ℕ) (c : AreRunsOfValues xs) (ended 
   had_at : (u : ℤ) (value : Word) → t ≤ℤ u → RunsHave xs u value → (r : Valued) × Among xs r × Within u r.span × (r.value ≡ value) × (k : ℕ) × (n ≤ k) × (k < length xs) × ((d : Valued) → get_or xs k d ≡ r)
   had_at u value late h =
       let m = has_by xs u value h in
-      let k = at_among xs m.0 m.1 in
+      let k = place_of xs m.0 m.1 in
       let w = m.2 in
       ⊎_elim
       (λ below.

@@ -1,4 +1,3 @@
-pub mod Members
 pub mod Coalesced
 pub mod Exists
 pub mod Searched

@@ -4,7 +4,7 @@ use Rattle.itpg_base.specs.Spans.{Span, Covers, IsCoalesced}
 use Rattle.itpg_base.specs.Words.{Word}
 use Rattle.itpg_base.specs.Graphs.{Valued, RunsHave, AreRunsOfValues}
 use Rattle.interval_set.specs.Runs.{AreRuns}
-use Rattle.interval_set.proofs.Members.{Among}
+use Rattle.itpg_base.specs.Lists.{Among}
 use Rattle.interval_set.proofs.Coalesced.{starts_apart}
 use Rattle.interval_set.proofs.Rising.{precedes_each}
 

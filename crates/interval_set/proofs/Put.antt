@@ -9,7 +9,8 @@ use Rattle.interval_set.specs.Runs.{AreRunsOf, HasPut}
 use Rattle.interval_set.specs.Places.{IsApartBefore, IsNear, AreNeighbours}
 use Rattle.interval_set.specs.Borders.{MeetsBefore, MeetsAfter}
 use Rattle.interval_set.specs.Splices.{replaced}
-use Rattle.interval_set.proofs.Members.{Among, among-append_left, among-append_right, among-append_cases, all_among}
+use Rattle.itpg_base.specs.Lists.{Among}
+use Rattle.itpg_base.proofs.Lists.{append_first, append_second, among_append, all_among}
 use Rattle.interval_set.proofs.Rising.{Precedes, precedes_apart, has_from, has_by, has-append_left, has-append_right, has-append_cases, each_run_span, runs_append, runs_left, runs_right, runs_between, among_option, runs_option}
 use Rattle.interval_set.proofs.Border.{Begins, Ends, begins, ends}
 use Rattle.interval_set.proofs.Parts.{three_parts}
@@ -62,17 +63,17 @@ module _ (A M B : List Valued) (item own : Valued) (left right : Option Valued) 
   a_left : (a p : Valued) → Among A a → left ≡ Some p → Precedes a p
   a_left a p m e =
       let h = first.parts p e in
-      let far = runs_between A (M ++ B) a h.0 c m (among-append_left M B h.0 h.1) in
+      let far = runs_between A (M ++ B) a h.0 c m (append_first M B h.0 h.1) in
       let from = h.2.from in let rise = far.rise in
       record { rise = omega (arith, ints); gap = λ same. let gap = far.gap (same ∙ h.2.value) in omega (arith, ints) }
 
   a_own : (a : Valued) → Among A a → Precedes a own
   a_own a m =
-      let far = all_among (λ r. IsApartBefore r.span item.span) A a before m in
+      let far = all_among (λ r. IsApartBefore r.span item.span) A before a m in
       let from = reaches.from in
       ⊎_elim (λ e. let same = ap (λ (y : Span). y.from) e in precedes_apart a own (omega (arith, ints, clamps)))
       (λ h.
-      let apart = runs_between A (M ++ B) a h.0 c m (among-append_left M B h.0 h.1) in
+      let apart = runs_between A (M ++ B) a h.0 c m (append_first M B h.0 h.1) in
       let begun = ap (λ (y : Span). y.from) h.3 in let rise = apart.rise in
       record { rise = omega (arith, ints, clamps); gap = λ same. let gap = apart.gap (same ∙ (reaches.value ∙ sym h.2)) in omega (arith, ints, clamps) })
       first.reaches
@@ -80,7 +81,7 @@ module _ (A M B : List Valued) (item own : Valued) (left right : Option Valued) 
   a_right : (a q : Valued) → Among A a → right ≡ Some q → Precedes a q
   a_right a q m e =
       let l = last.parts q e in
-      let far = all_among (λ r. IsApartBefore r.span item.span) A a before m in
+      let far = all_among (λ r. IsApartBefore r.span item.span) A before a m in
       let from = l.2.from in let item_span : item.span.from ≤ℤ item.span.to = span in
       precedes_apart a q (omega (arith, ints, clamps))
 
@@ -111,7 +112,7 @@ module _ (A M B : List Valued) (item own : Valued) (left right : Option Valued) 
 
   own_b : (b : Valued) → Among B b → Precedes own b
   own_b b m =
-      let far = all_among (λ r. IsApartBefore item.span r.span) B b after m in
+      let far = all_among (λ r. IsApartBefore item.span r.span) B after b m in
       let to = reaches.to in
       ⊎_elim (λ e. let same = ap (λ (y : Span). y.to) e in precedes_apart own b (omega (arith, ints, clamps)))
       (λ l.
@@ -131,15 +132,15 @@ module _ (A M B : List Valued) (item own : Valued) (left right : Option Valued) 
   put_coalesced =
       let after_own = runs_append (option_to_list right) B (runs_option right right_span) (runs_right M B middle) (λ q b m n. right_b q b (of_right q m) n) in
       let from_own = runs_append (own ∷ []) (option_to_list right ++ B) (own_span, tt, tt) after_own
-      (λ o r m n. own_first o r m (⊎_elim (λ q. own_right r (of_right r q)) (λ b. own_b r b) (among-append_cases (option_to_list right) B r n))) in
+      (λ o r m n. own_first o r m (⊎_elim (λ q. own_right r (of_right r q)) (λ b. own_b r b) (among_append (option_to_list right) B r n))) in
       let from_left = runs_append (option_to_list left) (own ∷ (option_to_list right ++ B)) (runs_option left left_span) from_own
       (λ p r m n. among_own r (λ e. subst (λ (y : Valued). Precedes p y) e (left_own p (of_left p m)))
       (λ q. left_right p r (of_left p m) (of_right r q)) (λ b. left_b p r (of_left p m) b) n) in
       runs_append A (option_to_list left ++ (own ∷ (option_to_list right ++ B))) (runs_left A (M ++ B) c) from_left
       (λ a r m n. ⊎_elim (λ p. a_left a r m (of_left r p))
       (λ rest. among_own r (λ e. subst (λ (y : Valued). Precedes a y) e (a_own a m))
-      (λ q. a_right a r m (of_right r q)) (λ b. runs_between A (M ++ B) a r c m (among-append_right M B r b)) rest)
-      (among-append_cases (option_to_list left) (own ∷ (option_to_list right ++ B)) r n))
+      (λ q. a_right a r m (of_right r q)) (λ b. runs_between A (M ++ B) a r c m (append_second M B r b)) rest)
+      (among_append (option_to_list left) (own ∷ (option_to_list right ++ B)) r n))
     where
       own_first : (o r : Valued) → Among (own ∷ []) o → Precedes own r → Precedes o r
       own_first o r (inl e) p = subst (λ (y : Valued). Precedes y r) e p
@@ -147,7 +148,7 @@ module _ (A M B : List Valued) (item own : Valued) (left right : Option Valued) 
 
       among_own : {P : Type 0} (r : Valued) → (own ≡ r → P) → (Among (option_to_list right) r → P) → (Among B r → P) → Among (own ∷ (option_to_list right ++ B)) r → P
       among_own r is_own is_right is_b (inl e) = is_own e
-      among_own r is_own is_right is_b (inr n) = ⊎_elim is_right is_b (among-append_cases (option_to_list right) B r n)
+      among_own r is_own is_right is_b (inr n) = ⊎_elim is_right is_b (among_append (option_to_list right) B r n)
 
   -- the value has its moments, and each old value elsewhere is kept
   put_whole : (t : ℤ) (value : Word) → HasPut (A ++ (M ++ B)) item.span item.value t value → RunsHave (A ++ (option_to_list left ++ (own ∷ (option_to_list right ++ B)))) t value
@@ -208,14 +209,14 @@ module _ (A M B : List Valued) (item own : Valued) (left right : Option Valued) 
       by_lt_z t item.span.from
       (λ early. ⊎_elim (λ e. let same = ap (λ (y : Span). y.from) e in absurd (omega (arith, ints, clamps)))
       (λ h.
-      let reach = (all_among (λ m. IsNear m.span item.span) M h.0 near h.1).from in
+      let reach = (all_among (λ m. IsNear m.span item.span) M near h.0 h.1).from in
       let from_h = ap (λ (y : Span). y.from) h.3 in
       in_near h.0 t value h.1 (record { begun = omega (arith, ints, clamps); going = omega (arith, ints) }) (h.2 ∙ (sym reaches.value ∙ v)) (λ u. let late = u.begun in omega (arith, ints)))
       first.reaches)
       (λ begun_item. by_lt_z item.span.to t
       (λ late. ⊎_elim (λ e. let same = ap (λ (y : Span). y.to) e in absurd (omega (arith, ints, clamps)))
       (λ l.
-      let reach = (all_among (λ m. IsNear m.span item.span) M l.0 near l.1).to in
+      let reach = (all_among (λ m. IsNear m.span item.span) M near l.0 l.1).to in
       let to_l = ap (λ (y : Span). y.to) l.3 in
       in_near l.0 t value l.1 (record { begun = omega (arith, ints); going = omega (arith, ints, clamps) }) (l.2 ∙ (sym reaches.value ∙ v)) (λ u. let early = u.going in omega (arith, ints)))
       last.reaches)
@@ -224,14 +225,14 @@ module _ (A M B : List Valued) (item own : Valued) (left right : Option Valued) 
   from_before : (t : ℤ) (value : Word) → RunsHave A t value → HasPut (A ++ (M ++ B)) item.span item.value t value
   from_before t value h =
       let a = has_by A t value h in
-      let far = all_among (λ r. IsApartBefore r.span item.span) A a.0 before a.1 in
+      let far = all_among (λ r. IsApartBefore r.span item.span) A before a.0 a.1 in
       let w = a.2 in let going = w.going in
       inr (has-append_left A (M ++ B) t value h, λ v. let begun = v.begun in omega (arith, ints))
 
   from_after : (t : ℤ) (value : Word) → RunsHave B t value → HasPut (A ++ (M ++ B)) item.span item.value t value
   from_after t value h =
       let b = has_by B t value h in
-      let far = all_among (λ r. IsApartBefore item.span r.span) B b.0 after b.1 in
+      let far = all_among (λ r. IsApartBefore item.span r.span) B after b.0 b.1 in
       let w = b.2 in let begun = w.begun in
       inr (has-append_right A (M ++ B) t value (has-append_right M B t value h), λ v. let going = v.going in omega (arith, ints))
 

@@ -5,7 +5,8 @@ use Rattle.std.proofs.lemmas.List.{length-map, get_or-map}
 use Rattle.itpg_base.specs.Spans.{IsSpan, Within}
 use Rattle.itpg_base.specs.Words.{Word}
 use Rattle.itpg_base.specs.Graphs.{Valued, RunsHave, RunsApart, AreRunsOfValues}
-use Rattle.interval_set.proofs.Members.{Among, among_at, among-append_left, among-append_right, among-append_cases}
+use Rattle.itpg_base.specs.Lists.{Among}
+use Rattle.itpg_base.proofs.Lists.{among_at, append_first, append_second, among_append}
 
 -- the first run ends before the second begins, and where the value is the same at least one moment is missing
 pub record Precedes (r q : Valued) : Type 0 where
@@ -65,13 +66,13 @@ pub runs_append : (xs ys : List Valued) → AreRunsOfValues xs → AreRunsOfValu
 runs_append [] ys c d apart = d
 runs_append (x ∷ xs) ys c d apart = (
   c.0,
-  runs_apart x (xs ++ ys) (λ y m. ⊎_elim (λ n. precedes_each x xs y c.2 c.1 n) (λ n. apart x y (inl refl) n) (among-append_cases xs ys y m)),
+  runs_apart x (xs ++ ys) (λ y m. ⊎_elim (λ n. precedes_each x xs y c.2 c.1 n) (λ n. apart x y (inl refl) n) (among_append xs ys y m)),
   runs_append xs ys c.2 d (λ a b m n. apart a b (inr m) n),
 )
 
 pub runs_left : (xs ys : List Valued) → AreRunsOfValues (xs ++ ys) → AreRunsOfValues xs
 runs_left [] ys c = tt
-runs_left (x ∷ xs) ys c = (c.0, runs_apart x xs (λ y m. precedes_each x (xs ++ ys) y c.2 c.1 (among-append_left xs ys y m)), runs_left xs ys c.2)
+runs_left (x ∷ xs) ys c = (c.0, runs_apart x xs (λ y m. precedes_each x (xs ++ ys) y c.2 c.1 (append_first xs ys y m)), runs_left xs ys c.2)
 
 pub runs_right : (xs ys : List Valued) → AreRunsOfValues (xs ++ ys) → AreRunsOfValues ys
 runs_right [] ys c = c
@@ -79,7 +80,7 @@ runs_right (x ∷ xs) ys c = runs_right xs ys c.2
 
 pub runs_between : (xs ys : List Valued) (r q : Valued) → AreRunsOfValues (xs ++ ys) → Among xs r → Among ys q → Precedes r q
 runs_between [] ys r q c m n = absurd m
-runs_between (x ∷ xs) ys r q c (inl e) n = subst (λ (z : Valued). Precedes z q) e (precedes_each x (xs ++ ys) q c.2 c.1 (among-append_right xs ys q n))
+runs_between (x ∷ xs) ys r q c (inl e) n = subst (λ (z : Valued). Precedes z q) e (precedes_each x (xs ++ ys) q c.2 c.1 (append_second xs ys q n))
 runs_between (x ∷ xs) ys r q c (inr m) n = runs_between xs ys r q c.2 m n
 
 -- a run that may be missing, as a list

@@ -9,7 +9,7 @@ use Rattle.itpg_base.specs.Graphs.{Valued}
 use Rattle.interval_set.specs.Plain.{plain_run}
 use Rattle.interval_set.specs.Places.{IsApartBefore, IsNear, AreNeighbours}
 use Rattle.interval_set.specs.Operations.{IsStretch}
-use Rattle.interval_set.proofs.Members.{among_at}
+use Rattle.itpg_base.proofs.Lists.{among_at}
 use Rattle.interval_set.proofs.Coalesced.{covers_from, covered_late, each_span, gaps}
 use Rattle.interval_set.proofs.Searched.{at_middle}
 

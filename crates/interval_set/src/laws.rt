@@ -3,7 +3,7 @@ ghost use Rattle.std.specs.Prelude.{◌≡◌, ◌↔◌, ◌⊎◌, ℤ, ◌≤
 ghost use Rattle.itpg_base.specs.Spans.{Span as PlainSpan, Within, Covers, IsCoalesced};
 ghost use Rattle.itpg_base.specs.Words.{Word};
 ghost use Rattle.itpg_base.specs.Graphs.{Valued, RunsHave, AreRunsOfValues};
-ghost use Rattle.interval_set.specs.Runs.{AreRuns, AreRunsOf, HasPut, HasCleared};
+ghost use Rattle.interval_set.specs.Runs.{AreRuns, AreRunsOf, LiesBetween, HasPut, HasCleared};
 
 /// Two coalesced lists with the same moments are equal.
 pub fn law_of_uniqueness()
@@ -22,7 +22,7 @@ pub fn law_of_existence()
 
 /// Values at moments, at most one at each, that lie between two moments have a list of runs.
 pub fn law_of_existing_values()
-    ensures { (value_at : ℤ → Option Word) (low high : ℤ) → ((t : ℤ) (value : Word) → value_at t ≡ Some value → low ≤ℤ t) → ((t : ℤ) (value : Word) → value_at t ≡ Some value → t ≤ℤ high) → (runs : List Valued) × AreRunsOf (λ t value. value_at t ≡ Some value) runs }
+    ensures { (value_at : ℤ → Option Word) (low high : ℤ) → LiesBetween low high value_at → (runs : List Valued) × AreRunsOf (λ t value. value_at t ≡ Some value) runs }
 {}
 
 /// What each change leaves has a list, so that the calls that count it speak of one.

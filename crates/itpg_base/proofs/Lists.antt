@@ -1,6 +1,7 @@
--- Lists in order.
-use Rattle.std.proofs.Common.{◌≡◌, ◌⊎◌, inl, inr, ⊎_elim, ℕ, zero, suc, ◌+◌, ◌<◌, List, [], ◌∷◌, ◌++◌, length, get_or, take, drop, refl, sym, ◌∙◌, subst, arith}
+-- Lists in order, and parts of lists.
+use Rattle.std.proofs.Common.{◌≡◌, ◌⊎◌, inl, inr, ⊎_elim, ℕ, zero, suc, ◌+◌, ◌-◌, ◌<◌, List, [], ◌∷◌, ◌++◌, length, get_or, take, drop, refl, sym, ◌∙◌, subst, arith}
 use Rattle.std.specs.Prelude.{All}
+use Rattle.std.proofs.lemmas.Grind.{common_steps}
 use Rattle.std.specs.List.Sorted.{IsPermutation}
 use Rattle.std.proofs.lemmas.List.Sorted.{All-permutation, IsPermutation-sym}
 use Rattle.itpg_base.specs.Lists.{Among, Ordered}
@@ -125,3 +126,7 @@ ordered_from Before [] i d o lt x h = absurd (omega arith)
 ordered_from Before (y ∷ ys) zero d o lt x (inl e) = inl e
 ordered_from Before (y ∷ ys) zero d o lt x (inr k) = inr (o.0 x k)
 ordered_from Before (y ∷ ys) (suc i) d o lt x h = ordered_from Before ys i d o.1 (omega arith) x h
+
+-- what stands behind a place, to the end
+pub take_rest : {X : Type 0} (xs : List X) (k : ℕ) → take (length xs - k) (drop k xs) ≡ drop k xs
+take_rest xs k = grind (arith, common_steps)

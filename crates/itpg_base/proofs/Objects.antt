@@ -2,6 +2,7 @@
 use Rattle.std.proofs.Common.{◌≡◌, ◌≢◌, ℕ, zero, suc, ◌+◌, List, [], ◌∷◌, ◌++◌, ◌⊎◌, inl, inr, length, Option, Some, None, Bool, true, false, ◌&&◌, refl, sym, ap, ◌∙◌, subst, arith, true≢false, cond}
 use Rattle.std.specs.Prelude.{slice_get, IsSomeAnd, nat_eq}
 use Rattle.std.specs.List.{position_from}
+use Rattle.std.specs.Cmp.{first_so, second_so}
 use Rattle.std.specs.Cmp.Lexicographic.{pointwise}
 use Rattle.std.proofs.lemmas.Bool.{eqb-true, eq-eqb}
 use Rattle.itpg_base.specs.Words.{Word}
@@ -53,20 +54,12 @@ length-changed_at [] i f = refl
 length-changed_at (y ∷ ys) zero f = refl
 length-changed_at (y ∷ ys) (suc i) f = ap (λ n. suc n) (length-changed_at ys i f)
 
-and_left : (a b : Bool) → (a && b) ≡ true → a ≡ true
-and_left true b e = refl
-and_left false b e = e
-
-and_right : (a b : Bool) → (a && b) ≡ true → b ≡ true
-and_right true b e = e
-and_right false b e = absurd (true≢false (sym e))
-
 -- names as tests
 pub word_same : (a b : Word) → pointwise nat_eq a b ≡ true → a ≡ b
 word_same [] [] e = refl
 word_same [] (y ∷ ys) e = absurd (true≢false (sym e))
 word_same (x ∷ xs) [] e = absurd (true≢false (sym e))
-word_same (x ∷ xs) (y ∷ ys) e = let a = eqb-true x y (and_left (nat_eq x y) _ e) in let b = word_same xs ys (and_right (nat_eq x y) _ e) in cc
+word_same (x ∷ xs) (y ∷ ys) e = let a = eqb-true x y (first_so (nat_eq x y) _ e) in let b = word_same xs ys (second_so (nat_eq x y) _ e) in cc
 
 pub word_refl : (a : Word) → pointwise nat_eq a a ≡ true
 word_refl [] = refl
@@ -103,7 +96,7 @@ named_test g name o h =
 test_named : (g : Graph) (name : Word) (o : ℕ) → IsSomeAnd (slice_get g.objects o) (λ x. has_name name x ≡ true) → Named g o name
 test_named g name o h =
     let t = there g.objects o _ h in
-    here g.objects o _ t.0 t.1 (and_left t.0.standing _ t.2, word_same t.0.name name (and_right t.0.standing _ t.2))
+    here g.objects o _ t.0 t.1 (first_so t.0.standing _ t.2, word_same t.0.name name (second_so t.0.standing _ t.2))
 
 -- the object that a name's number gives stands and has the name
 pub numbered_named : (g : Graph) (name : Word) (o : ℕ) → numbered g name ≡ Some o → Named g o name

@@ -1,6 +1,5 @@
 -- Lemmas on a piece that is written part by part.
 use Rattle.std.proofs.Common.{◌≡◌, ℕ, zero, suc, ◌+◌, ◌<◌, ◌≤◌, ◌-◌, length, take, drop, arith, List, [], ◌++◌, refl, sym, ap, ◌∙◌, append_assoc, Some, take-append-drop}
-use Rattle.std.proofs.lemmas.Grind.{common_steps}
 use Rattle.std.proofs.lemmas.List.{drop-append-le, drop-drop}
 use Rattle.std.proofs.Math.Seq.{drop-append_seam}
 use Rattle.itpg_base.specs.Devices.{repeated}
@@ -15,9 +14,6 @@ some_none a piece = record { taken = []; rest = piece; split = refl; appends = A
 abbrev pub some_more : (a b c : Option (List ℕ)) (piece more rest : List ℕ) → (some : AppendsSome a b piece) → some.rest ≡ more ++ rest → Appends b c more → AppendsSome a c piece
 some_more a b c piece more rest some is appends =
     record { taken = some.taken ++ more; rest = rest; split = append_assoc some.taken more rest ∙ ap (λ l. some.taken ++ l) (sym is) ∙ some.split; appends = Appends-trans a b c some.taken more some.appends appends }
-
-pub take_all : (xs : List ℕ) (k : ℕ) → take (length xs - k) (drop k xs) ≡ drop k xs
-take_all xs k = grind (arith, common_steps)
 
 abbrev pub some_front : (xs ys piece : List ℕ) (n : ℕ) → ys ≡ xs ++ take n piece → AppendsSome (Some xs) (Some ys) piece
 some_front xs ys piece n e = record { taken = take n piece; rest = drop n piece; split = take-append-drop n piece; appends = e }

@@ -9,7 +9,7 @@ use Rattle.itpg_base.specs.Graphs.{Graph, Begun}
 use Rattle.itpg_base.specs.Points.{Point, IsAt}
 use Rattle.itpg_base.proofs.Searches.{both, as_well, if_some, is_true, not_after, same_number, same_moment, some_below, some_from}
 
-there_below : {X : Type 0} (xs : List X) (o : ℕ) (P : X → Type 0) → IsSomeAnd (slice_get xs o) P → o < length xs
+pub there_below : {X : Type 0} (xs : List X) (o : ℕ) (P : X → Type 0) → IsSomeAnd (slice_get xs o) P → o < length xs
 there_below [] o P h = absurd h
 there_below (x ∷ xs) zero P h = omega arith
 there_below (x ∷ xs) (suc o) P h = let below = there_below xs o P h in omega arith

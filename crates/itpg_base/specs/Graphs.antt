@@ -4,6 +4,7 @@ use Rattle.std.specs.List.{position_from}
 use Rattle.std.specs.Cmp.Lexicographic.{pointwise}
 use Rattle.itpg_base.specs.Spans.{Span, IsSpan, IsMoment, Within, Covers, IsCoalesced}
 use Rattle.itpg_base.specs.Words.{Word, IsRising, IsLabels}
+use Rattle.itpg_base.specs.declared.limits.TheConstants.{MAX_SPANS, MAX_PROPERTIES, MAX_OBJECTS}
 
 -- a value over a span
 pub record Valued : Type 0 where
@@ -106,10 +107,10 @@ abbrev pub AreRunsOfValues : List Valued → Type 0
 AreRunsOfValues [] = Unit {0}
 AreRunsOfValues (r ∷ rest) = IsSpan r.span × RunsApart r rest × AreRunsOfValues rest
 
--- one property of an object: it has a value at some moment, and at most 4,096 runs
+-- one property of an object: it has a value at some moment, and no more runs than a family may have
 pub record IsFamily (p : Property) : Type 0 where
   pub some : p.runs ≢ []
-  pub few : length p.runs ≤ 4096
+  pub few : length p.runs ≤ MAX_SPANS
   pub runs : AreRunsOfValues p.runs
 
 abbrev pub AreFamilies : List Property → Type 0
@@ -124,10 +125,10 @@ property_names (p ∷ rest) = p.name ∷ property_names rest
 pub record IsObject (x : Object) : Type 0 where
   pub labels : IsLabels x.labels
   pub live : IsCoalesced x.live
-  pub few_spans : length x.live ≤ 4096
+  pub few_spans : length x.live ≤ MAX_SPANS
   pub properties : AreFamilies x.properties
   pub differ : IsRising (property_names x.properties)
-  pub few_properties : length x.properties ≤ 64
+  pub few_properties : length x.properties ≤ MAX_PROPERTIES
 
 -- one of the ends of the standing edge e is a
 abbrev pub HasEnd : Graph → ℕ → ℕ → Type 0
@@ -153,7 +154,7 @@ pub record Good (g : Graph) : Type 0 where
   pub inside : (o : ℕ) (t : ℤ) → Exists g o t → IsPoint g o t
   -- lists are coalesced and capacities kept
   pub objects : (o : ℕ) (x : Object) → slice_get g.objects o ≡ Some x → IsObject x
-  pub few : length g.objects ≤ 200000
+  pub few : length g.objects ≤ MAX_OBJECTS
   -- the horizon is a span of moments, and before a graph is begun it has no object
   pub begun : IfSome g.begun IsBegun
   pub unbegun : g.begun ≡ None → g.objects ≡ []

@@ -1,10 +1,11 @@
 -- Moments, spans, and lists of spans as sets of moments.
 use Rattle.std.specs.Prelude.{ℤ, pos, neg_ℤ, ◌+ℤ◌, ◌≤ℤ◌, ◌<ℤ◌, List, [], ◌∷◌, ◌⊎◌}
+use Rattle.itpg_base.specs.declared.limits.TheConstants.{MAX_MOMENT}
 
--- a moment is a whole number from -10^12 to 10^12
+-- a moment is a whole number that is no further from zero than the greatest moment
 pub record IsMoment (t : ℤ) : Type 0 where
-  pub least : neg_ℤ (pos 1000000000000) ≤ℤ t
-  pub greatest : t ≤ℤ pos 1000000000000
+  pub least : neg_ℤ MAX_MOMENT ≤ℤ t
+  pub greatest : t ≤ℤ MAX_MOMENT
 
 -- two moments
 pub record Span : Type 0 where

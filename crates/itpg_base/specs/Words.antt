@@ -3,6 +3,7 @@ use Rattle.std.specs.Prelude.{◌≡◌, ℕ, ◌≤◌, ◌<◌, List, [], ◌�
 use Rattle.std.specs.Cmp.Lexicographic.{slice_cmp}
 use Rattle.std.specs.Ordering.{nat_cmp}
 use Rattle.std.specs.declared.cmp.Ordering.TheVariants.{Less}
+use Rattle.itpg_base.specs.declared.label_set.TheConstants.{MAX_LABELS}
 
 -- a name, as its bytes
 abbrev pub Word : Type 0
@@ -24,7 +25,7 @@ IsRising (a ∷ rest) = StartsBefore a rest × IsRising rest
 
 -- how many labels an object may have
 abbrev pub max_labels : ℕ
-max_labels = 1
+max_labels = MAX_LABELS
 
 -- a set of labels: at least one and at most as many as are allowed, rising
 pub record IsLabels (labels : List Word) : Type 0 where

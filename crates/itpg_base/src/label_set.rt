@@ -1,4 +1,4 @@
-// Sets of labels.
+//! Sets of labels.
 ghost use Rattle.std.specs.Prelude.{◌≡◌, ◌∷◌, [], ◌↔◌, ◌<◌, List, ℕ, length, slice_get, All, Contains, IsTrue, IfSome, IsNone};
 ghost use Rattle.itpg_base.specs.Words.{IsLabels, Word};
 ghost use Rattle.itpg_base.specs.LabelSets.{SameNames};

@@ -19,7 +19,7 @@ mod text_code;
 mod touch;
 
 pub use label_set::{LabelSet, MAX_LABELS};
-pub use limits::Limits;
+pub use limits::{Limits, MAX_MOMENT, MAX_OBJECTS, MAX_PROPERTIES, MAX_ROWS, MAX_SPANS};
 pub use mem_sink::MemSink;
 pub use mem_source::{MemSource, SureSource};
 pub use name::{MAX_NAME, Name};

@@ -1,4 +1,4 @@
-// Names, which are copied.
+//! Names, which are copied.
 ghost use Rattle.std.specs.Prelude.{◌≡◌, [], ◌-◌, ◌++◌, replicate, ◌≤◌, ◌<◌, ◌↔◌, List, Some, length, nat_eq, refl, IfSome, IsNone};
 ghost use Rattle.std.specs.Cmp.{partial_equiv_from_equiv};
 ghost use Rattle.std.specs.Cmp.Lexicographic.{nat_list_eq_equiv, pointwise, slice_cmp};
@@ -16,7 +16,7 @@ use std::marker::Model;
 /// How many bytes a name has at most.
 pub const MAX_NAME: usize = 64;
 
-/// A name of 0 to 64 bytes: of a graph, an object, a label, a property, or a property's value.
+/// A name of at most `MAX_NAME` bytes: of a graph, an object, a label, a property, or a property's value.
 ///
 /// It is copied, and takes no memory beyond its own. A contract sees it as the list of its bytes.
 pub struct Name {
@@ -40,7 +40,7 @@ impl Model for Name {
 }
 
 impl Name {
-    /// The name of these bytes; `None` exactly where there are more than 64.
+    /// The name of these bytes; `None` exactly where there are more than `MAX_NAME`.
     pub fn new(bytes: &[u8]) -> Option<Name>
         ensures none { IsNone result ↔ (MAX_NAME < length bytes.now) }
         ensures some { IfSome result (λ name. name ≡ bytes.now) }
@@ -54,7 +54,7 @@ impl Name {
         })
     }
 
-    /// The bytes of the name, at most 64.
+    /// The bytes of the name, at most `MAX_NAME`.
     pub fn bytes(&self) -> &[u8]
         ensures value { result.now ≡ self.now }
         ensures short { length self.now ≤ MAX_NAME }
@@ -65,8 +65,8 @@ impl Name {
 
 // The bytes with zeros behind them.
 fn padded_block(bytes: &[u8]) -> [u8; MAX_NAME]
-    requires { length bytes.now ≤ 64 }
-    ensures { result ≡ bytes.now ++ replicate (64 - length bytes.now) 0 }
+    requires { length bytes.now ≤ MAX_NAME }
+    ensures { result ≡ bytes.now ++ replicate (MAX_NAME - length bytes.now) 0 }
 {
     let mut block = [0; MAX_NAME];
     block[..bytes.len()].copy_from_slice(bytes);

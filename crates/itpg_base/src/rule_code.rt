@@ -1,4 +1,4 @@
-// Why a line is refused.
+//! Why a line is refused.
 ghost use Rattle.std.specs.Prelude.{◌≡◌, ◌≤◌, length};
 ghost use Rattle.itpg_base.specs.Rules.{rule_word};
 

@@ -1,4 +1,4 @@
-// Why a text is refused.
+//! Why a text is refused.
 ghost use Rattle.std.specs.Prelude.{◌≡◌, ◌≤◌, length};
 ghost use Rattle.itpg_base.specs.TextCodes.{text_word};
 
@@ -15,9 +15,9 @@ pub enum TextCode {
     Deep,
     /// A quoted text isn't closed, or the tokens are of no form.
     Text,
-    /// A number is below -10^12 or above 10^12.
+    /// A number is further from zero than the greatest moment, `MAX_MOMENT`.
     Number,
-    /// A name, a word or a quoted text is longer than 64 bytes.
+    /// A name, a word or a quoted text is longer than `MAX_NAME`.
     Name,
     /// The least of a repetition is above its most.
     Range,

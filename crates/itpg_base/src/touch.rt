@@ -1,4 +1,4 @@
-// What an edit touches.
+//! What an edit touches.
 use crate::label_set::LabelSet;
 use crate::name::Name;
 

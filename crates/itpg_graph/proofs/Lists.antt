@@ -17,14 +17,6 @@ module _ {X Y : Type 0} (f : X → Y) where
   at_mapped (y ∷ xs) zero x e = let h : Some y ≡ Some x = e in let same : y ≡ x = cc in ap (λ z. Some (f z)) same
   at_mapped (y ∷ xs) (suc i) x e = at_mapped xs i x e
 
-  pub map_push : (xs : List X) (x : X) → map f (xs ++ x ∷ []) ≡ map f xs ++ f x ∷ []
-  map_push [] x = refl
-  map_push (y ∷ xs) x = ap (λ ys. f y ∷ ys) (map_push xs x)
-
-  pub length_mapped : (xs : List X) → length (map f xs) ≡ length xs
-  length_mapped [] = refl
-  length_mapped (x ∷ xs) = ap (λ n. suc n) (length_mapped xs)
-
   -- a place that is written in the one list is changed in the other
   pub map_changed : (xs : List X) (i : ℕ) (x new : X) (h : Y → Y) → slice_get xs i ≡ Some x → f new ≡ h (f x) → map f (slice_set xs i new) ≡ changed_at (map f xs) i h
   map_changed [] i x new h e same = let none : ⊥ = cc in absurd none
@@ -78,12 +70,6 @@ split_removed [] zero new = refl
 split_removed [] (suc i) new = refl
 split_removed (y ∷ xs) zero new = refl
 split_removed (y ∷ xs) (suc i) new = ap (λ zs. y ∷ zs) (split_removed xs i new)
-
-pub split_gap : {X : Type 0} (xs : List X) (i : ℕ) → i ≤ length xs → xs ≡ take i xs ++ drop i xs
-split_gap [] zero le = refl
-split_gap [] (suc i) le = absurd (omega arith)
-split_gap (y ∷ xs) zero le = refl
-split_gap (y ∷ xs) (suc i) le = ap (λ zs. y ∷ zs) (split_gap xs i (omega arith))
 
 -- what a test of emptiness says of an equal list
 pub empty_of : {X : Type 0} (xs ys : List X) (b : Bool) → b ≡ (length xs == 0) → b ≡ true → xs ≡ ys → ys ≡ []

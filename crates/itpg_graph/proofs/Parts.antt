@@ -1,5 +1,5 @@
 -- A list of properties around one of them, and what a change of that one leaves.
-use Rattle.std.proofs.Common.{◌≡◌, ◌≢◌, ℕ, suc, ℤ, ◌≤ℤ◌, List, [], ◌∷◌, ◌++◌, ◌⊎◌, inl, inr, take, drop, Some, refl, sym, subst, arith}
+use Rattle.std.proofs.Common.{take-append-drop, ◌≡◌, ◌≢◌, ℕ, suc, ℤ, ◌≤ℤ◌, List, [], ◌∷◌, ◌++◌, ◌⊎◌, inl, inr, take, drop, Some, refl, sym, subst, arith}
 use Rattle.std.proofs.lemmas.Int.{ints}
 use Rattle.std.specs.Prelude.{slice_get, slice_set}
 use Rattle.std.specs.List.{insert, remove}
@@ -10,7 +10,7 @@ use Rattle.itpg_base.proofs.Objects.{there, same_some}
 use Rattle.interval_set.specs.Runs.{AreRunsOf, HasPut, HasCleared}
 use Rattle.itpg_graph.specs.Families.{IsValued, AreValued, IsOrderly, AreProperties}
 use Rattle.itpg_graph.specs.Tables.{AreBefore, AreAfter, IsPlace, IsGap, HasLess, HasMore}
-use Rattle.itpg_graph.proofs.Lists.{split_at, split_set, split_removed, split_gap}
+use Rattle.itpg_graph.proofs.Lists.{split_at, split_set, split_removed}
 use Rattle.itpg_graph.proofs.Names.{not_before_itself, rising_rest, rising_join, rising_insert, rising_front, rising_back, before_middle, after_middle, names_replaced, has_after, has_before}
 
 -- values in one of two lists
@@ -197,14 +197,14 @@ module _ (ps : List Property) (orderly : IsOrderly ps) (place : ℕ) (p : Proper
 
 -- the same, where there is no such property
 pub missing_values : (ps : List Property) (name : Word) (place : ℕ) → IsGap ps name place → (t : ℤ) (value : Word) → PropertiesHave ps name t value → ⊥
-missing_values ps name place gap t value h = elim (have_join (take place ps) (drop place ps) name t value (subst (λ xs. PropertiesHave xs name t value) (split_gap ps place gap.within) h)) [
+missing_values ps name place gap t value h = elim (have_join (take place ps) (drop place ps) name t value (subst (λ xs. PropertiesHave xs name t value) (sym (take-append-drop place ps)) h)) [
   | inl a ↦ not_before_itself name (has_before name name t value (take place ps) gap.before a)
   | inr b ↦ not_before_itself name (has_after name name t value (drop place ps) gap.after b)
 ]
 
 module _ (ps : List Property) (orderly : IsOrderly ps) (name : Word) (place : ℕ) (gap : IsGap ps name place) where
   split : ps ≡ take place ps ++ drop place ps
-  split = split_gap ps place gap.within
+  split = sym (take-append-drop place ps)
 
   pub missing_cleared : (s : Span) → AreProperties (HasLess ps name s) ps
   missing_cleared s = record {

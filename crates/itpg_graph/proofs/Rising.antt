@@ -68,16 +68,17 @@ removed_numbers xs i e r lt at = record { whole = λ k h. whole xs i k r lt at h
 pub absent_numbers : (xs : List ObjNo) (e : ℕ) → AreRising xs → (HasNumber xs e → ⊥) → AreNumbers (λ k. HasNumber xs k × (k ≢ e)) xs
 absent_numbers xs e r none = record { whole = λ k h. h.0; only = λ k h. (h, λ same. none (subst (HasNumber xs) same h)); rising = r }
 
+-- the number at a place of a list is one of it
+pub number_there : (xs : List ObjNo) (i : ℕ) (d : ObjNo) → i < length xs → HasNumber xs (get_or xs i d).0
+number_there [] i d lt = absurd (omega arith)
+number_there (x ∷ xs) zero d lt = inl refl
+number_there (x ∷ xs) (suc i) d lt = inr (number_there xs i d (omega arith))
+
 -- rising numbers, place by place
 number_rises : (xs : List ObjNo) (i j : ℕ) (d : ObjNo) → AreRising xs → i ≤ j → j < length xs → (get_or xs i d).0 ≤ (get_or xs j d).0
 number_rises [] i j d r le lt = absurd (omega arith)
 number_rises (x ∷ xs) zero zero d r le lt = omega arith
-number_rises (x ∷ xs) zero (suc j) d r le lt = let less = above x.0 xs (get_or xs j d).0 r.0 (get_is xs j d (omega arith)) in omega arith
-  where
-    get_is : (xs : List ObjNo) (i : ℕ) (d : ObjNo) → i < length xs → HasNumber xs (get_or xs i d).0
-    get_is [] i d lt = absurd (omega arith)
-    get_is (x ∷ xs) zero d lt = inl refl
-    get_is (x ∷ xs) (suc i) d lt = inr (get_is xs i d (omega arith))
+number_rises (x ∷ xs) zero (suc j) d r le lt = let less = above x.0 xs (get_or xs j d).0 r.0 (number_there xs j d (omega arith)) in omega arith
 number_rises (x ∷ xs) (suc i) zero d r le lt = absurd (omega arith)
 number_rises (x ∷ xs) (suc i) (suc j) d r le lt = number_rises xs i j d r.1 (omega arith) (omega arith)
 

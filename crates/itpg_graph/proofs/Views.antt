@@ -1,5 +1,6 @@
 -- What a store is seen as, after each change.
 use Rattle.std.proofs.Common.{◌≡◌, ◌≢◌, ℕ, ◌<◌, ◌≤◌, ℤ, List, [], ◌∷◌, ◌++◌, ◌⊎◌, inl, inr, length, map, max, arith, Option, Some, None, true, false, refl, sym, ap, ◌∙◌, subst, true≢false}
+use Rattle.std.proofs.lemmas.List.{length-map, map_push}
 use Rattle.std.specs.Prelude.{slice_get, slice_set, IsSomeAnd, IsSome, IsNone, IfSome, option_map}
 use Rattle.std.proofs.lemmas.Option.{slice_get_within}
 use Rattle.itpg_base.specs.Words.{Word, IsLabels}
@@ -18,7 +19,7 @@ use Rattle.itpg_graph.specs.Tables.{HasLess, HasMore, IsWidest}
 use Rattle.itpg_graph.specs.declared.stored.Stored.{Stored}
 use Rattle.itpg_graph.specs.declared.stored.Opened.{Opened}
 use Rattle.itpg_graph.specs.Stores.{object_of, begun_of, graph_of, listed, Table, IsIndexed, IsStore}
-use Rattle.itpg_graph.proofs.Lists.{at_mapped, map_push, length_mapped, map_changed}
+use Rattle.itpg_graph.proofs.Lists.{at_mapped, map_changed}
 use Rattle.itpg_graph.proofs.Goodness.{KeepsShape, pushed, push_is, push_keeps, changed_is, changed_keeps, changed_old, good_node, good_edge, good_begun, good_live, good_without}
 use Rattle.std.proofs.lemmas.Bool.{cases_lt}
 use Rattle.interval_set.proofs.Changed.{cut_exists}
@@ -135,7 +136,7 @@ module _ (opened : Option Opened) (objects : List Stored) (o : ℕ) (s : Stored)
 pub numbered_within : (opened : Option Opened) (objects : List Stored) (numbers : Table) (name : Word) (o : ℕ) → IsIndexed numbers (graph_of opened objects) → listed numbers name ≡ Some o → o < length objects
 numbered_within opened objects numbers name o indexed e =
     let t = there (map object_of objects) o _ (indexed.only name o e) in
-    subst (λ n. o < n) (length_mapped object_of objects) (slice_get_within (map object_of objects) o t.0 t.1)
+    subst (λ n. o < n) (length-map objects object_of) (slice_get_within (map object_of objects) o t.0 t.1)
 
 pub found_named : (opened : Option Opened) (objects : List Stored) (numbers : Table) (name : Word) (o : ℕ) (s : Stored) → IsIndexed numbers (graph_of opened objects) → listed numbers name ≡ Some o
     → slice_get objects o ≡ Some s → s.standing ≡ true → Named (graph_of opened objects) o name
@@ -151,7 +152,7 @@ dropped_unnamed opened objects numbers name o s indexed e at gone k named =
 pub is_within : (opened : Option Opened) (objects : List Stored) (o : ℕ) (P : Object → Type 0) → ObjectIs (graph_of opened objects) o P → o < length objects
 is_within opened objects o P h =
     let t = there (map object_of objects) o _ h in
-    subst (λ n. o < n) (length_mapped object_of objects) (slice_get_within (map object_of objects) o t.0 t.1)
+    subst (λ n. o < n) (length-map objects object_of) (slice_get_within (map object_of objects) o t.0 t.1)
 
 -- the ends of a stored edge are nodes
 pub ends_nodes : (opened : Option Opened) (objects : List Stored) (o : ℕ) (s : Stored) → slice_get objects o ≡ Some s → Stands (graph_of opened objects) o → Good (graph_of opened objects)

@@ -3,6 +3,7 @@ use Rattle.std.specs.Prelude.{◌≡◌, ℕ, ◌≤◌, ℤ, List, [], ◌∷�
 use Rattle.itpg_base.specs.Words.{Word}
 use Rattle.itpg_base.specs.Spans.{Span, Within}
 use Rattle.itpg_base.specs.Graphs.{Graph, Object, Ends, Property, Exists, Val, changed_at}
+use Rattle.itpg_base.specs.declared.limits.TheConstants.{MAX_SPANS}
 use Rattle.interval_set.specs.Runs.{AreRuns}
 use Rattle.itpg_graph.specs.Families.{AreProperties, ExistsOutside, ValOutside}
 
@@ -42,9 +43,9 @@ pub record JoinsLive (g : Graph) (o : ℕ) (s : Span) (new : Graph) : Type 0 whe
   pub runs : AreRuns (λ t. Exists g o t ⊎ Within t s) live
   pub is : new ≡ with_live g o live
 
--- a family may have these moments: they are at most 4,096 runs
+-- a family may have these moments: they are no more spans than it may have
 abbrev pub FitFamily : Graph → ℕ → Span → Type 0
-FitFamily g o s = (live : List Span) → AreRuns (λ t. Exists g o t ⊎ Within t s) live → length live ≤ 4096
+FitFamily g o s = (live : List Span) → AreRuns (λ t. Exists g o t ⊎ Within t s) live → length live ≤ MAX_SPANS
 
 -- the object exists at no moment of the span and has no value there, and nothing else changed
 pub record CutsLive (g : Graph) (o : ℕ) (s : Span) (new : Graph) : Type 0 where

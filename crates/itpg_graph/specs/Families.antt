@@ -3,6 +3,7 @@ use Rattle.std.specs.Prelude.{◌≡◌, ◌≢◌, ℕ, ◌<◌, ◌≤◌, ℤ
 use Rattle.itpg_base.specs.Words.{Word, IsRising}
 use Rattle.itpg_base.specs.Spans.{Span, Within}
 use Rattle.itpg_base.specs.Graphs.{Graph, Property, Valued, ObjectIs, Exists, Val, PropertiesHave, AreRunsOfValues, property_names}
+use Rattle.itpg_base.specs.declared.limits.TheConstants.{MAX_SPANS, MAX_PROPERTIES}
 use Rattle.interval_set.specs.Runs.{AreRuns, AreRunsOf}
 
 -- a property has a value at some moment, and its runs are coalesced
@@ -41,22 +42,22 @@ ValPut g o s new name t value = (Within t s × (value ≡ new)) ⊎ ValOutside g
 abbrev pub HasCutFamily : Graph → ℕ → Span → ℕ → Type 0
 HasCutFamily g o s n = ((live : List Span) × AreRuns (ExistsOutside g o s) live × (length live ≡ n)) ⊎ ((name : Word) × (runs : List Valued) × AreRunsOf (ValOutside g o s name) runs × (length runs ≡ n))
 
--- each family has at most 4,096 spans after the object's life in the span ended
+-- no family has more spans than it may have after the object's life in the span ended
 abbrev pub FitCut : Graph → ℕ → Span → Type 0
-FitCut g o s = (n : ℕ) → HasCutFamily g o s n → n ≤ 4096
+FitCut g o s = (n : ℕ) → HasCutFamily g o s n → n ≤ MAX_SPANS
 
--- the property has at most 4,096 runs after it got the value in the span
+-- the property has no more runs than it may have after it got the value in the span
 abbrev pub FitPut : Graph → ℕ → Word → Word → Span → Type 0
-FitPut g o name value s = (runs : List Valued) → AreRunsOf (ValPut g o s value name) runs → length runs ≤ 4096
+FitPut g o name value s = (runs : List Valued) → AreRunsOf (ValPut g o s value name) runs → length runs ≤ MAX_SPANS
 
--- the property has at most 4,096 runs after its values in the span were taken away
+-- the property has no more runs than it may have after its values in the span were taken away
 abbrev pub FitClear : Graph → ℕ → Word → Span → Type 0
-FitClear g o name s = (runs : List Valued) → AreRunsOf (ValOutside g o s name) runs → length runs ≤ 4096
+FitClear g o name s = (runs : List Valued) → AreRunsOf (ValOutside g o s name) runs → length runs ≤ MAX_SPANS
 
 -- the object has a value of the property at some moment
 abbrev pub HasProperty : Graph → ℕ → Word → Type 0
 HasProperty g o name = (t : ℤ) × (value : Word) × Val g o name t value
 
--- the object has the property already, or fewer than 64
+-- the object has the property already, or fewer properties than it may have
 abbrev pub HasPlace : Graph → ℕ → Word → Type 0
-HasPlace g o name = HasProperty g o name ⊎ ObjectIs g o (λ x. length x.properties < 64)
+HasPlace g o name = HasProperty g o name ⊎ ObjectIs g o (λ x. length x.properties < MAX_PROPERTIES)

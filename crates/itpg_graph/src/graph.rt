@@ -1,4 +1,4 @@
-// The store.
+//! The store.
 ghost use Rattle.std.specs.Prelude.{◌≡◌, ℤ, ◌<◌, ◌≤◌, ◌↔◌, [], length, ℕ, List, None, Some, option_map, IsTrue, IsNone, IsSome, IfSome, IfOk, OnOk, OnErr};
 ghost use Rattle.itpg_base.specs.Words.{Word};
 ghost use Rattle.itpg_base.specs.Spans.{IsMoment, Within};
@@ -14,7 +14,7 @@ use crate::properties::Properties;
 use crate::stored::{Opened, Stored};
 use indexmap::IndexMap;
 use interval_set::{IntervalSet, Span, ValuedSet};
-use itpg_base::{LabelSet, MAX_LABELS, Name, ObjNo};
+use itpg_base::{LabelSet, MAX_LABELS, MAX_OBJECTS, MAX_PROPERTIES, MAX_SPANS, Name, ObjNo};
 use std::alloc::{AllocError, Global};
 use std::marker::Model;
 
@@ -24,9 +24,6 @@ pub enum Kind {
     Node,
     Edge,
 }
-
-/// How many objects a graph may have, dropped ones counted.
-pub const MAX_OBJECTS: usize = 200_000;
 
 /// A property graph over time, kept in memory.
 ///
@@ -145,31 +142,31 @@ impl Graph {
         self.objects[o.0 as usize].labels
     }
 
-    /// The moments at which the object exists: at most 4,096 spans.
+    /// The moments at which the object exists, in at most `MAX_SPANS` spans.
     pub fn live(&self, o: ObjNo) -> &IntervalSet
         requires { Stands self.now o.0 }
         ensures family { ObjectIs self.now o.0 (λ x. result.now ≡ x.live) }
-        ensures few { length result.now ≤ 4096 }
+        ensures few { length result.now ≤ MAX_SPANS }
     {
         &self.objects[o.0 as usize].live
     }
 
-    /// The values of a property over time, in at most 4,096 runs; `None` exactly where the object has no value of it at any
+    /// The values of a property over time, in at most `MAX_SPANS` runs; `None` exactly where the object has no value of it at any
     /// moment.
     pub fn value(&self, o: ObjNo, prop: &Name) -> Option<&ValuedSet>
         requires { Stands self.now o.0 }
         ensures some { IfSome result (λ values. AreRunsOf (Val self.now o.0 prop.now) values.now) }
         ensures none { IsNone result ↔ ((t : ℤ) (value : Word) → ¬ Val self.now o.0 prop.now t value) }
-        ensures few { IfSome result (λ values. length values.now ≤ 4096) }
+        ensures few { IfSome result (λ values. length values.now ≤ MAX_SPANS) }
     {
         self.objects[o.0 as usize].properties.get(prop)
     }
 
-    /// How many properties the object has, each of which has a value at some moment: at most 64.
+    /// How many properties the object has, each of which has a value at some moment: at most `MAX_PROPERTIES`.
     pub fn prop_count(&self, o: ObjNo) -> usize
         requires { Stands self.now o.0 }
         ensures count { ObjectIs self.now o.0 (λ x. result ≡ length x.properties) }
-        ensures few { result ≤ 64 }
+        ensures few { result ≤ MAX_PROPERTIES }
     {
         self.objects[o.0 as usize].properties.count()
     }

@@ -1,4 +1,4 @@
-// The laws of the changes.
+//! The laws of the changes.
 ghost use Rattle.std.specs.Prelude.{◌≡◌, ℕ};
 ghost use Rattle.itpg_base.specs.Spans.{Span as PlainSpan};
 ghost use Rattle.itpg_base.specs.Words.{Word};

@@ -12,5 +12,5 @@ mod numbers;
 mod properties;
 mod stored;
 
-pub use graph::{Graph, Kind, MAX_OBJECTS};
+pub use graph::{Graph, Kind};
 pub use laws::law_of_unique_changes;

@@ -1,4 +1,4 @@
-// The edges at each object.
+//! The edges at each object.
 ghost use Rattle.std.specs.Prelude.{◌≡◌, ◌<◌, ◌∷◌, ◌++◌, [], length, slice_get, Some, OnOk};
 ghost use Rattle.itpg_base.specs.Graphs.{changed_at};
 ghost use Rattle.itpg_graph.specs.Links.{links_of, HasRoom, HasRoomAt, LosesNumber};

@@ -1,4 +1,4 @@
-// The table of names.
+//! The table of names.
 ghost use Rattle.std.specs.Prelude.{◌≡◌, ◌≢◌, Some, ℕ, List, OnOk, OnErr};
 ghost use Rattle.indexmap.specs.IndexMap.{IsUnchanged};
 ghost use Rattle.itpg_graph.specs.Stores.{listed};

@@ -1,4 +1,4 @@
-// The properties of an object, each with its values.
+//! The properties of an object, each with its values.
 ghost use Rattle.std.specs.Prelude.{◌≡◌, ◌↔◌, ℤ, [], length, IsNone, IfSome, IfOk, IfErr, OnOk, OnErr};
 ghost use Rattle.itpg_base.specs.Words.{Word};
 ghost use Rattle.itpg_base.specs.Spans.{Within};

@@ -1,4 +1,4 @@
-// What is kept of a graph and of an object.
+//! What is kept of a graph and of an object.
 ghost use Rattle.std.specs.Prelude.{◌≡◌};
 ghost use Rattle.itpg_graph.specs.Changes.{new_object};
 ghost use Rattle.itpg_graph.specs.Kinds.{ends_of};

@@ -1,4 +1,4 @@
-use Rattle.std.proofs.Common.{◌≡◌, ℤ, Option, Some, None, inl, inr, refl, sym, ◌∙◌}
+use Rattle.std.proofs.Common.{◌≡◌, Option, Some, None, inl, inr, refl}
 use Rattle.itpg_base.specs.Words.{Word}
 use Rattle.interval_set.proofs.ExistsValues.{SomeValue, runs_of_exist}
 use Rattle.interval_set.proofs.laws.law_of_existing_values.Goals as goal
@@ -11,4 +11,4 @@ one_option : (o : Option Word) (v w : Word) → o ≡ Some v → o ≡ Some w �
 one_option o v w e f = cc
 
 pub returns : goal.returns
-returns c = λ value_at low high from to. runs_of_exist (λ t value. value_at t ≡ Some value) low high from to (λ t v w h k. one_option (value_at t) v w h k) (λ t. decide_option (value_at t))
+returns c = λ value_at low high lies. runs_of_exist (λ t value. value_at t ≡ Some value) low high (λ t value e. (lies t value e).0) (λ t value e. (lies t value e).1) (λ t v w h k. one_option (value_at t) v w h k) (λ t. decide_option (value_at t))

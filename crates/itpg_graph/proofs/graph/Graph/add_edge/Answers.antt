@@ -1,9 +1,9 @@
 use Rattle.std.proofs.Common.{◌≡◌, ◌∷◌, ◌++◌, [], ℕ, Some, List, length, map, ap, ◌∙◌, ◌<◌, sym, subst, rules}
+use Rattle.std.proofs.lemmas.List.{length-map}
 use Rattle.itpg_base.specs.Graphs.{Graph, Named}
 use Rattle.itpg_base.specs.declared.object_number.ObjNo.{ObjNo}
 use Rattle.itpg_graph.specs.Links.{links_of}
 use Rattle.itpg_graph.specs.Stores.{object_of, graph_of, IsStore, listed}
-use Rattle.itpg_graph.proofs.Lists.{length_mapped}
 use Rattle.itpg_base.specs.Graphs.{changed_at}
 use Rattle.itpg_graph.specs.Kinds.{IsNode}
 use Rattle.itpg_graph.specs.Changes.{with_edge}
@@ -20,7 +20,7 @@ invariant_of-self-2 c =
     let number : ObjNo = record { 0 = c.len-2.result } in
     let items : c.push_reserved.new.self.items ≡ old ++ edge ∷ [] = search rules in
     let count : c.len-2.result ≡ length old = search rules in
-    let next : number.0 ≡ length (map object_of old) = count ∙ sym (length_mapped object_of old) in
+    let next : number.0 ≡ length (map object_of old) = count ∙ sym (length-map old object_of) in
     let table : listed c.list.new.numbers c.args.name ≡ Some (length (map object_of old)) = c.in_ok-list.ensures.ok ∙ ap Some next in
     let out = links_of c.self.inside.out in
     let into = links_of c.self.inside.into in

@@ -1,9 +1,9 @@
 use Rattle.std.proofs.Common.{◌≡◌, ◌∷◌, ◌++◌, [], ℕ, Some, length, map, ap, ◌∙◌, ◌<◌, sym, subst, rules}
+use Rattle.std.proofs.lemmas.List.{length-map}
 use Rattle.std.specs.Prelude.{IsSome}
 use Rattle.itpg_base.specs.Graphs.{Graph, Named}
 use Rattle.itpg_graph.specs.Links.{links_of}
 use Rattle.itpg_graph.specs.Stores.{object_of, graph_of, IsStore, listed}
-use Rattle.itpg_graph.proofs.Lists.{length_mapped}
 use Rattle.itpg_graph.specs.Changes.{with_node}
 use Rattle.itpg_graph.proofs.Goodness.{pushed}
 use Rattle.itpg_graph.proofs.Views.{node_store, added}
@@ -17,7 +17,7 @@ invariant_of-self-2 c =
     let node = c.new-node.result in
     let items : c.push_reserved.new.self.items ≡ old ++ node ∷ [] = search rules in
     let count : c.len-2.result ≡ length old = search rules in
-    let table : listed c.list.new.numbers c.args.name ≡ Some (length (map object_of old)) = c.in_ok-list.ensures.ok ∙ ap Some (count ∙ sym (length_mapped object_of old)) in
+    let table : listed c.list.new.numbers c.args.name ≡ Some (length (map object_of old)) = c.in_ok-list.ensures.ok ∙ ap Some (count ∙ sym (length-map old object_of)) in
     let out = links_of c.self.inside.out in
     let into = links_of c.self.inside.into in
     let more_out : links_of c.push.new.self ≡ out ++ [] ∷ [] = c.push.ensures ∙ ap (λ ls. ls ++ [] ∷ []) c.reserve-2.ensures.same in

@@ -1,12 +1,12 @@
 use Rattle.std.proofs.lemmas.Fn.{always_returns_same}
 use Rattle.std.proofs.Common.{◌≡◌, ◌≢◌, Ok, Err, ◌<◌, length, Some, refl, sym, subst, rules, of_calls}
+use Rattle.std.proofs.lemmas.List.{length-map}
 use Rattle.std.specs.Prelude.{slice_get}
 use Rattle.std.proofs.lemmas.Option.{slice_get_read}
 use Rattle.itpg_graph.specs.Links.{list_of}
 use Rattle.std.specs.List.Sorted.{IsBinarySearchResult}
 use Rattle.std.specs.Ordering.{nat_cmp}
 use Rattle.itpg_graph.specs.Edges.{HasNumber, AreNumbers}
-use Rattle.itpg_graph.proofs.Lists.{length_mapped}
 use Rattle.itpg_graph.proofs.Losing.{loses_number}
 use Rattle.itpg_graph.proofs.Rising.{search_found, search_none, removed_numbers, absent_numbers}
 use Rattle.itpg_graph.proofs.links.Links.remove.Goals as goal
@@ -14,7 +14,7 @@ use Rattle.itpg_graph.proofs.links.Links.remove.Goals as goal
 pub returns-in-Ok : goal.returns-in-Ok
 returns-in-Ok c =
     let lists = c.args.self.now.lists.items in
-    let within : c.args.o.0 < length lists = subst (λ n. c.args.o.0 < n) (length_mapped list_of lists) c.requires in
+    let within : c.args.o.0 < length lists = subst (λ n. c.args.o.0 < n) (length-map lists list_of) c.requires in
     let at : slice_get lists c.args.o.0 ≡ Some c.index_mut-list.result.now = slice_get_read lists (length lists) c.args.o.0 c.index_mut-list.result.now refl within c.index_mut-list.ensures.value in
     loses_number lists c.args.o.0 c.args.edge.0 c.index_mut-list.result.now c.remove.new.self at (λ rising.
     let xs = c.index_mut-list.result.now.items in
@@ -26,7 +26,7 @@ returns-in-Ok c =
 pub returns-in_default : goal.returns-in_default
 returns-in_default c =
     let lists = c.args.self.now.lists.items in
-    let within : c.args.o.0 < length lists = subst (λ n. c.args.o.0 < n) (length_mapped list_of lists) c.requires in
+    let within : c.args.o.0 < length lists = subst (λ n. c.args.o.0 < n) (length-map lists list_of) c.requires in
     let at : slice_get lists c.args.o.0 ≡ Some c.index_mut-list.result.now = slice_get_read lists (length lists) c.args.o.0 c.index_mut-list.result.now refl within c.index_mut-list.ensures.value in
     loses_number lists c.args.o.0 c.args.edge.0 c.index_mut-list.result.now c.index_mut-list.result.now at (λ rising.
     let xs = c.index_mut-list.result.now.items in
