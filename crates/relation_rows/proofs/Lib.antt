@@ -1,6 +1,9 @@
 pub mod Listed
 pub mod Alike
 pub mod Exists
+pub mod Restricting
+pub mod Diagonals
+pub mod Finite
 pub mod Partitions
 pub mod Objects
 pub mod Equal
@@ -25,6 +28,7 @@ pub mod Cutting
 pub mod Leaving
 pub mod Subtracting
 pub mod TimeLaws
+pub mod FiniteTimes
 pub mod Merged
 pub mod Giving
 pub mod Sorting

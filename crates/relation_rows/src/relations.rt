@@ -58,6 +58,14 @@ impl Relation {
         }
     }
 
+    /// The rows in order.
+    pub fn rows(&self) -> &[Row]
+        ensures value { result.now ≡ self.now }
+        ensures relation { IsRelation self.now }
+    {
+        &self.rows
+    }
+
     /// The number of rows.
     pub fn row_count(&self) -> u64
         ensures count { result ≡ length self.now }
