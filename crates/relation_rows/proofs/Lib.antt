@@ -19,6 +19,8 @@ pub mod Departing
 pub mod Stops
 pub mod Reaching
 pub mod Going
+pub mod Splitting
+pub mod Counting
 pub mod Composing
 pub mod Coalescing
 pub mod Runs

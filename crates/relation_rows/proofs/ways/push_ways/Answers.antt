@@ -1,5 +1,5 @@
 use Rattle.relation_rows.proofs.Going.{by_rows_from, by_busy}
-use Rattle.relation_rows.proofs.compose.push_ways.Goals as goal
+use Rattle.relation_rows.proofs.ways.push_ways.Goals as goal
 
 pub push_scanned-requires : goal.push_scanned-requires
 push_scanned-requires c = record {

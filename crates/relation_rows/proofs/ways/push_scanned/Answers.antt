@@ -1,6 +1,6 @@
 use Rattle.itpg_base.proofs.Lists.{among_at}
 use Rattle.relation_rows.proofs.Going.{row_formed, next_more, none_next, all_next}
-use Rattle.relation_rows.proofs.compose.push_scanned.Goals as goal
+use Rattle.relation_rows.proofs.ways.push_scanned.Goals as goal
 
 pub loop-next-init : goal.loop-next-init
 loop-next-init c = none_next c.args.row.now c.args.items.now.items c.args.here.now

@@ -2,7 +2,7 @@ use Rattle.std.proofs.Common.{arith}
 use Rattle.relation_rows.specs.Relations.{EitherHolds}
 use Rattle.relation_rows.proofs.Alike.{relation_of}
 use Rattle.relation_rows.proofs.Merged.{start, here_part, there_part, step_united, step_wide, step_less, all_united}
-use Rattle.relation_rows.proofs.unite.united.Goals as goal
+use Rattle.relation_rows.proofs.union.united.Goals as goal
 
 pub loop-key-init : goal.loop-key-init
 loop-key-init c = (

@@ -1,5 +1,5 @@
 use Rattle.relation_rows.proofs.Going.{pushed_there}
-use Rattle.relation_rows.proofs.compose.push_there.Goals as goal
+use Rattle.relation_rows.proofs.ways.push_there.Goals as goal
 
 pub returns-in_ok-push : goal.returns-in_ok-push
 returns-in_ok-push c =

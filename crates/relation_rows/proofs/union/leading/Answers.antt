@@ -3,7 +3,7 @@ use Rattle.std.proofs.lemmas.List.Sorted.{IsPartitionPoint-from_clause}
 use Rattle.relation_rows.specs.declared.rows.Row.{Row}
 use Rattle.relation_rows.specs.Searching.{has_key}
 use Rattle.relation_rows.proofs.Merged.{leading_partitioned, leading_same, leading_later}
-use Rattle.relation_rows.proofs.unite.leading.Goals as goal
+use Rattle.relation_rows.proofs.union.leading.Goals as goal
 
 pub returns-clause-same : goal.returns-clause-same
 returns-clause-same c = leading_same c.args.rows.now c.args.key.now c.requires.order c.requires.up c.partition_point.result c.partition_point.ensures.bound

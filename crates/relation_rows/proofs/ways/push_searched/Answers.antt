@@ -1,6 +1,6 @@
 use Rattle.relation_rows.proofs.Departing.{found_as}
 use Rattle.relation_rows.proofs.Going.{stop_more, all_ways, stop_formed, stop_source}
-use Rattle.relation_rows.proofs.compose.push_searched.Goals as goal
+use Rattle.relation_rows.proofs.ways.push_searched.Goals as goal
 
 pub zone_of-requires : goal.zone_of-requires
 zone_of-requires c =

@@ -4,7 +4,7 @@ use Rattle.band_normal.specs.Zones.{SomeMeets}
 use Rattle.relation_rows.specs.Relations.{Item}
 use Rattle.relation_rows.proofs.Uniting.{items_either, either_items}
 use Rattle.relation_rows.proofs.Merged.{both_normal}
-use Rattle.relation_rows.proofs.unite.bands_of_both.Goals as goal
+use Rattle.relation_rows.proofs.union.bands_of_both.Goals as goal
 
 pub returns-clause-normal : goal.returns-clause-normal
 returns-clause-normal c =

@@ -3,7 +3,7 @@ use Rattle.std.proofs.lemmas.Bool.Decides.{Decides-eqb}
 use Rattle.band_normal.specs.declared.band.Band.{Band}
 use Rattle.relation_rows.specs.Rows.{rows_at}
 use Rattle.relation_rows.proofs.Merged.{pushed_here, pushed_there}
-use Rattle.relation_rows.proofs.unite.push_both.Goals as goal
+use Rattle.relation_rows.proofs.union.push_both.Goals as goal
 
 pub returns-then-is_empty : goal.returns-then-is_empty
 returns-then-is_empty c =
