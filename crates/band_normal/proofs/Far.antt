@@ -32,7 +32,7 @@ climb P low high first next (suc n) le =
     let here = climb P low high first next n (omega (arith, ints)) in
     subst P (omega (arith, ints)) (next (low +ℤ pos n) (omega (arith, ints)) (omega (arith, ints)) here)
 
-climb_to : (P : ℤ → Type 0) (low high : ℤ) → P low → ((u : ℤ) → low ≤ℤ u → (u +ℤ pos 1) ≤ℤ high → P u → P (u +ℤ pos 1)) → (u : ℤ) → low ≤ℤ u → u ≤ℤ high → P u
+pub climb_to : (P : ℤ → Type 0) (low high : ℤ) → P low → ((u : ℤ) → low ≤ℤ u → (u +ℤ pos 1) ≤ℤ high → P u → P (u +ℤ pos 1)) → (u : ℤ) → low ≤ℤ u → u ≤ℤ high → P u
 climb_to P low high first next u a b =
     let is = up_of (u -ℤ low) (omega (arith, ints)) in
     let e : low +ℤ pos (up (u -ℤ low)) ≡ u = omega (arith, ints) in

@@ -18,7 +18,7 @@ use Rattle.relation_rows.proofs.Pushing.{rows_more}
 use Rattle.relation_rows.proofs.Coalescing.{hold_more}
 
 -- an end doesn't go down
-end_up : (e : End) (s t : ℤ) → s ≤ℤ t → end_at e s ≤ℤ end_at e t
+pub end_up : (e : End) (s t : ℤ) → s ≤ℤ t → end_at e s ≤ℤ end_at e t
 end_up (Fixed n) s t le = omega (arith, ints)
 end_up (Moving k) s t le = omega (arith, ints)
 

@@ -11,7 +11,7 @@ use Rattle.relation_rows.specs.declared.rows.RelFault.{RelFault}
 use Rattle.relation_rows.specs.declared.rows.RelFault.TheVariants.{Memory, Wide}
 use Rattle.relation_rows.specs.Rows.{between, RowBefore, NormalRows, IsWide}
 use Rattle.relation_rows.specs.Answers.{Gives}
-use Rattle.relation_rows.specs.Relations.{Item, ItemsHold, HasMiddlePoint}
+use Rattle.relation_rows.specs.Relations.{HasMiddlePoint}
 use Rattle.relation_rows.proofs.Listed.{Listed, join, goes_further, normal_of, listed_of, carried, row_apart, ordered_fewer}
 use Rattle.relation_rows.proofs.Alike.{row_alike, rows_alike, row_start, in_relation}
 use Rattle.relation_rows.proofs.Keeping.{kept_exists, kept_normal}
@@ -77,8 +77,7 @@ start rows second o = record {
 module _ (rows : List Row) (second : List Row) (left done : List Row) (g : HasComposed rows second left done) (first : Row) (is : Some first ≡ slice_get left 0) (n : ℕ)
     (same : (r : Row) → Among (take n left) r → r.source.0 ≡ first.source.0)
     (behind : (r : Row) → Among (drop n left) r → first.source.0 < r.source.0)
-    (group later : List Row) (front : group ≡ take n left) (back : later ≡ drop n left)
-    (items : List Item) (ways : (x y : Point) → ItemsHold items x y ↔ HasMiddlePoint group second x y) where
+    (group later : List Row) (front : group ≡ take n left) (back : later ≡ drop n left) where
   abbrev o : ℕ
   o = first.source.0
 
@@ -97,11 +96,14 @@ module _ (rows : List Row) (second : List Row) (left done : List Row) (g : HasCo
   either : (r : Row) → Among left r → Among group r ⊎ Among later r
   either r a = ⊎_elim (λ b. inl (subst (λ (v : List Row). Among v r) (sym front) b)) (λ b. inr (subst (λ (v : List Row). Among v r) (sym back) b)) (among_either left n r a)
 
-  -- the items are what leads from the source
-  pub cut : (x y : Point) → ItemsHold items x y ↔ (HasMiddlePoint rows second x y × (x.object ≡ o))
+  abbrev Ways : Relation
+  Ways = HasMiddlePoint group second
+
+  -- the ways that begin with the group are what leads from the source
+  pub cut : (x y : Point) → Ways x y ↔ (HasMiddlePoint rows second x y × (x.object ≡ o))
   cut x y = (
     λ h.
-        let w = (ways x y).0 h in
+        let w = h in
         let r = w.1 in
         let i = r.2 in
         ((w.0, (r.0, g.there r.0 (front_among left n r.0 (in_group r.0 r.1)), r.2), w.2), sym i.source ∙ same r.0 (in_group r.0 r.1)),
@@ -110,14 +112,14 @@ module _ (rows : List Row) (second : List Row) (left done : List Row) (g : HasCo
         let r = w.1 in
         let i = r.2 in
         let e : (r.0).source.0 ≡ o = i.source ∙ h.1 in
-        (ways x y).1 (w.0, (r.0, ⊎_elim (λ k. absurd (let l = k first head in omega arith)) (λ a. ⊎_elim (λ b. b) (λ b. absurd (let l = behind_later r.0 b in omega arith)) (either r.0 a)) (g.each r.0 r.1), r.2), w.2),
+        (w.0, (r.0, ⊎_elim (λ k. absurd (let l = k first head in omega arith)) (λ a. ⊎_elim (λ b. b) (λ b. absurd (let l = behind_later r.0 b in omega arith)) (either r.0 a)) (g.each r.0 r.1), r.2), w.2),
   )
 
-  module _ (more : List Row) (normal : NormalRows (ItemsHold items) more) (formed : (r : Row) → Among more r → IsWellFormed r.band) (next : List Row) (e : next ≡ done ++ more) where
+  module _ (more : List Row) (normal : NormalRows Ways more) (formed : (r : Row) → Among more r → IsWellFormed r.band) (next : List Row) (e : next ≡ done ++ more) where
     pub next_composed : HasComposed rows second later next
     next_composed = subst (λ (v : List Row). HasComposed rows second later v) (sym e) (record {
       listed = goes_further (HasMiddlePoint rows second) (λ (q r : ℕ). IsEarlier left q ⊎ (q ≡ o)) (λ (q r : ℕ). IsEarlier later q) (done ++ more)
-          (join (HasMiddlePoint rows second) (λ (q r : ℕ). IsEarlier left q) (λ (q r : ℕ). q ≡ o) done more g.listed (at_source (HasMiddlePoint rows second) (ItemsHold items) o cut more normal)
+          (join (HasMiddlePoint rows second) (λ (q r : ℕ). IsEarlier left q) (λ (q r : ℕ). q ≡ o) done more g.listed (at_source (HasMiddlePoint rows second) Ways o cut more normal)
           (λ q r s t k f. inl (let l = k first head in omega arith)))
           (λ q r k. ⊎_elim (λ a s b. a s (later_left s b)) (λ f s b. let l = behind_later s b in omega arith) k)
           (λ x y h k.
@@ -137,12 +139,12 @@ module _ (rows : List Row) (second : List Row) (left done : List Row) (g : HasCo
           (g.each r a);
     })
 
-  pub too_wide : (limit : ℕ) → length done ≤ limit → IsWide (ItemsHold items) (limit - length done) → IsWide (HasMiddlePoint rows second) limit
-  too_wide limit few wide = wide_after (HasMiddlePoint rows second) (ItemsHold items) (λ (q r : ℕ). IsEarlier left q) o cut done g.listed (λ q r k. k first head) limit few wide
+  pub too_wide : (limit : ℕ) → length done ≤ limit → IsWide Ways (limit - length done) → IsWide (HasMiddlePoint rows second) limit
+  too_wide limit few wide = wide_after (HasMiddlePoint rows second) Ways (λ (q r : ℕ). IsEarlier left q) o cut done g.listed (λ q r k. k first head) limit few wide
 
-  pub fault_after : (limit count : ℕ) → length done ≤ limit → count ≡ length done → (fault : RelFault) → Gives (Err fault) (ItemsHold items) (limit - count) → Gives (Err fault) (HasMiddlePoint rows second) limit
+  pub fault_after : (limit count : ℕ) → length done ≤ limit → count ≡ length done → (fault : RelFault) → Gives (Err fault) Ways (limit - count) → Gives (Err fault) (HasMiddlePoint rows second) limit
   fault_after limit count few e Memory h = tt
-  fault_after limit count few e Wide h = too_wide limit few (subst (λ (v : ℕ). IsWide (ItemsHold items) (limit - v)) e h)
+  fault_after limit count few e Wide h = too_wide limit few (subst (λ (v : ℕ). IsWide Ways (limit - v)) e h)
 
 pub within_limit : (limit count : ℕ) (done more next : List Row) → next ≡ done ++ more → count ≡ length done → length done ≤ limit → length more ≤ limit - count → length next ≤ limit
 within_limit limit count done more next e f few room = subst (λ (v : List Row). length v ≤ limit) (sym e) (omega (arith, length-append {A = Row} done more))

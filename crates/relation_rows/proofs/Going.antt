@@ -170,30 +170,35 @@ module _ (row : Row) (second here : List Row) (are : (r : Row) → Among here r 
       from_target m i g = let j = g.2 in (g.0, (are g.0).1 (g.1, j.source ∙ sym i.target), g.2)
 
 -- one more row
-pub row_more : (now next : List Item) (rows : List Row) (second : List Row) (k : ℕ) (d : Row) → k < length rows
-    → ((x y : Point) → ItemsHold next x y ↔ (ItemsHold now x y ⊎ GoesOn (slice_index_or rows k d) second x y))
-    → ((x y : Point) → ItemsHold now x y ↔ HasMiddlePoint (take k rows) second x y)
-    → (x y : Point) → ItemsHold next x y ↔ HasMiddlePoint (take (k + 1) rows) second x y
-row_more now next rows second k d lt pushed old x y = (
+pub row_more : (base now pushed next : List Item) (rows : List Row) (second : List Row) (k : ℕ) (d : Row) → k < length rows
+    → ((x y : Point) → ItemsHold pushed x y ↔ (ItemsHold now x y ⊎ GoesOn (slice_index_or rows k d) second x y))
+    → ((x y : Point) → ItemsHold next x y ↔ ItemsHold pushed x y)
+    → ((x y : Point) → ItemsHold now x y ↔ (ItemsHold base x y ⊎ HasMiddlePoint (take k rows) second x y))
+    → (x y : Point) → ItemsHold next x y ↔ (ItemsHold base x y ⊎ HasMiddlePoint (take (k + 1) rows) second x y)
+row_more base now pushed next rows second k d lt push same old x y = (
   λ h. ⊎_elim
-      (λ a. let w = (old x y).0 a in (w.0, (rows_more rows k d lt x w.0).1 (inl w.1), w.2))
-      (λ (a : GoesOn (slice_index_or rows k d) second x y). (a.0, (rows_more rows k d lt x a.0).1 (inr a.1), a.2))
-      ((pushed x y).0 h),
-  λ h. ⊎_elim
-      (λ a. (pushed x y).1 (inl ((old x y).1 (h.0, a, h.2))))
-      (λ a. (pushed x y).1 (inr (h.0, a, h.2)))
-      ((rows_more rows k d lt x h.0).0 h.1),
+      (λ a. ⊎_elim (λ b. inl b) (λ (w : HasMiddlePoint (take k rows) second x y). inr (w.0, (rows_more rows k d lt x w.0).1 (inl w.1), w.2)) ((old x y).0 a))
+      (λ (a : GoesOn (slice_index_or rows k d) second x y). inr (a.0, (rows_more rows k d lt x a.0).1 (inr a.1), a.2))
+      ((push x y).0 ((same x y).0 h)),
+  λ h. (same x y).1 (⊎_elim
+      (λ a. (push x y).1 (inl ((old x y).1 (inl a))))
+      (λ (w : HasMiddlePoint (take (k + 1) rows) second x y). ⊎_elim
+      (λ a. (push x y).1 (inl ((old x y).1 (inr (w.0, a, w.2)))))
+      (λ a. (push x y).1 (inr (w.0, a, w.2)))
+      ((rows_more rows k d lt x w.0).0 w.1))
+      h),
 )
 
-pub no_rows : (items : List Item) (rows : List Row) (second : List Row) → items ≡ [] → (x y : Point) → ItemsHold items x y ↔ HasMiddlePoint (take 0 rows) second x y
-no_rows items rows second e x y = (λ h. absurd (subst (λ (v : List Item). ItemsHold v x y) e h).1, λ h. absurd (none rows h.1))
+pub no_rows : (items : List Item) (rows : List Row) (second : List Row) (x y : Point) → ItemsHold items x y ↔ (ItemsHold items x y ⊎ HasMiddlePoint (take 0 rows) second x y)
+no_rows items rows second x y = (λ h. inl h, λ h. ⊎_elim (λ a. a) (λ (w : HasMiddlePoint (take 0 rows) second x y). absurd (none rows w.1)) h)
   where
     none : (xs : List Row) {x y : Point} → RowsHold (take 0 xs) x y → ⊥
     none [] h = h.1
     none (z ∷ zs) h = h.1
 
-pub every_row : (items : List Item) (rows : List Row) (second : List Row) (k : ℕ) → length rows ≤ k → ((x y : Point) → ItemsHold items x y ↔ HasMiddlePoint (take k rows) second x y) → (x y : Point) → ItemsHold items x y ↔ HasMiddlePoint rows second x y
-every_row items rows second k le = subst (λ (v : List Row). (x y : Point) → ItemsHold items x y ↔ HasMiddlePoint v second x y) (take_all k rows le)
+pub every_row : (base items : List Item) (rows : List Row) (second : List Row) (k : ℕ) → length rows ≤ k → ((x y : Point) → ItemsHold items x y ↔ (ItemsHold base x y ⊎ HasMiddlePoint (take k rows) second x y))
+    → (x y : Point) → ItemsHold items x y ↔ (ItemsHold base x y ⊎ HasMiddlePoint rows second x y)
+every_row base items rows second k le = subst (λ (v : List Row). (x y : Point) → ItemsHold items x y ↔ (ItemsHold base x y ⊎ HasMiddlePoint v second x y)) (take_all k rows le)
 
 pub stop_formed : (stops found : List Stop) (k : ℕ) (d : Stop) → k < length found → ((s : Stop) → Among found s → Among stops s) → ((s : Stop) → Among stops s → IsWellFormed s.row.band) → IsWellFormed (slice_index_or found k d).row.band
 stop_formed stops found k d lt there formed = formed (slice_index_or found k d) (there (slice_index_or found k d) (among_at found k d lt))

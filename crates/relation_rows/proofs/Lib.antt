@@ -1,6 +1,9 @@
 pub mod Listed
 pub mod Alike
 pub mod Exists
+pub mod Restricting
+pub mod Diagonals
+pub mod Finite
 pub mod Partitions
 pub mod Objects
 pub mod Equal
@@ -16,6 +19,8 @@ pub mod Departing
 pub mod Stops
 pub mod Reaching
 pub mod Going
+pub mod Splitting
+pub mod Counting
 pub mod Composing
 pub mod Coalescing
 pub mod Runs
@@ -25,6 +30,7 @@ pub mod Cutting
 pub mod Leaving
 pub mod Subtracting
 pub mod TimeLaws
+pub mod FiniteTimes
 pub mod Merged
 pub mod Giving
 pub mod Sorting

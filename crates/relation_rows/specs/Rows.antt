@@ -1,5 +1,5 @@
 -- Rows, and what it means that a list of them is normal for a relation of points.
-use Rattle.std.specs.Prelude.{◌≡◌, ◌⊎◌, ℕ, ◌<◌, ◌≤◌, ℤ, List, [], ◌∷◌, length}
+use Rattle.std.specs.Prelude.{◌≡◌, ◌⊎◌, Bool, IsTrue, ℕ, ◌<◌, ◌≤◌, ℤ, List, [], ◌∷◌, length}
 use Rattle.itpg_base.specs.Points.{Point, Relation}
 use Rattle.zone_core.specs.Zone.{Between}
 use Rattle.band_normal.specs.declared.band.Band.{Band}
@@ -43,9 +43,17 @@ pub record NormalRows (R : Relation) (rows : List Row) : Type 0 where
   pub each : (r : Row) → Among rows r → IsRow (between R r.source.0 r.target.0) r.band
   pub order : Ordered RowBefore rows
 
+-- its normal list is there
+abbrev pub HasRows : Relation → Type 0
+HasRows R = (rows : List Row) × NormalRows R rows
+
 -- its normal list is there, and has at most so many rows
 abbrev pub Fits : Relation → ℕ → Type 0
 Fits R limit = (rows : List Row) × NormalRows R rows × (length rows ≤ limit)
+
+-- its normal list is there, and has more rows
+abbrev pub HasMoreRows : Relation → ℕ → Type 0
+HasMoreRows R limit = (rows : List Row) × NormalRows R rows × (limit < length rows)
 
 -- its normal list has more rows
 abbrev pub IsWide : Relation → ℕ → Type 0
@@ -62,6 +70,10 @@ pub record IsFinite (objects : ℕ) (low high : ℤ) (R : Relation) : Type 0 whe
   pub target : (x y : Point) → R x y → y.object < objects
   pub departs : (x y : Point) → R x y → Between low high x.moment
   pub arrives : (x y : Point) → R x y → Between low high y.moment
+
+-- the test is true of the pair
+abbrev pub of_test : (Point → Point → Bool) → Relation
+of_test test x y = IsTrue (test x y)
 
 -- bands of one source and target as rows
 abbrev pub rows_at : ℕ → ℕ → List Band → List Row

@@ -1,7 +1,8 @@
 -- One-time rows, and the moments at which a relation departs and arrives.
-use Rattle.std.specs.Prelude.{◌≡◌, ◌⊎◌, ◌==◌, ◌&&◌, ◌||◌, nat_lt, int_le, int_lt, Bool, ℕ, ◌<◌, ℤ, pos, ◌+ℤ◌, ◌≤ℤ◌, ◌<ℤ◌, List}
+use Rattle.std.specs.Prelude.{◌≡◌, ◌⊎◌, ◌==◌, ◌&&◌, ◌||◌, nat_lt, int_le, int_lt, Bool, IsTrue, ℕ, ◌<◌, ℤ, pos, ◌+ℤ◌, ◌≤ℤ◌, ◌<ℤ◌, List}
 use Rattle.itpg_base.specs.Spans.{Within, IsSpan}
 use Rattle.itpg_base.specs.Points.{Point}
+use Rattle.zone_core.specs.Zone.{Between}
 use Rattle.band_normal.specs.declared.band.Band.{Band}
 use Rattle.itpg_base.specs.Lists.{Among, Ordered}
 use Rattle.band_normal.specs.Bands.{InBand}
@@ -73,3 +74,7 @@ begins_by r o t = nat_lt r.object.0 o || ((r.object.0 == o) && int_le r.span.fro
 -- the row is of an object before o, or of o and ends before t
 abbrev pub ends_before : OneRow → ℕ → ℤ → Bool
 ends_before r o t = nat_lt r.object.0 o || ((r.object.0 == o) && int_lt r.span.to t)
+
+-- the test is true of objects of numbers below `objects` alone, at moments from `low` to `high`
+abbrev pub AreFewTimes : ℕ → ℤ → ℤ → (ℕ → ℤ → Bool) → Type 0
+AreFewTimes objects low high test = (o : ℕ) (t : ℤ) → IsTrue (test o t) → (o < objects) × Between low high t

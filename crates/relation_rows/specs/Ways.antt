@@ -1,5 +1,5 @@
 -- Ways: a row, and then a stop's row from where it arrives.
-use Rattle.std.specs.Prelude.{◌≡◌, ◌↔◌, ℕ, ◌<◌, Option, Some, None, List, length}
+use Rattle.std.specs.Prelude.{◌≡◌, ◌↔◌, ℕ, ◌<◌, pos, ◌+ℤ◌, ◌≤ℤ◌, ◌<ℤ◌, Option, Some, None, List, length}
 use Rattle.itpg_base.specs.declared.object_number.ObjNo.{ObjNo}
 use Rattle.itpg_base.specs.Points.{Point, Relation}
 use Rattle.zone_core.specs.declared.Bounds.{Bounds}
@@ -39,3 +39,11 @@ pub record AreComposed (second : List Row) (busy : List Stop) : Type 0 where
   pub table : IsTimetable busy
   pub there : (x y : Point) → StopsHold busy x y → RowsHold second x y
   pub all : (o : ℕ) (group : List Row) → AreFrom second o group → 8 < length group → (x y : Point) → RowsHold group x y → StopsHold busy x y
+
+-- by the first departure
+abbrev pub DepartsNoLater : Row → Row → Type 0
+DepartsNoLater r s = r.band.from ≤ℤ s.band.from
+
+-- a moment is free between the departures of the first row and those of the second
+abbrev pub DepartApart : Row → Row → Type 0
+DepartApart r s = (r.band.to +ℤ pos 1) <ℤ s.band.from

@@ -1,123 +1,25 @@
 //! Composition: the ways from one source after the other, by the rows that depart where they arrive.
 //!
-//! The rows from one object stand together. A few of them are gone through; where there are more, those that depart in time are
-//! searched in a timetable, which has only the rows from such busy objects.
+//! The ways of one source are made normal together, target by target. Where there are many, they go by departure: once a moment is
+//! free at which no row departs, no later way can join the rows of those before it. So these rows are counted, and only their zones are
+//! kept, which is why a relation that is too wide is told by few ways more than its limit.
 
-ghost use Rattle.std.specs.Prelude.{◌≡◌, ◌⊎◌, ◌↔◌, ◌<◌, ◌≤◌, length, take, drop, slice_get, Option, Some, None, IfOk, OnOk, IsTrue};
-ghost use Rattle.itpg_base.specs.declared.object_number.ObjNo.{ObjNo as PlainObjNo};
+ghost use Rattle.std.specs.Prelude.{◌≡◌, ◌↔◌, ◌<◌, ◌≤◌, pos, ◌+ℤ◌, ◌≤ℤ◌, ◌<ℤ◌, length, take, drop, slice_get, Some, IfOk, IsTrue};
 ghost use Rattle.itpg_base.specs.Points.{Point};
-ghost use Rattle.zone_core.specs.declared.Bounds.{Bounds};
 ghost use Rattle.itpg_base.specs.Lists.{Among, Ordered};
 ghost use Rattle.band_normal.specs.Bands.{IsWellFormed};
 ghost use Rattle.relation_rows.specs.declared.rows.Row.{Row as PlainRow};
-ghost use Rattle.relation_rows.specs.Rows.{RowBefore};
+ghost use Rattle.relation_rows.specs.Rows.{RowBefore, RowsHold};
 ghost use Rattle.relation_rows.specs.Answers.{Gives};
-ghost use Rattle.relation_rows.specs.Relations.{ItemsHold, HasMiddlePoint};
-ghost use Rattle.relation_rows.specs.Timetables.{IsTimetable};
-ghost use Rattle.relation_rows.specs.Ways.{ItemThere, GoesOn, GoesOnBy, HasBusy, AreComposed};
+ghost use Rattle.relation_rows.specs.Relations.{HasMiddlePoint};
+ghost use Rattle.relation_rows.specs.Ways.{HasBusy, AreComposed, DepartsNoLater, DepartApart};
 
-use crate::gather::{Item, gathered_of};
+use crate::gather::{gathered_of, push_zones};
 use crate::relations::Relation;
 use crate::rows::{RelFault, Row};
-use crate::search::rows_from;
-use crate::timetable::{Stop, find_departing};
-use band_normal::zone_of;
-use itpg_base::ObjNo;
+use crate::timetable::Stop;
+use crate::ways::{FEW, MANY, with_ways};
 use std::alloc::{AllocError, Global};
-use zone_compose::{arrivals, compose};
-use zone_core::Zone;
-
-// So many rows from one object are gone through, and more are searched.
-const FEW: usize = 8;
-
-fn push_there(
-    items: &mut Vec<Item>,
-    source: ObjNo,
-    target: ObjNo,
-    zone: Option<Zone>,
-) -> Result<(), AllocError>
-    ensures { OnOk result ((x : Point) → (y : Point) → ItemsHold items.new.items x y ↔ (ItemsHold items.old.items x y ⊎ ItemThere source target zone x y)) }
-{
-    if let Some(zone) = zone {
-        items.push((source, target, zone))?;
-    }
-    Ok(())
-}
-
-// Adds the ways by the row and one of those from where it arrives.
-fn push_scanned(items: &mut Vec<Item>, row: &Row, here: &[Row]) -> Result<(), AllocError>
-    requires row { IsWellFormed row.now.band }
-    requires here { (r : PlainRow) → Among here.now r → IsWellFormed r.band }
-    requires source { (r : PlainRow) → Among here.now r → r.source.0 ≡ row.now.target.0 }
-    ensures { OnOk result ((x : Point) → (y : Point) → ItemsHold items.new.items x y ↔ (ItemsHold items.old.items x y ⊎ GoesOn row.now here.now x y)) }
-{
-    let zone = zone_of(&row.band);
-    for next in here {
-        let way = compose(&zone, &zone_of(&next.band));
-        push_there(items, row.source, next.target, way)?;
-    }
-    Ok(())
-}
-
-// Adds the ways by the row and a stop's row. What is in `found` is for this call alone, in memory that all rows share.
-fn push_searched(
-    items: &mut Vec<Item>,
-    found: &mut Vec<Stop>,
-    row: &Row,
-    stops: &[Stop],
-) -> Result<(), AllocError>
-    requires row { IsWellFormed row.now.band }
-    requires stops { IsTimetable stops.now }
-    ensures { OnOk result ((x : Point) → (y : Point) → ItemsHold items.new.items x y ↔ (ItemsHold items.old.items x y ⊎ GoesOnBy row.now stops.now x y)) }
-{
-    let zone = zone_of(&row.band);
-    find_departing(found, stops, row.target, arrivals(&zone))?;
-    for stop in found.as_slice() {
-        let way = compose(&zone, &zone_of(&stop.row.band));
-        push_there(items, row.source, stop.row.target, way)?;
-    }
-    Ok(())
-}
-
-// Adds the ways that begin with the row.
-fn push_ways(
-    items: &mut Vec<Item>,
-    found: &mut Vec<Stop>,
-    row: &Row,
-    second: &[Row],
-    busy: &[Stop],
-) -> Result<(), AllocError>
-    requires row { IsWellFormed row.now.band }
-    requires second { AreComposed second.now busy.now }
-    ensures { OnOk result ((x : Point) → (y : Point) → ItemsHold items.new.items x y ↔ (ItemsHold items.old.items x y ⊎ GoesOn row.now second.now x y)) }
-{
-    let here = rows_from(second, row.target);
-    if here.len() <= FEW {
-        push_scanned(items, row, here)?;
-        return Ok(());
-    }
-    push_searched(items, found, row, busy)?;
-    Ok(())
-}
-
-// The ways that begin with one of the rows.
-fn ways_from(
-    alloc: Global,
-    rows: &[Row],
-    second: &[Row],
-    busy: &[Stop],
-) -> Result<Vec<Item>, AllocError>
-    requires rows { (r : PlainRow) → Among rows.now r → IsWellFormed r.band }
-    requires second { AreComposed second.now busy.now }
-    ensures { IfOk result (λ items. (x : Point) → (y : Point) → ItemsHold items.items x y ↔ HasMiddlePoint rows.now second.now x y) }
-{
-    let mut items = Vec::new(alloc);
-    let mut found = Vec::new(alloc);
-    for row in rows {
-        push_ways(&mut items, &mut found, row, second, busy)?;
-    }
-    Ok(items)
-}
 
 // How many of the rows, from the first on, have its source.
 fn source_count(rows: &[Row], first: &Row) -> usize
@@ -149,6 +51,88 @@ pub(crate) fn busy_rows(alloc: Global, rows: &[Row]) -> Result<Vec<Row>, AllocEr
     Ok(busy)
 }
 
+// The rows by their first departure.
+fn by_departure(alloc: Global, rows: &[Row]) -> Result<Vec<Row>, AllocError>
+    ensures order { IfOk result (λ sorted. Ordered DepartsNoLater sorted.items) }
+    ensures same { IfOk result (λ sorted. (r : PlainRow) → Among sorted.items r ↔ Among rows.now r) }
+{
+    let mut sorted = Vec::from_slice(alloc, rows)?;
+    sorted.sort_by_key(|row| row.band.from)?;
+    Ok(sorted)
+}
+
+// Whether the row departs so late that a moment is free after the last departure.
+fn is_apart(last: i64, row: &Row) -> bool
+    ensures { IsTrue result ↔ ((last +ℤ pos 1) <ℤ row.now.band.from) }
+{
+    last < row.band.from && last + 1 < row.band.from
+}
+
+// The last departure with one more row.
+fn last_with(last: i64, row: &Row) -> i64
+    ensures old { last ≤ℤ result }
+    ensures row { row.now.band.to ≤ℤ result }
+{
+    last.max(row.band.to)
+}
+
+// How many of the rows, from the first on, depart before a moment is free at which none does.
+fn stretch_len(rows: &[Row]) -> usize
+    requires some { 0 < length rows.now }
+    requires order { Ordered DepartsNoLater rows.now }
+    ensures some { 0 < result }
+    ensures within { result ≤ length rows.now }
+    ensures apart { (r : PlainRow) → (s : PlainRow) → Among (take result rows.now) r → Among (drop result rows.now) s → DepartApart r s }
+{
+    let mut last = i64::MIN;
+    for (i, row) in rows.iter().enumerate() {
+        if i > 0 {
+            if is_apart(last, row) {
+                return i;
+            }
+        }
+        last = last_with(last, row);
+    }
+    rows.len()
+}
+
+// The relation of the ways that begin with the rows.
+fn of_source(
+    alloc: Global,
+    rows: &[Row],
+    second: &[Row],
+    busy: &[Stop],
+    room: usize,
+) -> Result<Relation, RelFault>
+    requires rows { (r : PlainRow) → Among rows.now r → IsWellFormed r.band }
+    requires second { AreComposed second.now busy.now }
+    ensures { Gives result (HasMiddlePoint rows.now second.now) room }
+{
+    let mut found = Vec::new(alloc);
+    if rows.len() <= FEW {
+        let ways = with_ways(Vec::new(alloc), &mut found, rows, second, busy)?;
+        return gathered_of(alloc, ways, room);
+    }
+    let sorted = by_departure(alloc, rows)?;
+    let mut kept = Vec::new(alloc);
+    let mut count = 0;
+    let mut ways = Vec::new(alloc);
+    let mut left = &sorted[..];
+    while !left.is_empty() {
+        let (part, later) = left.split_at(stretch_len(left));
+        ways = with_ways(ways, &mut found, part, second, busy)?;
+        if ways.len() > MANY {
+            let complete = gathered_of(alloc, ways, room - count)?;
+            count += complete.rows.len();
+            push_zones(&mut kept, &complete.rows)?;
+            ways = Vec::new(alloc);
+        }
+        left = later;
+    }
+    kept.extend_from_slice(&ways)?;
+    gathered_of(alloc, kept, room)
+}
+
 /// The relation of the ways that begin with the rows and go on in the second. The stops are those of the second's busy objects.
 pub(crate) fn composed(
     alloc: Global,
@@ -166,8 +150,7 @@ pub(crate) fn composed(
     let mut left = rows;
     while let Some(first) = left.first() {
         let (group, later) = left.split_at(source_count(left, first));
-        let ways = ways_from(alloc, group, second, busy)?;
-        let more = gathered_of(alloc, ways, max_rows - done.len())?;
+        let more = of_source(alloc, group, second, busy, max_rows - done.len())?;
         done.extend_from_slice(&more.rows)?;
         left = later;
     }

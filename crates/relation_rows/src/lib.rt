@@ -18,7 +18,8 @@ mod search;
 mod strike;
 pub mod times;
 mod timetable;
-mod unite;
+mod union;
+mod ways;
 
 pub use answered::Answer;
 pub use relations::Relation;

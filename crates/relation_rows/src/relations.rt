@@ -19,7 +19,7 @@ use crate::search::{is_in_band, rows_between, rows_of_key};
 use crate::strike::struck;
 use crate::times::{OneTime, arrivals, departures, runs_of};
 use crate::timetable::timetable;
-use crate::unite::united;
+use crate::union::united;
 use interval_set::Span;
 use itpg_base::ObjNo;
 use std::alloc::{AllocError, Global};
@@ -56,6 +56,14 @@ impl Relation {
         Relation {
             rows: Vec::new(alloc),
         }
+    }
+
+    /// The rows in order.
+    pub fn rows(&self) -> &[Row]
+        ensures value { result.now ≡ self.now }
+        ensures relation { IsRelation self.now }
+    {
+        &self.rows
     }
 
     /// The number of rows.

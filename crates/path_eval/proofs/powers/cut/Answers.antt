@@ -1,7 +1,8 @@
 use Rattle.std.proofs.Common.{List, sym, subst}
 use Rattle.itpg_base.specs.declared.object_number.ObjNo.{ObjNo}
 use Rattle.condition_eval.specs.Within.{AreWithin}
-use Rattle.path_eval.proofs.Composing.{cut_normal, cut_few}
+use Rattle.path_eval.proofs.Composing.{cut_normal}
+use Rattle.relation_rows.proofs.Restricting.{cut_few}
 use Rattle.path_eval.proofs.powers.cut.Goals as goal
 
 pub returns-clause-rows : goal.returns-clause-rows

@@ -1,0 +1,27 @@
+use Rattle.std.proofs.Common.{◌≡◌, ◌++◌, ◌∙◌, List, ap, arith, length}
+use Rattle.std.proofs.lemmas.Bool.Decides.{Decides-eqb}
+use Rattle.band_normal.specs.declared.band.Band.{Band}
+use Rattle.relation_rows.specs.Rows.{rows_at}
+use Rattle.relation_rows.proofs.Merged.{pushed_here, pushed_there}
+use Rattle.relation_rows.proofs.union.push_both.Goals as goal
+
+pub returns-then-is_empty : goal.returns-then-is_empty
+returns-then-is_empty c =
+    let extended = c.in_ok-extend_from_slice.ensures.items in
+    let none : length c.args.there.now ≡ 0 = grind (arith, Decides-eqb) in
+    pushed_here c.args.key.now c.args.here.now c.args.there.now c.args.rows.now.items c.extend_from_slice.new.self.items c.requires.here none extended
+
+pub returns-then-is_empty-2 : goal.returns-then-is_empty-2
+returns-then-is_empty-2 c =
+    let extended = c.in_ok-extend_from_slice-2.ensures.items in
+    let none : length c.args.here.now ≡ 0 = grind (arith, Decides-eqb) in
+    pushed_there c.args.key.now c.args.here.now c.args.there.now c.args.rows.now.items c.extend_from_slice-then-is_empty-2.new.self.items c.requires.there none extended
+
+pub returns : goal.returns
+returns c =
+    let pushed = c.in_ok-push_bands.ensures in (
+      c.in_ok-bands.bands.items,
+      c.in_ok-bands.ensures.normal,
+      c.in_ok-bands.ensures.formed,
+      pushed ∙ ap (λ (v : List Band). c.args.rows.now.items ++ rows_at c.args.key.now.source.0 c.args.key.now.target.0 v) c.deref.ensures.value,
+    )

@@ -1,0 +1,136 @@
+//! The ways that begin with a row, or with one of some rows, and go on by a row that departs where that one arrives.
+//!
+//! The rows from one object stand together. A few of them are gone through; where there are more, those that depart in time are
+//! searched in a timetable, which has only the rows from such busy objects. Where the ways become many, the zones of their normal
+//! rows stand for them from then on, so that ways that lie within others take no memory for long.
+
+ghost use Rattle.std.specs.Prelude.{◌≡◌, ◌⊎◌, ◌↔◌, IfOk, OnOk};
+ghost use Rattle.itpg_base.specs.Points.{Point};
+ghost use Rattle.itpg_base.specs.Lists.{Among};
+ghost use Rattle.band_normal.specs.Bands.{IsWellFormed};
+ghost use Rattle.relation_rows.specs.declared.rows.Row.{Row as PlainRow};
+ghost use Rattle.relation_rows.specs.Relations.{ItemsHold, HasMiddlePoint};
+ghost use Rattle.relation_rows.specs.Timetables.{IsTimetable};
+ghost use Rattle.relation_rows.specs.Ways.{ItemThere, GoesOn, GoesOnBy, AreComposed};
+
+use crate::gather::{Item, gathered_all, push_zones};
+use crate::rows::Row;
+use crate::search::rows_from;
+use crate::timetable::{Stop, find_departing};
+use band_normal::zone_of;
+use itpg_base::ObjNo;
+use std::alloc::AllocError;
+use zone_compose::{arrivals, compose};
+use zone_core::Zone;
+
+/// More ways than these are united.
+pub(crate) const MANY: usize = 65_536;
+
+/// So many rows from one object are gone through, and more are searched.
+pub(crate) const FEW: usize = 8;
+
+fn push_there(
+    items: &mut Vec<Item>,
+    source: ObjNo,
+    target: ObjNo,
+    zone: Option<Zone>,
+) -> Result<(), AllocError>
+    ensures { OnOk result ((x : Point) → (y : Point) → ItemsHold items.new.items x y ↔ (ItemsHold items.old.items x y ⊎ ItemThere source target zone x y)) }
+{
+    if let Some(zone) = zone {
+        items.push((source, target, zone))?;
+    }
+    Ok(())
+}
+
+// Adds the ways by the row and one of those from where it arrives.
+fn push_scanned(items: &mut Vec<Item>, row: &Row, here: &[Row]) -> Result<(), AllocError>
+    requires row { IsWellFormed row.now.band }
+    requires here { (r : PlainRow) → Among here.now r → IsWellFormed r.band }
+    requires source { (r : PlainRow) → Among here.now r → r.source.0 ≡ row.now.target.0 }
+    ensures { OnOk result ((x : Point) → (y : Point) → ItemsHold items.new.items x y ↔ (ItemsHold items.old.items x y ⊎ GoesOn row.now here.now x y)) }
+{
+    let zone = zone_of(&row.band);
+    for next in here {
+        let way = compose(&zone, &zone_of(&next.band));
+        push_there(items, row.source, next.target, way)?;
+    }
+    Ok(())
+}
+
+// Adds the ways by the row and a stop's row. What is in `found` is for this call alone, in memory that all rows share.
+fn push_searched(
+    items: &mut Vec<Item>,
+    found: &mut Vec<Stop>,
+    row: &Row,
+    stops: &[Stop],
+) -> Result<(), AllocError>
+    requires row { IsWellFormed row.now.band }
+    requires stops { IsTimetable stops.now }
+    ensures { OnOk result ((x : Point) → (y : Point) → ItemsHold items.new.items x y ↔ (ItemsHold items.old.items x y ⊎ GoesOnBy row.now stops.now x y)) }
+{
+    let zone = zone_of(&row.band);
+    find_departing(found, stops, row.target, arrivals(&zone))?;
+    for stop in found.as_slice() {
+        let way = compose(&zone, &zone_of(&stop.row.band));
+        push_there(items, row.source, stop.row.target, way)?;
+    }
+    Ok(())
+}
+
+// Adds the ways that begin with the row.
+fn push_ways(
+    items: &mut Vec<Item>,
+    found: &mut Vec<Stop>,
+    row: &Row,
+    second: &[Row],
+    busy: &[Stop],
+) -> Result<(), AllocError>
+    requires row { IsWellFormed row.now.band }
+    requires second { AreComposed second.now busy.now }
+    ensures { OnOk result ((x : Point) → (y : Point) → ItemsHold items.new.items x y ↔ (ItemsHold items.old.items x y ⊎ GoesOn row.now second.now x y)) }
+{
+    let here = rows_from(second, row.target);
+    if here.len() <= FEW {
+        push_scanned(items, row, here)?;
+        return Ok(());
+    }
+    push_searched(items, found, row, busy)?;
+    Ok(())
+}
+
+// The ways as they are, or the zones of their rows where they are more than `most`.
+fn united_beyond(ways: Vec<Item>, most: usize) -> Result<Vec<Item>, AllocError>
+    ensures { IfOk result (λ zones. (x : Point) → (y : Point) → ItemsHold zones.items x y ↔ ItemsHold ways.items x y) }
+{
+    if ways.len() <= most {
+        return Ok(ways);
+    }
+    let alloc = *ways.allocator();
+    let relation = gathered_all(alloc, ways)?;
+    let mut zones = Vec::new(alloc);
+    push_zones(&mut zones, &relation.rows)?;
+    Ok(zones)
+}
+
+/// The ways that there are, and those that begin with one of the rows.
+pub(crate) fn with_ways(
+    ways: Vec<Item>,
+    found: &mut Vec<Stop>,
+    rows: &[Row],
+    second: &[Row],
+    busy: &[Stop],
+) -> Result<Vec<Item>, AllocError>
+    requires rows { (r : PlainRow) → Among rows.now r → IsWellFormed r.band }
+    requires second { AreComposed second.now busy.now }
+    ensures { IfOk result (λ all. (x : Point) → (y : Point) → ItemsHold all.items x y ↔ (ItemsHold ways.items x y ⊎ HasMiddlePoint rows.now second.now x y)) }
+{
+    let mut all = ways;
+    let mut most = MANY;
+    for row in rows {
+        most = most.max(all.len().saturating_mul(2));
+        push_ways(&mut all, found, row, second, busy)?;
+        all = united_beyond(all, most)?;
+    }
+    Ok(all)
+}
