@@ -12,14 +12,14 @@ use Rattle.itpg_base.specs.declared.rule_code.RuleCode.TheVariants.{NoGraph, Tak
 use Rattle.itpg_base.specs.declared.object_number.ObjNo.{ObjNo}
 use Rattle.itpg_graph.specs.Edges.{HasNumber, AreNumbers}
 use Rattle.itpg_graph.specs.Kinds.{IsNode}
-use Rattle.itpg_graph.specs.Families.{ExistsOutside, ValOutside, ValPut, FitCut, FitPut, FitClear, HasPlace}
+use Rattle.itpg_graph.specs.Families.{ValOutside, ValPut, FitCut, FitPut, FitClear, HasPlace}
 use Rattle.itpg_graph.specs.Changes.{FitFamily}
 use Rattle.itpg_edit.specs.declared.edit.Edit.{Edit}
 use Rattle.itpg_edit.specs.declared.edit.Edit.TheVariants as edits
 use Rattle.itpg_edit.specs.declared.change.Site.{Site}
 use Rattle.itpg_edit.specs.declared.change.Change.{Change}
 use Rattle.itpg_edit.specs.declared.change.Change.TheVariants.{Begin, AddNode, AddEdge, Live, Gone, Put, Clear, Remove}
-use Rattle.itpg_edit.specs.Facts.{span_of, IsUnknown, LacksEnd, IsAbsent, IsHeld, AreManySpans, AreManyRuns, HasNoPlace}
+use Rattle.itpg_edit.specs.Facts.{span_of, IsUnknown, LacksEnd, IsAbsent, IsHeld, AreManySpans, AreManyRuns, AreManyCut, HasNoPlace}
 use Rattle.itpg_edit.specs.Rules.{Breaks, NoneOf, FirstOf, Broken, Unbroken, NameBreaks, PlaceBreaks}
 use Rattle.itpg_edit.specs.Sites.{EndsExist, IsFree, IsThere}
 use Rattle.itpg_edit.specs.Changes.{IsNew, IsNamed, IsSite, IsAsked, IsPlaced, IsFound, Fits}
@@ -156,7 +156,7 @@ module _ (g : Graph) (id : Word) (site : Site) (is : IsSite g id site) where
       first_after (Breaks g (edits.Gone id s.from s.to)) front (Held ∷ Full ∷ []) Held none_placed
       (inl (record { node = o; named = is.object.named; edge = m.0; has = m.1; moment = m.2.0; within = m.2.1; exists = m.2.2 }, refl))
 
-  pub gone_full : IsFree g o s → AreManySpans (ExistsOutside g o s) ⊎ ((prop : Word) × AreManyRuns (ValOutside g o s prop)) → Broken g (edits.Gone id s.from s.to) Full
+  pub gone_full : IsFree g o s → AreManyCut g o s → Broken g (edits.Gone id s.from s.to) Full
   gone_full free many = first_after (Breaks g (edits.Gone id s.from s.to)) front (Held ∷ Full ∷ []) Full none_placed (inr (not_held free, inl ((o, is.object.named, many), refl)))
 
   gone_unbroken : IsFree g o s → FitCut g o s → Unbroken g (edits.Gone id s.from s.to)
@@ -164,7 +164,7 @@ module _ (g : Graph) (id : Word) (site : Site) (is : IsSite g id site) where
     where
       not_full : Breaks g (edits.Gone id s.from s.to) Full → ⊥
       not_full full =
-          let many = subst (λ k. AreManySpans (ExistsOutside g k s) ⊎ ((prop : Word) × AreManyRuns (ValOutside g k s prop))) (same full.0 full.1) full.2 in
+          let many = subst (λ k. AreManyCut g k s) (same full.0 full.1) full.2 in
           ⊎_elim (λ m. let n = fit (length m.spans) (inl (m.spans, m.are, refl)) in let more = m.many in omega arith)
           (λ m. let n = fit (length m.1.runs) (inr (m.0, m.1.runs, m.1.are, refl)) in let more = m.1.many in omega arith) many
 

@@ -8,11 +8,11 @@ use Rattle.interval_set.specs.Runs.{AreRuns, AreRunsOf, HasPut, HasCleared}
 use Rattle.interval_set.proofs.UniqueValues.{runs_of_unique}
 use Rattle.interval_set.proofs.Changed.{joined_exists, put_exists, clear_exists}
 use Rattle.itpg_graph.specs.Changes.{FitFamily}
-use Rattle.itpg_graph.specs.Families.{ExistsOutside, ValOutside, ValPut, HasCutFamily, FitPut, FitClear, HasProperty}
+use Rattle.itpg_graph.specs.Families.{ValOutside, ValPut, HasCutFamily, FitPut, FitClear, HasProperty}
 use Rattle.itpg_graph.proofs.Parts.{some_value}
 use Rattle.itpg_graph.proofs.Cutting.{no_runs}
 use Rattle.itpg_graph.proofs.Asked.{alike_put, alike_clear}
-use Rattle.itpg_edit.specs.Facts.{AreManySpans, AreManyRuns}
+use Rattle.itpg_edit.specs.Facts.{AreManySpans, AreManyRuns, AreManyCut}
 use Rattle.itpg_edit.proofs.Moments.{alike_joined, joined_alike}
 
 -- existence after a join
@@ -27,7 +27,7 @@ module _ (g : Graph) (o : ℕ) (live : List Span) (s : Span) (is : ObjectIs g o 
   joins_few few = λ spans runs. let c = counted spans (joined_alike g o live is s spans runs) in omega arith
 
 -- a wide family after a cut
-pub cuts_many : (g : Graph) (o : ℕ) (s : Span) (n : ℕ) → HasCutFamily g o s n → MAX_SPANS < n → AreManySpans (ExistsOutside g o s) ⊎ ((prop : Word) × AreManyRuns (ValOutside g o s prop))
+pub cuts_many : (g : Graph) (o : ℕ) (s : Span) (n : ℕ) → HasCutFamily g o s n → MAX_SPANS < n → AreManyCut g o s
 cuts_many g o s n family many = elim family [
   | inl live ↦ inl (record { spans = live.0; are = live.1; many = (let e = live.2 in omega arith) })
   | inr prop ↦ inr (prop.0, record { runs = prop.1; are = prop.2; many = (let e = prop.3 in omega arith) })

@@ -7,8 +7,8 @@ use Rattle.itpg_base.specs.declared.rule_code.RuleCode.TheVariants.{NoGraph, Aga
 use Rattle.itpg_base.specs.declared.limits.TheConstants.{MAX_OBJECTS}
 use Rattle.itpg_edit.specs.declared.edit.Edit.{Edit}
 use Rattle.itpg_edit.specs.declared.edit.Edit.TheVariants.{Begin, AddNode, AddEdge, Live, Gone, Put, Clear, Remove}
-use Rattle.itpg_edit.specs.Facts.{span_of, IsTaken, IsUnknown, IsEdge, LeavesHorizon, LacksEnd, IsAbsent, IsHeld, IsIncident, AreManySpans, AreManyRuns, HasNoPlace}
-use Rattle.itpg_graph.specs.Families.{ExistsOutside, ValOutside, ValPut}
+use Rattle.itpg_edit.specs.Facts.{span_of, IsTaken, IsUnknown, IsEdge, LeavesHorizon, LacksEnd, IsAbsent, IsHeld, IsIncident, AreManySpans, AreManyRuns, AreManyCut, HasNoPlace}
+use Rattle.itpg_graph.specs.Families.{ValOutside, ValPut}
 
 -- the rules of an edit, in order
 abbrev pub rules_of : Edit → List RuleCode
@@ -26,7 +26,7 @@ abbrev pub IsFull : Graph → Edit → Type 0
 IsFull g (AddNode id labels) = MAX_OBJECTS ≤ length g.objects
 IsFull g (AddEdge id labels source target) = MAX_OBJECTS ≤ length g.objects
 IsFull g (Live id from to) = (o : ℕ) × Named g o id × AreManySpans (λ t. Exists g o t ⊎ Within t (span_of from to))
-IsFull g (Gone id from to) = (o : ℕ) × Named g o id × (AreManySpans (ExistsOutside g o (span_of from to)) ⊎ ((prop : List ℕ) × AreManyRuns (ValOutside g o (span_of from to) prop)))
+IsFull g (Gone id from to) = (o : ℕ) × Named g o id × AreManyCut g o (span_of from to)
 IsFull g (Put id prop value from to) = (o : ℕ) × Named g o id × (AreManyRuns (ValPut g o (span_of from to) value prop) ⊎ HasNoPlace g o prop)
 IsFull g (Clear id prop from to) = (o : ℕ) × Named g o id × AreManyRuns (ValOutside g o (span_of from to) prop)
 IsFull g edit = ⊥

@@ -8,7 +8,7 @@ ghost use Rattle.itpg_graph.specs.Kinds.{IsNode};
 ghost use Rattle.itpg_graph.specs.Changes.{FitFamily};
 ghost use Rattle.itpg_graph.specs.Families.{ExistsOutside, ValOutside, ValPut, FitCut, FitPut, FitClear, HasPlace};
 ghost use Rattle.itpg_edit.specs.Sites.{AllStand, EndsExist, IsFree, IsThere};
-ghost use Rattle.itpg_edit.specs.Facts.{AreManySpans, AreManyRuns, HasNoPlace};
+ghost use Rattle.itpg_edit.specs.Facts.{AreManySpans, AreManyRuns, AreManyCut, HasNoPlace};
 
 use crate::change::Site;
 use interval_set::Span;
@@ -102,7 +102,7 @@ pub(crate) fn joins_too_many(graph: &Graph, site: &Site) -> bool
 pub(crate) fn cuts_too_many(graph: &Graph, site: &Site) -> bool
     requires { Stands graph.now site.now.object.0 }
     ensures few { result ≡ false → FitCut graph.now site.now.object.0 site.now.span }
-    ensures many { result ≡ true → AreManySpans (ExistsOutside graph.now site.now.object.0 site.now.span) ⊎ ((prop : List ℕ) × AreManyRuns (ValOutside graph.now site.now.object.0 site.now.span prop)) }
+    ensures many { result ≡ true → AreManyCut graph.now site.now.object.0 site.now.span }
 {
     graph.widest_cut(site.object, site.span) > MAX_SPANS
 }
