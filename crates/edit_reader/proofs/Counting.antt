@@ -3,6 +3,7 @@ use Rattle.std.proofs.Common.{◌≡◌, ℕ, ◌+◌, ◌<◌, ◌≤◌, List,
 use Rattle.std.specs.Prelude.{nat_lt}
 use Rattle.std.proofs.lemmas.Bool.{lt-ltb, le-ltb}
 use Rattle.itpg_base.specs.declared.text_code.TextCode.{TextCode}
+use Rattle.script_lex.specs.declared.token.TheConstants.{MAX_TOKENS}
 use Rattle.script_lex.specs.Lines.{Placed, IsNext, LeadTo, AreTokens}
 use Rattle.script_lex.proofs.OneList.{lead_more, tokens_unique}
 use Rattle.edit_reader.specs.declared.faults.Scan.{Scan}
@@ -34,13 +35,13 @@ same_faults line scan s tokens end are go_on =
     ap₂ (λ (e : Option TextCode) (n : ℕ). tokens_told e n go_on) same.1 (ap length same.0 ∙ sym s.count)
 
 -- too many tokens, that end at no bad byte
-pub many_told : (end : Option TextCode) (count : ℕ) (go_on : Told) → is_byte end ≡ false → 4096 < count → tokens_told end count go_on ≡ Err TextCode.Tokens
-many_told end count go_on fine many = let test : nat_lt 4096 count ≡ true = lt-ltb 4096 count many in rw (fine, test) refl
+pub many_told : (end : Option TextCode) (count : ℕ) (go_on : Told) → is_byte end ≡ false → MAX_TOKENS < count → tokens_told end count go_on ≡ Err TextCode.Tokens
+many_told end count go_on fine many = let test : nat_lt MAX_TOKENS count ≡ true = lt-ltb MAX_TOKENS count many in rw (fine, test) refl
 
 -- few tokens, that end at no bad byte
-pub few_told : (end : Option TextCode) (count : ℕ) (go_on : Told) → is_byte end ≡ false → count ≤ 4096 → tokens_told end count go_on ≡ end_told end go_on
-few_told end count go_on fine few = let test : nat_lt 4096 count ≡ false = le-ltb 4096 count few in rw (fine, test) refl
+pub few_told : (end : Option TextCode) (count : ℕ) (go_on : Told) → is_byte end ≡ false → count ≤ MAX_TOKENS → tokens_told end count go_on ≡ end_told end go_on
+few_told end count go_on fine few = let test : nat_lt MAX_TOKENS count ≡ false = le-ltb MAX_TOKENS count few in rw (fine, test) refl
 
 -- few tokens that end with the line
-pub good_told : (end : Option TextCode) (count : ℕ) (go_on : Told) → end ≡ None → count ≤ 4096 → tokens_told end count go_on ≡ go_on
+pub good_told : (end : Option TextCode) (count : ℕ) (go_on : Told) → end ≡ None → count ≤ MAX_TOKENS → tokens_told end count go_on ≡ go_on
 good_told end count go_on ended few = few_told end count go_on (ap is_byte ended) few ∙ ap (λ (e : Option TextCode). end_told e go_on) ended

@@ -4,27 +4,29 @@ use Rattle.std.specs.Prelude.{nat_eq}
 use Rattle.std.specs.List.{list_all}
 use Rattle.std.proofs.lemmas.Bool.{cases_lt}
 use Rattle.itpg_base.specs.declared.text_code.TextCode.{TextCode}
+use Rattle.edit_reader.specs.declared.reading.TheConstants.{MAX_LINE}
+use Rattle.script_lex.specs.declared.token.TheConstants.{MAX_TOKENS}
 use Rattle.script_lex.specs.Bytes.{is_plain}
 use Rattle.script_lex.specs.Table.{fault_of}
 use Rattle.script_lex.specs.Lines.{Placed, behind_blanks, AreTokens}
 use Rattle.script_lex.proofs.OneList.{tokens_unique, tokens_exist}
 use Rattle.edit_reader.specs.Readings.{Reading, Nothing}
 use Rattle.edit_reader.specs.Forms.{form_of, parts_of}
-use Rattle.edit_reader.specs.Faults.{max_line, max_tokens, is_silent, OfTokens, HasFault, HasFarNumber, HasLongName}
+use Rattle.edit_reader.specs.Faults.{is_silent, OfTokens, HasFault, HasFarNumber, HasLongName}
 use Rattle.edit_reader.specs.Lines.{ReadsAs, TakenAs}
 use Rattle.edit_reader.specs.Telling.{near, short, form_told, is_byte, end_told, tokens_told, line_told}
 use Rattle.edit_reader.proofs.Counting.{many_told, few_told}
 use Rattle.edit_reader.proofs.Ordered.{NoneBelow, none_below_one, none_further, none_at_all, first_unique}
 use Rattle.edit_reader.proofs.PartFaults.{near_or_far, short_or_long}
 
-pub long_line : (body : List ℕ) → max_line < length body → TakenAs body (Err TextCode.Long)
+pub long_line : (body : List ℕ) → MAX_LINE < length body → TakenAs body (Err TextCode.Long)
 long_line body long = record { there = long; first = none_below_one (HasFault body) }
 
 -- a line that is blank or a comment has no fault but to be too long
 no_tokens : (body : List ℕ) → is_silent body ≡ true → (P : List Placed → Option TextCode → Type 0) → ¬ OfTokens body P
 no_tokens body silent P of = true≢false (sym silent ∙ of.0)
 
-pub silent_line : (body : List ℕ) → length body ≤ max_line → is_silent body ≡ true → TakenAs body (Ok Nothing)
+pub silent_line : (body : List ℕ) → length body ≤ MAX_LINE → is_silent body ≡ true → TakenAs body (Ok Nothing)
 silent_line body few silent = (none, inl (silent, refl))
   where
     none : (code : TextCode) → ¬ HasFault body code
@@ -56,7 +58,7 @@ byte_end : (end : Option TextCode) → is_byte end ≡ true → end ≡ Some Tex
 byte_end (Some TextCode.Byte) e = refl
 byte_end _ e = absurd (let none : ⊥ = cc in none)
 
-module _ (body : List ℕ) (few : length body ≤ max_line) (loud : is_silent body ≡ false) (tokens : List Placed) (end : Option TextCode) (are : AreTokens body 0 tokens end) where
+module _ (body : List ℕ) (few : length body ≤ MAX_LINE) (loud : is_silent body ≡ false) (tokens : List Placed) (end : Option TextCode) (are : AreTokens body 0 tokens end) where
   -- what holds of some tokens of the line holds of these
   of_these : (P : List Placed → Option TextCode → Type 0) → OfTokens body P → P tokens end
   of_these P (_, (others, (other, (these, holds)))) =
@@ -77,13 +79,13 @@ module _ (body : List ℕ) (few : length body ≤ max_line) (loud : is_silent bo
     none_to_tokens : NoneBelow (HasFault body) 3
     none_to_tokens = none_further (HasFault body) TextCode.Byte none_to_byte (λ h. let e : end ≡ Some TextCode.Byte = of_these (λ ts x. x ≡ Some TextCode.Byte) h in absurd (true≢false (sym (ap is_byte e) ∙ fine)))
 
-    many_line : max_tokens < length tokens → TakenAs body (Err TextCode.Tokens)
-    many_line many = record { there = told_of (λ ts x. max_tokens < length ts) many; first = none_to_tokens }
+    many_line : MAX_TOKENS < length tokens → TakenAs body (Err TextCode.Tokens)
+    many_line many = record { there = told_of (λ ts x. MAX_TOKENS < length ts) many; first = none_to_tokens }
 
-    module _ (some : length tokens ≤ max_tokens) where
+    module _ (some : length tokens ≤ MAX_TOKENS) where
       none_to_text : NoneBelow (HasFault body) 5
       none_to_text =
-          none_further (HasFault body) TextCode.Deep (none_further (HasFault body) TextCode.Tokens none_to_tokens (λ h. let many : max_tokens < length tokens = of_these (λ ts x. max_tokens < length ts) h in absurd (omega arith))) (λ h. h)
+          none_further (HasFault body) TextCode.Deep (none_further (HasFault body) TextCode.Tokens none_to_tokens (λ h. let many : MAX_TOKENS < length tokens = of_these (λ ts x. MAX_TOKENS < length ts) h in absurd (omega arith))) (λ h. h)
 
       open_line : end ≡ Some TextCode.Text → TakenAs body (Err TextCode.Text)
       open_line e = record { there = told_of (λ ts x. (x ≡ Some TextCode.Text) ⊎ (form_of body ts ≡ None)) (inl e); first = none_to_text }
@@ -142,7 +144,7 @@ module _ (body : List ℕ) (few : length body ≤ max_line) (loud : is_silent bo
     where
       by_byte : (t : Bool) → is_byte end ≡ t → TakenAs body (tokens_told end (length tokens) (form_told (form_of body tokens) (parts_of tokens)))
       by_byte true e = let byte : tokens_told end (length tokens) (form_told (form_of body tokens) (parts_of tokens)) ≡ Err TextCode.Byte = rw e refl in subst (TakenAs body) (sym byte) (byte_line (byte_end end e))
-      by_byte false e = elim (cases_lt max_tokens (length tokens)) [
+      by_byte false e = elim (cases_lt MAX_TOKENS (length tokens)) [
         | inl many ↦ subst (TakenAs body) (sym (many_told end (length tokens) (form_told (form_of body tokens) (parts_of tokens)) e many)) (many_line e many)
         | inr few ↦ subst (TakenAs body) (sym (few_told end (length tokens) (form_told (form_of body tokens) (parts_of tokens)) e few)) (ended_line e few end refl)
       ]
@@ -164,11 +166,11 @@ taken_once body (Err c) (Err d) x y = ap Err (first_unique (HasFault body) c d x
 
 -- and it is something
 pub taken_somehow : (body : List ℕ) → (r : Result Reading TextCode) × TakenAs body r
-taken_somehow body = elim (cases_lt max_line (length body)) [
+taken_somehow body = elim (cases_lt MAX_LINE (length body)) [
   | inl long ↦ (Err TextCode.Long, long_line body long)
   | inr few ↦ by_silence few (is_silent body) refl
 ]
   where
-    by_silence : length body ≤ max_line → (t : Bool) → is_silent body ≡ t → (r : Result Reading TextCode) × TakenAs body r
+    by_silence : length body ≤ MAX_LINE → (t : Bool) → is_silent body ≡ t → (r : Result Reading TextCode) × TakenAs body r
     by_silence few true e = (Ok Nothing, silent_line body few e)
     by_silence few false e = let t = tokens_exist body 0 in (line_told body t.0 t.1.0, told_line body few e t.0 t.1.0 t.1.1)

@@ -4,8 +4,9 @@ use Rattle.std.specs.Prelude.{◌↔◌, nat_eq, slice_index, if◌then◌else�
 use Rattle.std.proofs.lemmas.Bool.{cases_lt}
 use Rattle.std.proofs.lemmas.List.{length-take-le, take_all}
 use Rattle.itpg_base.specs.declared.text_code.TextCode.{TextCode}
+use Rattle.edit_reader.specs.declared.reading.TheConstants.{MAX_LINE}
 use Rattle.edit_reader.specs.Readings.{Reading}
-use Rattle.edit_reader.specs.Faults.{max_line, without_end}
+use Rattle.edit_reader.specs.Faults.{without_end}
 use Rattle.edit_reader.specs.Lines.{LineOf}
 use Rattle.edit_reader.proofs.Firsts.{long_line, taken_once}
 
@@ -18,7 +19,7 @@ shorter_by_one line = by_end (nat_eq (slice_index line (length line - 1)) 13)
     by_end false = omega arith
 
 -- a line of more than one byte above the limit is too long, whatever its end
-too_long : (line : List ℕ) → max_line + 1 < length line → LineOf line (Err TextCode.Long)
+too_long : (line : List ℕ) → MAX_LINE + 1 < length line → LineOf line (Err TextCode.Long)
 too_long line many = let short = shorter_by_one line in long_line (without_end line) (omega (arith, short))
 
 pub front_decides : (line : List ℕ) (n : ℕ) (result : Result Reading TextCode) → 65538 ≤ n → LineOf (take n line) result ↔ LineOf line result

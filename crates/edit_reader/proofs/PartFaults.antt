@@ -6,18 +6,20 @@ use Rattle.std.proofs.lemmas.Bool.{leb-true, leb-false}
 use Rattle.std.proofs.lemmas.Int.{ints}
 use Rattle.itpg_base.specs.Spans.{IsMoment}
 use Rattle.itpg_base.specs.declared.text_code.TextCode.{TextCode}
+use Rattle.itpg_base.specs.declared.name.TheConstants.{MAX_NAME}
+use Rattle.script_lex.specs.declared.numbers.TheConstants.{MAX_NUMBER}
 use Rattle.script_lex.specs.Lexemes.{Lexeme, AWord, ANumber, AQuote, AMark}
 use Rattle.script_lex.specs.Numbers.{digits_of, number_value}
 use Rattle.edit_reader.specs.Faults.{HasFarNumber, HasLongName}
 use Rattle.edit_reader.specs.Steps.{Told, is_near}
 use Rattle.edit_reader.specs.Telling.{near, short}
 
--- a number is a moment where its digits write no more than 10^12, and only there
-small_moment : (below_zero : Bool) (n : ℕ) → n ≤ 1000000000000 → IsMoment (if below_zero then neg_ℤ (pos n) else pos n)
+-- a number is a moment where its digits write no more than the greatest number, and only there
+small_moment : (below_zero : Bool) (n : ℕ) → n ≤ MAX_NUMBER → IsMoment (if below_zero then neg_ℤ (pos n) else pos n)
 small_moment true n small = record { least = omega (arith, ints); greatest = omega (arith, ints) }
 small_moment false n small = record { least = omega (arith, ints); greatest = omega (arith, ints) }
 
-great_moment : (below_zero : Bool) (n : ℕ) → 1000000000000 < n → ¬ IsMoment (if below_zero then neg_ℤ (pos n) else pos n)
+great_moment : (below_zero : Bool) (n : ℕ) → MAX_NUMBER < n → ¬ IsMoment (if below_zero then neg_ℤ (pos n) else pos n)
 great_moment true n great m = absurd (omega (arith, ints, m.least))
 great_moment false n great m = absurd (omega (arith, ints, m.greatest))
 
@@ -48,15 +50,15 @@ pub short_or_long : (parts : List Lexeme) (go_on : Told) → Lengths parts go_on
 short_or_long [] go_on = inr (λ none. none, refl)
 short_or_long (AMark mark ∷ rest) go_on = short_or_long rest go_on
 short_or_long (ANumber number ∷ rest) go_on = short_or_long rest go_on
-short_or_long (AWord word ∷ rest) go_on = by_test (nat_le (length word) 64) refl (short_or_long rest go_on)
+short_or_long (AWord word ∷ rest) go_on = by_test (nat_le (length word) MAX_NAME) refl (short_or_long rest go_on)
   where
-    by_test : (t : Bool) → nat_le (length word) 64 ≡ t → Lengths rest go_on → Lengths (AWord word ∷ rest) go_on
+    by_test : (t : Bool) → nat_le (length word) MAX_NAME ≡ t → Lengths rest go_on → Lengths (AWord word ∷ rest) go_on
     by_test true e (inl long) = inl (inr long.0, rw e long.1)
     by_test true e (inr none) = let fits = leb-true _ _ e in inr (λ long. elim long [ inl this ↦ absurd (omega arith) | inr other ↦ none.0 other ], rw e none.1)
     by_test false e rest = inl (inl (leb-false _ _ e), rw e refl)
-short_or_long (AQuote text ∷ rest) go_on = by_test (nat_le (length text) 64) refl (short_or_long rest go_on)
+short_or_long (AQuote text ∷ rest) go_on = by_test (nat_le (length text) MAX_NAME) refl (short_or_long rest go_on)
   where
-    by_test : (t : Bool) → nat_le (length text) 64 ≡ t → Lengths rest go_on → Lengths (AQuote text ∷ rest) go_on
+    by_test : (t : Bool) → nat_le (length text) MAX_NAME ≡ t → Lengths rest go_on → Lengths (AQuote text ∷ rest) go_on
     by_test true e (inl long) = inl (inr long.0, rw e long.1)
     by_test true e (inr none) = let fits = leb-true _ _ e in inr (λ long. elim long [ inl this ↦ absurd (omega arith) | inr other ↦ none.0 other ], rw e none.1)
     by_test false e rest = inl (inl (leb-false _ _ e), rw e refl)

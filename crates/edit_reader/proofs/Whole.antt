@@ -2,12 +2,14 @@
 use Rattle.std.proofs.Common.{◌≡◌, ℕ, ◌≤◌, List, [], ◌∷◌, false, Option, None, Ok, Err, length, refl, sym, ap, ◌∙◌, subst}
 use Rattle.itpg_base.specs.Words.{Word}
 use Rattle.itpg_base.specs.declared.text_code.TextCode.{TextCode}
+use Rattle.edit_reader.specs.declared.reading.TheConstants.{MAX_LINE}
+use Rattle.script_lex.specs.declared.token.TheConstants.{MAX_TOKENS}
 use Rattle.script_lex.specs.Lexemes.{Lexeme, AWord, ANumber, AQuote, AMark}
 use Rattle.script_lex.specs.Lines.{Placed, AreTokens}
 use Rattle.script_lex.proofs.OneList.{tokens_exist}
 use Rattle.edit_reader.specs.Readings.{Nothing}
 use Rattle.edit_reader.specs.Forms.{form_of, parts_of, lexemes}
-use Rattle.edit_reader.specs.Faults.{max_line, max_tokens, is_silent}
+use Rattle.edit_reader.specs.Faults.{is_silent}
 use Rattle.edit_reader.specs.Lines.{TakenAs}
 use Rattle.edit_reader.specs.Scans.{IsScanFault}
 use Rattle.edit_reader.specs.Steps.{Told, word_then}
@@ -15,14 +17,14 @@ use Rattle.edit_reader.specs.Telling.{form_told}
 use Rattle.edit_reader.proofs.Firsts.{told_line}
 use Rattle.edit_reader.proofs.Counting.{good_told}
 
-module _ (body : List ℕ) (few : length body ≤ max_line) (loud : is_silent body ≡ false) where
+module _ (body : List ℕ) (few : length body ≤ MAX_LINE) (loud : is_silent body ≡ false) where
   pub fault_read : (code : TextCode) → ((tokens : List Placed) (end : Option TextCode) → AreTokens body 0 tokens end → IsScanFault tokens end code) → TakenAs body (Err code)
   fault_read code fault =
       let t = tokens_exist body 0 in
       let line = told_line body few loud t.0 t.1.0 t.1.1 in
       subst (TakenAs body) (fault t.0 t.1.0 t.1.1 (form_told (form_of body t.0) (parts_of t.0))) line
 
-  pub form_read : (r : Told) → ((tokens : List Placed) (end : Option TextCode) → AreTokens body 0 tokens end → (end ≡ None) × (length tokens ≤ max_tokens)) → ((tokens : List Placed) → AreTokens body 0 tokens None → r ≡ form_told (form_of body tokens) (parts_of tokens)) → TakenAs body r
+  pub form_read : (r : Told) → ((tokens : List Placed) (end : Option TextCode) → AreTokens body 0 tokens end → (end ≡ None) × (length tokens ≤ MAX_TOKENS)) → ((tokens : List Placed) → AreTokens body 0 tokens None → r ≡ form_told (form_of body tokens) (parts_of tokens)) → TakenAs body r
   form_read r good form =
       let t = tokens_exist body 0 in
       let g = good t.0 t.1.0 t.1.1 in

@@ -3,23 +3,14 @@ use Rattle.std.specs.Prelude.{◌≡◌, ◌⊎◌, ℕ, ◌<◌, ◌-◌, Bool,
 use Rattle.std.specs.List.{list_all, prefix_len}
 use Rattle.itpg_base.specs.Spans.{IsMoment}
 use Rattle.itpg_base.specs.declared.text_code.TextCode.{TextCode}
+use Rattle.itpg_base.specs.declared.name.TheConstants.{MAX_NAME}
+use Rattle.edit_reader.specs.declared.reading.TheConstants.{MAX_LINE}
+use Rattle.script_lex.specs.declared.token.TheConstants.{MAX_TOKENS}
 use Rattle.script_lex.specs.Bytes.{is_blank, begins_with}
 use Rattle.script_lex.specs.Lexemes.{Lexeme, AWord, ANumber, AQuote, AMark}
 use Rattle.script_lex.specs.Lines.{Placed, AreTokens}
 use Rattle.script_lex.specs.Numbers.{number_value}
 use Rattle.edit_reader.specs.Forms.{form_of, parts_of}
-
--- how many bytes a line has at most, without one last CR
-abbrev pub max_line : ℕ
-max_line = 65536
-
--- how many tokens a line has at most
-abbrev pub max_tokens : ℕ
-max_tokens = 4096
-
--- how many bytes a name or a value has at most
-abbrev pub max_name : ℕ
-max_name = 64
 
 -- the line without its last byte where that is a CR
 abbrev pub without_end : List ℕ → List ℕ
@@ -44,19 +35,19 @@ HasFarNumber (AMark mark ∷ rest) = HasFarNumber rest
 -- some word or quoted text of these tokens is longer than a name may be
 abbrev pub HasLongName : List Lexeme → Type 0
 HasLongName [] = ⊥
-HasLongName (AWord word ∷ rest) = (max_name < length word) ⊎ HasLongName rest
-HasLongName (AQuote text ∷ rest) = (max_name < length text) ⊎ HasLongName rest
+HasLongName (AWord word ∷ rest) = (MAX_NAME < length word) ⊎ HasLongName rest
+HasLongName (AQuote text ∷ rest) = (MAX_NAME < length text) ⊎ HasLongName rest
 HasLongName (ANumber number ∷ rest) = HasLongName rest
 HasLongName (AMark mark ∷ rest) = HasLongName rest
 
 -- the line, which is taken without its end, has this fault
 abbrev pub HasFault : List ℕ → TextCode → Type 0
 -- it has too many bytes
-HasFault line TextCode.Long = max_line < length line
+HasFault line TextCode.Long = MAX_LINE < length line
 -- it is neither blank nor a comment, as for all that follow, and its tokens end at a bad byte
 HasFault line TextCode.Byte = OfTokens line (λ tokens end. end ≡ Some TextCode.Byte)
 -- there are too many tokens
-HasFault line TextCode.Tokens = OfTokens line (λ tokens end. max_tokens < length tokens)
+HasFault line TextCode.Tokens = OfTokens line (λ tokens end. MAX_TOKENS < length tokens)
 -- a quoted text isn't closed, or the tokens are no form
 HasFault line TextCode.Text = OfTokens line (λ tokens end. (end ≡ Some TextCode.Text) ⊎ (form_of line tokens ≡ None))
 -- a number of the form is no moment

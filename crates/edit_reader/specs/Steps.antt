@@ -3,10 +3,11 @@ use Rattle.std.specs.Prelude.{ℤ, ℕ, nat_le, Bool, List, [], ◌∷◌, lengt
 use Rattle.std.specs.Str.Parse.{digits_value}
 use Rattle.itpg_base.specs.Words.{Word}
 use Rattle.itpg_base.specs.declared.text_code.TextCode.{TextCode}
+use Rattle.itpg_base.specs.declared.name.TheConstants.{MAX_NAME}
+use Rattle.script_lex.specs.declared.numbers.TheConstants.{MAX_NUMBER}
 use Rattle.itpg_edit.specs.declared.edit.Edit.{Edit}
 use Rattle.script_lex.specs.Lexemes.{Lexeme, AWord, ANumber, AQuote}
 use Rattle.script_lex.specs.Numbers.{digits_of, number_value}
-use Rattle.edit_reader.specs.Faults.{max_name}
 use Rattle.edit_reader.specs.Readings.{Reading, Changes, Watches, Shows, Unwatches, Ticks}
 
 -- what a line asks for, or its fault
@@ -33,9 +34,9 @@ abbrev pub end_then : List Lexeme → Told → Told
 end_then [] go_on = go_on
 end_then _ go_on = Err TextCode.Text
 
--- the digits write no number above 10^12
+-- the digits write no number above the greatest
 abbrev pub is_near : List ℕ → Bool
-is_near number = nat_le (digits_value 10 (digits_of number)) 1000000000000
+is_near number = nat_le (digits_value 10 (digits_of number)) MAX_NUMBER
 
 -- with the moment that a number writes
 abbrev pub moment_then : List ℕ → (ℤ → Told) → Told
@@ -43,7 +44,7 @@ moment_then number go_on = if is_near number then go_on (number_value number) el
 
 -- with a text that is short enough for a name
 abbrev pub name_then : Word → (Word → Told) → Told
-name_then text go_on = if nat_le (length text) max_name then go_on text else Err TextCode.Name
+name_then text go_on = if nat_le (length text) MAX_NAME then go_on text else Err TextCode.Name
 
 -- two numbers, and nothing behind them
 abbrev pub span_then : List Lexeme → (ℤ → ℤ → Told) → Told

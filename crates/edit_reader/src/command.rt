@@ -1,4 +1,4 @@
-// The command words.
+//! The command words.
 ghost use Rattle.std.specs.Prelude.{◌≡◌};
 ghost use Rattle.edit_reader.specs.Commands.{command_word, command_of};
 

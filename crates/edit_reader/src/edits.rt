@@ -1,4 +1,4 @@
-// The lines that change the graph: what stands behind their command words.
+//! The lines that change the graph: what stands behind their command words.
 ghost use Rattle.edit_reader.specs.Steps.{begin_told, node_told, edge_told, live_told, gone_told, put_told, clear_told, remove_told};
 ghost use Rattle.edit_reader.specs.Answers.{Tells};
 

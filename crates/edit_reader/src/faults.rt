@@ -1,17 +1,13 @@
-// What is looked at before the form of a line: its end, blank lines and comments, and the faults of its tokens.
+//! What is looked at before the form of a line: its end, blank lines and comments, and the faults of its tokens.
 ghost use Rattle.std.specs.Prelude.{◌≡◌, ◌<◌, ◌≤◌, List, length, None, Option, MatchResult};
 ghost use Rattle.itpg_base.specs.declared.text_code.TextCode.{TextCode};
 ghost use Rattle.script_lex.specs.Lines.{Placed, AreTokens};
-ghost use Rattle.edit_reader.specs.Faults.{max_tokens};
 ghost use Rattle.edit_reader.specs.Faults as faults;
 ghost use Rattle.edit_reader.specs.Telling as telling;
 ghost use Rattle.edit_reader.specs.Scans.{IsScan, IsScanFault};
 
 use itpg_base::TextCode;
-use script_lex::next_token;
-
-// How many tokens a line has at most.
-const MAX_TOKENS: usize = 4_096;
+use script_lex::{MAX_TOKENS, next_token};
 
 // The line without its last byte where that is a CR.
 pub(crate) fn without_end(line: &[u8]) -> &[u8]
@@ -46,7 +42,7 @@ struct Scan {
 // The first fault of the tokens as they are: a bad byte, too many tokens, or a quoted text that isn't closed.
 pub(crate) fn check_tokens(line: &[u8]) -> Result<(), TextCode>
     ensures { (tokens : List Placed) (end : Option TextCode) → AreTokens line.now 0 tokens end →
-        MatchResult result (λ _. (end ≡ None) × (length tokens ≤ max_tokens)) (IsScanFault tokens end) }
+        MatchResult result (λ _. (end ≡ None) × (length tokens ≤ MAX_TOKENS)) (IsScanFault tokens end) }
 {
     let scan = scan_line(line);
     if is_byte(scan.end) {

@@ -1,4 +1,4 @@
-// What a line asks for.
+//! What a line asks for.
 use itpg_base::Name;
 use itpg_edit::Edit;
 

@@ -1,4 +1,4 @@
-// The tokens of a line, taken one by one.
+//! The tokens of a line, taken one by one.
 ghost use Rattle.std.specs.Prelude.{◌≡◌, ◌≤◌, List, length, drop, None, IfOk, IfSome, MatchOption, MatchResult, Err, [], ℕ, ℤ};
 ghost use Rattle.itpg_base.specs.Words.{Word};
 ghost use Rattle.script_lex.specs.Lexemes.{Lexeme, lexeme, AWord, ANumber, AQuote};

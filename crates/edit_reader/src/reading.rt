@@ -1,4 +1,4 @@
-// Reading a line.
+//! Reading a line.
 ghost use Rattle.std.specs.Prelude.{◌≡◌, ℕ, List, None, Result, IfOk, drop, slice_get};
 ghost use Rattle.itpg_base.specs.declared.text_code.TextCode.{TextCode};
 ghost use Rattle.edit_reader.specs.Readings.{Reading, reading_of, told};
@@ -17,8 +17,8 @@ use crate::line::Line;
 use crate::parts::{Parts, name};
 use itpg_base::TextCode;
 
-// How many bytes a line has at most, without one last CR.
-const MAX_LINE: usize = 65_536;
+/// How many bytes a line may have, without one last CR.
+pub const MAX_LINE: usize = 65_536;
 
 /// What a script line asks for. The line is handed in without its LF; where it ends with a CR, this call drops that one
 /// byte.
@@ -35,12 +35,12 @@ const MAX_LINE: usize = 65_536;
 ///
 /// The first of these that the line has, in this order:
 ///
-/// - `Long`: more than 65,536 bytes, without the CR.
+/// - `Long`: more than `MAX_LINE` bytes, without the CR.
 /// - `Byte`: a byte with which no token begins, or that may not stand in a quoted text, wherever it stands.
-/// - `Tokens`: more than 4,096 tokens.
+/// - `Tokens`: more than `MAX_TOKENS` tokens.
 /// - `Text`: a quoted text that isn't closed, or tokens that are none of the forms.
-/// - `Number`: a number of the form outside -10^12 to 10^12.
-/// - `Name`: a word or a quoted text of the form longer than 64 bytes.
+/// - `Number`: a number of the form further from zero than `MAX_NUMBER`.
+/// - `Name`: a word or a quoted text of the form longer than `MAX_NAME` bytes.
 ///
 /// A blank line or a comment has no fault but `Long`, and the bytes of a query text are looked at only as tokens: its
 /// numbers and words may have any size.

@@ -6,3 +6,4 @@ pub mod Labels
 pub mod Padding
 pub mod Pieces
 pub mod ShortWalks
+pub mod TextOrder

@@ -1,17 +1,18 @@
 -- Whether an edit breaks a rule is decided on a good graph.
 use Rattle.std.proofs.Common.{◌≡◌, ℕ, ◌<◌, ◌≤◌, ℤ, List, [], ◌∷◌, ◌⊎◌, inl, inr, ⊎_elim, length, Option, Some, None, refl, sym, ap, subst, arith}
-use Rattle.std.specs.Prelude.{IsSome, IsNone, IsSomeAnd, IsTrue, slice_get}
+use Rattle.std.specs.Prelude.{IsSome, IsNone, IsTrue, slice_get}
 use Rattle.std.proofs.lemmas.Int.{ints}
 use Rattle.std.proofs.lemmas.Bool.{cases_lt}
-use Rattle.std.proofs.lemmas.Option.{slice_get_within}
 use Rattle.itpg_base.specs.Words.{Word, IsBefore, IsRising}
 use Rattle.itpg_base.specs.Spans.{Span, Within, Covers}
 use Rattle.itpg_base.specs.Decided.{Decided}
 use Rattle.itpg_base.specs.Graphs.{Graph, Object, Property, Valued, Good, Named, Exists, Val, HasEnd, InHorizon, ObjectIs, AreFamilies, PropertiesHave, property_names}
+use Rattle.itpg_base.specs.declared.limits.TheConstants.{MAX_SPANS, MAX_PROPERTIES, MAX_OBJECTS}
 use Rattle.itpg_base.specs.declared.rule_code.RuleCode.{RuleCode}
 use Rattle.itpg_base.specs.declared.rule_code.RuleCode.TheVariants.{NoGraph, Again, Taken, Unknown, Kind, Backwards, Horizon, Ends as EndsRule, Absent, Held, Incident, Full, GraphName}
 use Rattle.itpg_base.proofs.Searches.{both, either, fails, as_well, at_most, before, is_true, if_some, same_word, same_number, some_below}
 use Rattle.itpg_base.proofs.Objects.{there, here}
+use Rattle.itpg_base.proofs.PointSearch.{there_below}
 use Rattle.interval_set.specs.Runs.{AreRuns, AreRunsOf}
 use Rattle.interval_set.proofs.Unique.{runs_unique, runs_alike}
 use Rattle.interval_set.proofs.UniqueValues.{runs_of_unique}
@@ -40,9 +41,6 @@ decide_none None = inl refl
 decide_none (Some x) = inr (λ e. let none : ⊥ = cc in none)
 
 -- what is so of a number that has an object is found among the numbers of the objects
-below : {X : Type 0} (xs : List X) (o : ℕ) (P : X → Type 0) → IsSomeAnd (slice_get xs o) P → o < length xs
-below xs o P h = let t = there xs o P h in slice_get_within xs o t.0 t.1
-
 some_object : (g : Graph) (P : ℕ → Type 0) → ((o : ℕ) → P o → o < length g.objects) → ((o : ℕ) → Decided (P o)) → Decided ((o : ℕ) × P o)
 some_object g P inside each = as_well (λ h. (h.0, h.2)) (λ h. (h.0, inside h.0 h.1, h.1)) (some_below (length g.objects) P each)
 
@@ -50,7 +48,7 @@ decide_named : (g : Graph) (o : ℕ) (name : Word) → Decided (Named g o name)
 decide_named g o name = if_some (slice_get g.objects o) (λ x. IsTrue x.standing × (x.name ≡ name)) (λ x. both (is_true x.standing) (same_word x.name name))
 
 named_below : (g : Graph) (o : ℕ) (name : Word) → Named g o name → o < length g.objects
-named_below g o name h = below g.objects o _ h
+named_below g o name h = there_below g.objects o _ h
 
 -- some standing object of this name is so
 some_named : (g : Graph) (name : Word) (P : ℕ → Type 0) → ((o : ℕ) → Named g o name → Decided (P o)) → Decided ((o : ℕ) × Named g o name × P o)
@@ -82,10 +80,10 @@ decide_end : (g : Graph) (e a : ℕ) → Decided (HasEnd g e a)
 decide_end g e a = if_some (slice_get g.objects e) _ (λ x. both (is_true x.standing) (if_some x.ends _ (λ n. either (same_number n.source a) (same_number n.target a))))
 
 edge_below : (g : Graph) (e a : ℕ) → HasEnd g e a → e < length g.objects
-edge_below g e a h = below g.objects e _ h
+edge_below g e a h = there_below g.objects e _ h
 
 end_below : (g : Graph) → Good g → (e a : ℕ) → HasEnd g e a → a < length g.objects
-end_below g good e a h = below g.objects a _ (good.ends_stand e a h)
+end_below g good e a h = there_below g.objects a _ (good.ends_stand e a h)
 
 decide_lacks : (g : Graph) → Good g → (name : Word) (s : Span) → Decided (LacksEnd g name s)
 decide_lacks g good name s = as_well
@@ -117,15 +115,15 @@ decide_incident g name = as_well
 
 -- where the runs of a set are known, it is decided whether they are too many
 many_spans : (S : ℤ → Type 0) (spans : List Span) → AreRuns S spans → Decided (AreManySpans S)
-many_spans S spans are = elim (cases_lt 4096 (length spans)) [
+many_spans S spans are = elim (cases_lt MAX_SPANS (length spans)) [
   | inl many ↦ inl (record { spans = spans; are = are; many = many })
-  | inr few ↦ inr (λ m. let same : m.spans ≡ spans = runs_unique S m.spans spans m.are are in let many = subst (λ xs. 4096 < length xs) same m.many in omega arith)
+  | inr few ↦ inr (λ m. let same : m.spans ≡ spans = runs_unique S m.spans spans m.are are in let many = subst (λ xs. MAX_SPANS < length xs) same m.many in omega arith)
 ]
 
 many_runs : (H : ℤ → Word → Type 0) (runs : List Valued) → AreRunsOf H runs → Decided (AreManyRuns H)
-many_runs H runs are = elim (cases_lt 4096 (length runs)) [
+many_runs H runs are = elim (cases_lt MAX_SPANS (length runs)) [
   | inl many ↦ inl (record { runs = runs; are = are; many = many })
-  | inr few ↦ inr (λ m. let same : m.runs ≡ runs = runs_of_unique H m.runs runs m.are are in let many = subst (λ xs. 4096 < length xs) same m.many in omega arith)
+  | inr few ↦ inr (λ m. let same : m.runs ≡ runs = runs_of_unique H m.runs runs m.are are in let many = subst (λ xs. MAX_SPANS < length xs) same m.many in omega arith)
 ]
 
 -- what is decided of each name is decided of those of a list
@@ -209,15 +207,15 @@ module _ (g : Graph) (good : Good g) (o : ℕ) (x : Object) (at : slice_get g.ob
 
   decide_no_place : (prop : Word) → Decided (HasNoPlace g o prop)
   decide_no_place prop = as_well (λ h. record { new = h.0; many = h.1 }) (λ p. (p.new, p.many))
-      (both (fails (decide_property prop)) (if_some (slice_get g.objects o) (λ x. 64 ≤ length x.properties) (λ x. at_most 64 (length x.properties))))
+      (both (fails (decide_property prop)) (if_some (slice_get g.objects o) (λ x. MAX_PROPERTIES ≤ length x.properties) (λ x. at_most MAX_PROPERTIES (length x.properties))))
 
 -- what is decided of each standing object is decided of that of a name
 of_named : (g : Graph) (name : Word) (P : ℕ → Type 0) → ((o : ℕ) (x : Object) → slice_get g.objects o ≡ Some x → Decided (P o)) → Decided ((o : ℕ) × Named g o name × P o)
 of_named g name P each = some_named g name P (λ o named. let t = there g.objects o _ named in each o t.0 t.1)
 
 decide_full : (g : Graph) → Good g → (edit : Edit) → Decided (Breaks g edit Full)
-decide_full g good (AddNode id labels) = at_most 200000 (length g.objects)
-decide_full g good (AddEdge id labels source target) = at_most 200000 (length g.objects)
+decide_full g good (AddNode id labels) = at_most MAX_OBJECTS (length g.objects)
+decide_full g good (AddEdge id labels source target) = at_most MAX_OBJECTS (length g.objects)
 decide_full g good (Live id from to) = of_named g id (λ o. AreManySpans (λ t. Exists g o t ⊎ Within t (span_of from to))) (λ o x at. decide_joined g good o x at (span_of from to))
 decide_full g good (Gone id from to) =
     of_named g id (λ o. AreManySpans (ExistsOutside g o (span_of from to)) ⊎ ((prop : List ℕ) × AreManyRuns (ValOutside g o (span_of from to) prop)))

@@ -2,31 +2,32 @@
 use Rattle.std.proofs.Common.{◌≡◌, ℕ, ◌<◌, ◌≤◌, ℤ, List, [], ◌∷◌, ◌⊎◌, inl, inr, ⊎_elim, length, sym, ap, subst, arith}
 use Rattle.itpg_base.specs.Words.{Word}
 use Rattle.itpg_base.specs.Spans.{Span, IsSpan, Within, Covers}
+use Rattle.itpg_base.specs.declared.limits.TheConstants.{MAX_SPANS}
 use Rattle.itpg_base.specs.Graphs.{Graph, Valued, RunsHave, Val, Exists, ObjectIs}
 use Rattle.interval_set.specs.Runs.{AreRuns, AreRunsOf, HasPut, HasCleared}
 use Rattle.interval_set.proofs.UniqueValues.{runs_of_unique}
 use Rattle.interval_set.proofs.Changed.{joined_exists, put_exists, clear_exists}
 use Rattle.itpg_graph.specs.Changes.{FitFamily}
-use Rattle.itpg_graph.specs.Families.{ExistsOutside, ValOutside, ValPut, HasCutFamily, FitPut, FitClear, HasProperty}
+use Rattle.itpg_graph.specs.Families.{ValOutside, ValPut, HasCutFamily, FitPut, FitClear, HasProperty}
 use Rattle.itpg_graph.proofs.Parts.{some_value}
 use Rattle.itpg_graph.proofs.Cutting.{no_runs}
 use Rattle.itpg_graph.proofs.Asked.{alike_put, alike_clear}
-use Rattle.itpg_edit.specs.Facts.{AreManySpans, AreManyRuns}
+use Rattle.itpg_edit.specs.Facts.{AreManySpans, AreManyRuns, AreManyCut}
 use Rattle.itpg_edit.proofs.Moments.{alike_joined, joined_alike}
 
 -- existence after a join
 module _ (g : Graph) (o : ℕ) (live : List Span) (s : Span) (is : ObjectIs g o (λ x. live ≡ x.live)) (count : ℕ) (counted : (spans : List Span) → AreRuns (λ t. Covers live t ⊎ Within t s) spans → count ≡ length spans) where
-  pub joins_many : 4096 < count → AreManySpans (λ t. Exists g o t ⊎ Within t s)
+  pub joins_many : MAX_SPANS < count → AreManySpans (λ t. Exists g o t ⊎ Within t s)
   joins_many many =
       let r = joined_exists live s in
       let c = counted r.0 r.1 in
       record { spans = r.0; are = alike_joined g o live is s r.0 r.1; many = omega arith }
 
-  pub joins_few : count ≤ 4096 → FitFamily g o s
+  pub joins_few : count ≤ MAX_SPANS → FitFamily g o s
   joins_few few = λ spans runs. let c = counted spans (joined_alike g o live is s spans runs) in omega arith
 
 -- a wide family after a cut
-pub cuts_many : (g : Graph) (o : ℕ) (s : Span) (n : ℕ) → HasCutFamily g o s n → 4096 < n → AreManySpans (ExistsOutside g o s) ⊎ ((prop : Word) × AreManyRuns (ValOutside g o s prop))
+pub cuts_many : (g : Graph) (o : ℕ) (s : Span) (n : ℕ) → HasCutFamily g o s n → MAX_SPANS < n → AreManyCut g o s
 cuts_many g o s n family many = elim family [
   | inl live ↦ inl (record { spans = live.0; are = live.1; many = (let e = live.2 in omega arith) })
   | inr prop ↦ inr (prop.0, record { runs = prop.1; are = prop.2; many = (let e = prop.3 in omega arith) })
@@ -35,14 +36,14 @@ cuts_many g o s n family many = elim family [
 -- the values of a property that has some
 module _ (g : Graph) (o : ℕ) (prop : Word) (values : List Valued) (s : Span) (are : AreRunsOf (Val g o prop) values) where
   module _ (new : Word) (count : ℕ) (counted : (runs : List Valued) → AreRunsOf (HasPut values s new) runs → count ≡ length runs) where
-    pub puts_many : 4096 < count → AreManyRuns (ValPut g o s new prop)
+    pub puts_many : MAX_SPANS < count → AreManyRuns (ValPut g o s new prop)
     puts_many many =
         let r = put_exists values s new are.coalesced in
         let c = counted r.0 r.1 in
         record { runs = r.0; are = alike_put g o prop values are s new r.0 r.1; many = omega arith }
 
   module _ (count : ℕ) (counted : (runs : List Valued) → AreRunsOf (HasCleared values s) runs → count ≡ length runs) where
-    pub clears_many : 4096 < count → AreManyRuns (ValOutside g o s prop)
+    pub clears_many : MAX_SPANS < count → AreManyRuns (ValOutside g o s prop)
     clears_many many =
         let r = clear_exists values s are.coalesced in
         let c = counted r.0 r.1 in

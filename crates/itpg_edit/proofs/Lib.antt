@@ -3,7 +3,8 @@ pub mod Moments
 pub mod Families
 pub mod Deciding
 pub mod Unique
+pub mod Checked
 pub mod Unbroken
 pub mod Exists
-pub mod Checked
 pub mod Exact
+pub mod Made

@@ -1,10 +1,11 @@
 -- What the rules of edits say of a graph, moment by moment.
-use Rattle.std.specs.Prelude.{ℕ, ◌<◌, ◌≤◌, ℤ, List, length, IsSome}
+use Rattle.std.specs.Prelude.{ℕ, ◌<◌, ◌≤◌, ℤ, List, length, IsSome, ◌⊎◌}
 use Rattle.itpg_base.specs.Words.{Word}
 use Rattle.itpg_base.specs.Spans.{Span, Within}
 use Rattle.itpg_base.specs.Graphs.{Graph, Valued, Named, Exists, HasEnd, InHorizon, ObjectIs}
+use Rattle.itpg_base.specs.declared.limits.TheConstants.{MAX_SPANS, MAX_PROPERTIES}
 use Rattle.interval_set.specs.Runs.{AreRuns, AreRunsOf}
-use Rattle.itpg_graph.specs.Families.{HasProperty}
+use Rattle.itpg_graph.specs.Families.{ExistsOutside, ValOutside, HasProperty}
 
 -- the span of two moments
 abbrev pub span_of : ℤ → ℤ → Span
@@ -67,15 +68,19 @@ pub record IsIncident (g : Graph) (name : Word) : Type 0 where
 pub record AreManySpans (S : ℤ → Type 0) : Type 0 where
   pub spans : List Span
   pub are : AreRuns S spans
-  pub many : 4096 < length spans
+  pub many : MAX_SPANS < length spans
 
 -- values at moments have more runs than a family may have
 pub record AreManyRuns (H : ℤ → Word → Type 0) : Type 0 where
   pub runs : List Valued
   pub are : AreRunsOf H runs
-  pub many : 4096 < length runs
+  pub many : MAX_SPANS < length runs
+
+-- some family of the object has too many spans, if its life in this one ends
+abbrev pub AreManyCut : Graph → ℕ → Span → Type 0
+AreManyCut g o s = AreManySpans (ExistsOutside g o s) ⊎ ((prop : Word) × AreManyRuns (ValOutside g o s prop))
 
 -- the object has no value of the property so far, and as many other properties as an object may have
 pub record HasNoPlace (g : Graph) (o : ℕ) (prop : Word) : Type 0 where
   pub new : ¬ HasProperty g o prop
-  pub many : ObjectIs g o (λ x. 64 ≤ length x.properties)
+  pub many : ObjectIs g o (λ x. MAX_PROPERTIES ≤ length x.properties)

@@ -4,10 +4,11 @@ use Rattle.itpg_base.specs.Spans.{Within}
 use Rattle.itpg_base.specs.Graphs.{Graph, Named, Exists}
 use Rattle.itpg_base.specs.declared.rule_code.RuleCode.{RuleCode}
 use Rattle.itpg_base.specs.declared.rule_code.RuleCode.TheVariants.{NoGraph, Again, Taken, Unknown, Kind, Backwards, Horizon, Ends, Absent, Held, Incident, Full}
+use Rattle.itpg_base.specs.declared.limits.TheConstants.{MAX_OBJECTS}
 use Rattle.itpg_edit.specs.declared.edit.Edit.{Edit}
 use Rattle.itpg_edit.specs.declared.edit.Edit.TheVariants.{Begin, AddNode, AddEdge, Live, Gone, Put, Clear, Remove}
-use Rattle.itpg_edit.specs.Facts.{span_of, IsTaken, IsUnknown, IsEdge, LeavesHorizon, LacksEnd, IsAbsent, IsHeld, IsIncident, AreManySpans, AreManyRuns, HasNoPlace}
-use Rattle.itpg_graph.specs.Families.{ExistsOutside, ValOutside, ValPut}
+use Rattle.itpg_edit.specs.Facts.{span_of, IsTaken, IsUnknown, IsEdge, LeavesHorizon, LacksEnd, IsAbsent, IsHeld, IsIncident, AreManySpans, AreManyRuns, AreManyCut, HasNoPlace}
+use Rattle.itpg_graph.specs.Families.{ValOutside, ValPut}
 
 -- the rules of an edit, in order
 abbrev pub rules_of : Edit → List RuleCode
@@ -22,10 +23,10 @@ rules_of (Remove id) = NoGraph ∷ Unknown ∷ Incident ∷ []
 
 -- a capacity would be passed
 abbrev pub IsFull : Graph → Edit → Type 0
-IsFull g (AddNode id labels) = 200000 ≤ length g.objects
-IsFull g (AddEdge id labels source target) = 200000 ≤ length g.objects
+IsFull g (AddNode id labels) = MAX_OBJECTS ≤ length g.objects
+IsFull g (AddEdge id labels source target) = MAX_OBJECTS ≤ length g.objects
 IsFull g (Live id from to) = (o : ℕ) × Named g o id × AreManySpans (λ t. Exists g o t ⊎ Within t (span_of from to))
-IsFull g (Gone id from to) = (o : ℕ) × Named g o id × (AreManySpans (ExistsOutside g o (span_of from to)) ⊎ ((prop : List ℕ) × AreManyRuns (ValOutside g o (span_of from to) prop)))
+IsFull g (Gone id from to) = (o : ℕ) × Named g o id × AreManyCut g o (span_of from to)
 IsFull g (Put id prop value from to) = (o : ℕ) × Named g o id × (AreManyRuns (ValPut g o (span_of from to) value prop) ⊎ HasNoPlace g o prop)
 IsFull g (Clear id prop from to) = (o : ℕ) × Named g o id × AreManyRuns (ValOutside g o (span_of from to) prop)
 IsFull g edit = ⊥
@@ -121,6 +122,12 @@ Unbroken g edit = NoneOf (Breaks g edit) (rules_of edit)
 -- the first of its rules that the edit breaks
 abbrev pub Broken : Graph → Edit → RuleCode → Type 0
 Broken g edit rule = FirstOf (Breaks g edit) (rules_of edit) rule
+
+-- the rules on the name of a new object
+abbrev pub NewBreaks : Graph → List ℕ → RuleCode → Type 0
+NewBreaks g id NoGraph = IsNone g.begun
+NewBreaks g id Taken = IsTaken g id
+NewBreaks g id rule = ⊥
 
 -- the rules on the name of the object that an edit is about
 abbrev pub NameBreaks : Graph → List ℕ → RuleCode → Type 0

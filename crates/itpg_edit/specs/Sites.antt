@@ -1,23 +1,12 @@
 -- Edits of what an object has over a span.
-use Rattle.std.specs.Prelude.{◌≡◌, ℕ, ℤ, ◌≤ℤ◌, List, IsSome}
-use Rattle.itpg_base.specs.Words.{Word, IsLabels}
+use Rattle.std.specs.Prelude.{ℕ, ℤ, List}
+use Rattle.itpg_base.specs.Words.{IsLabels}
 use Rattle.itpg_base.specs.Spans.{Span, IsMoment, Within}
-use Rattle.itpg_base.specs.Graphs.{Graph, Good, Named, Stands, Exists, HasEnd, InHorizon}
+use Rattle.itpg_base.specs.Graphs.{Graph, Stands, Exists, HasEnd}
 use Rattle.itpg_base.specs.declared.object_number.ObjNo.{ObjNo}
 use Rattle.itpg_graph.specs.Edges.{HasNumber}
 use Rattle.itpg_edit.specs.declared.edit.Edit.{Edit}
 use Rattle.itpg_edit.specs.declared.edit.Edit.TheVariants.{Begin, AddNode, AddEdge, Live, Gone, Put, Clear}
-use Rattle.itpg_edit.specs.declared.site.Site.{Site}
-use Rattle.itpg_edit.specs.Facts.{span_of}
-
--- in a good graph, the standing object of this name, and the span of the two moments, each in the horizon
-pub record IsSite (g : Graph) (id : Word) (from to : ℤ) (site : Site) : Type 0 where
-  pub good : Good g
-  pub begun : IsSome g.begun
-  pub named : Named g site.object.0 id
-  pub span : site.span ≡ span_of from to
-  pub ordered : from ≤ℤ to
-  pub inside : (t : ℤ) → Within t (span_of from to) → InHorizon g t
 
 -- each end of the object exists at each moment of the span
 abbrev pub EndsExist : Graph → ℕ → Span → Type 0

@@ -1,9 +1,9 @@
-// An edit, as a line says it.
+//! An edit, as a line says it.
 use itpg_base::{LabelSet, Name};
 
 /// One change of a graph, as a line of a script asks for it.
 ///
-/// Moments are whole numbers from -10^12 to 10^12, and a span has both its ends. Whether the graph allows the change is no
+/// Moments are whole numbers from -`MAX_MOMENT` to `MAX_MOMENT` of `itpg_base`, and a span has both its ends. Whether the graph allows the change is no
 /// part of the value: the first moment may be after the second, and the name may be no object's.
 ///
 /// ```text

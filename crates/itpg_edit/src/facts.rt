@@ -1,23 +1,19 @@
 //! What the rules ask of a graph.
-ghost use Rattle.std.specs.Prelude.{◌≡◌, ◌⊎◌, ◌<◌, ◌≤◌, ℕ, ℤ, List, length, true, false};
+ghost use Rattle.std.specs.Prelude.{◌≡◌, ◌⊎◌, ◌<◌, ◌≤◌, ℕ, ℤ, List, length, true, false, IsSome};
 ghost use Rattle.itpg_base.specs.Words.{Word};
 ghost use Rattle.itpg_base.specs.Spans.{IsSpan, Within};
-ghost use Rattle.itpg_base.specs.Graphs.{Stands, Exists, HasEnd};
+ghost use Rattle.itpg_base.specs.Graphs.{Stands, Exists, HasEnd, ObjectIs};
 ghost use Rattle.itpg_graph.specs.Edges.{HasNumber};
+ghost use Rattle.itpg_graph.specs.Kinds.{IsNode};
 ghost use Rattle.itpg_graph.specs.Changes.{FitFamily};
 ghost use Rattle.itpg_graph.specs.Families.{ExistsOutside, ValOutside, ValPut, FitCut, FitPut, FitClear, HasPlace};
-ghost use Rattle.itpg_edit.specs.Sites.{AllStand};
-ghost use Rattle.itpg_edit.specs.Facts.{AreManySpans, AreManyRuns, HasNoPlace};
+ghost use Rattle.itpg_edit.specs.Sites.{AllStand, EndsExist, IsFree, IsThere};
+ghost use Rattle.itpg_edit.specs.Facts.{AreManySpans, AreManyRuns, AreManyCut, HasNoPlace};
 
+use crate::change::Site;
 use interval_set::Span;
-use itpg_base::{Name, ObjNo};
-use itpg_graph::Graph;
-
-// How many spans a family has at most.
-const MAX_SPANS: usize = 4_096;
-
-// How many properties of an object have a value at most.
-const MAX_PROPERTIES: usize = 64;
+use itpg_base::{MAX_PROPERTIES, MAX_SPANS, Name, ObjNo};
+use itpg_graph::{Graph, Kind};
 
 /// Whether some moment of the span is outside the horizon.
 pub(crate) fn leaves(span: Span, horizon: Span) -> bool
@@ -27,37 +23,47 @@ pub(crate) fn leaves(span: Span, horizon: Span) -> bool
     span.from() < horizon.from() || horizon.to() < span.to()
 }
 
-/// Whether the object is missing at some moment of the span.
-pub(crate) fn is_absent(graph: &Graph, object: ObjNo, span: Span) -> bool
-    requires { Stands graph.now object.0 }
-    ensures there { result ≡ false → (t : ℤ) → Within t span → Exists graph.now object.0 t }
-    ensures missing { result ≡ true → (t : ℤ) × Within t span × (¬ Exists graph.now object.0 t) }
+/// Whether one of the two objects is an edge.
+pub(crate) fn joins_edge(graph: &Graph, source: ObjNo, target: ObjNo) -> bool
+    requires source { Stands graph.now source.0 }
+    requires target { Stands graph.now target.0 }
+    ensures nodes { result ≡ false → IsNode graph.now source.0 × IsNode graph.now target.0 }
+    ensures edge { result ≡ true → ObjectIs graph.now source.0 (λ x. IsSome x.ends) ⊎ ObjectIs graph.now target.0 (λ x. IsSome x.ends) }
 {
-    !graph.live(object).covers(span)
+    graph.kind(source) == Kind::Edge || graph.kind(target) == Kind::Edge
+}
+
+/// Whether the object is missing at some moment of the span.
+pub(crate) fn is_absent(graph: &Graph, site: &Site) -> bool
+    requires { Stands graph.now site.now.object.0 }
+    ensures there { result ≡ false → IsThere graph.now site.now.object.0 site.now.span }
+    ensures missing { result ≡ true → (t : ℤ) × Within t site.now.span × (¬ Exists graph.now site.now.object.0 t) }
+{
+    !graph.live(site.object).covers(site.span)
 }
 
 /// Whether an end of the object is missing at some moment of the span. A node has no ends.
-pub(crate) fn lacks_end(graph: &Graph, object: ObjNo, span: Span) -> bool
-    requires { Stands graph.now object.0 }
-    ensures there { result ≡ false → (a : ℕ) → HasEnd graph.now object.0 a → (t : ℤ) → Within t span → Exists graph.now a t }
-    ensures missing { result ≡ true → (a : ℕ) × HasEnd graph.now object.0 a × ((t : ℤ) × Within t span × (¬ Exists graph.now a t)) }
+pub(crate) fn lacks_end(graph: &Graph, site: &Site) -> bool
+    requires { Stands graph.now site.now.object.0 }
+    ensures there { result ≡ false → EndsExist graph.now site.now.object.0 site.now.span }
+    ensures missing { result ≡ true → (a : ℕ) × HasEnd graph.now site.now.object.0 a × ((t : ℤ) × Within t site.now.span × (¬ Exists graph.now a t)) }
 {
-    match graph.ends(object) {
+    match graph.ends(site.object) {
         Some((source, target)) => {
-            is_absent(graph, source, span) || is_absent(graph, target, span)
+            is_absent(graph, &site.of(source)) || is_absent(graph, &site.of(target))
         }
         None => false,
     }
 }
 
 /// Whether an edge at the node exists at some moment of the span.
-pub(crate) fn is_held(graph: &Graph, node: ObjNo, span: Span) -> bool
-    requires { Stands graph.now node.0 }
-    ensures free { result ≡ false → (e : ℕ) (t : ℤ) → HasEnd graph.now e node.0 → Within t span → Exists graph.now e t → ⊥ }
-    ensures held { result ≡ true → (e : ℕ) × HasEnd graph.now e node.0 × ((t : ℤ) × Within t span × Exists graph.now e t) }
+pub(crate) fn is_held(graph: &Graph, site: &Site) -> bool
+    requires { Stands graph.now site.now.object.0 }
+    ensures free { result ≡ false → IsFree graph.now site.now.object.0 site.now.span }
+    ensures held { result ≡ true → (e : ℕ) × HasEnd graph.now e site.now.object.0 × ((t : ℤ) × Within t site.now.span × Exists graph.now e t) }
 {
-    some_exists(graph, graph.out_edges(node), span)
-        || some_exists(graph, graph.in_edges(node), span)
+    some_exists(graph, graph.out_edges(site.object), site.span)
+        || some_exists(graph, graph.in_edges(site.object), site.span)
 }
 
 // Whether one of the objects exists at some moment of the span.
@@ -84,50 +90,44 @@ pub(crate) fn is_incident(graph: &Graph, node: ObjNo) -> bool
 }
 
 /// Whether the object would exist in too many spans, if it existed in this one too.
-pub(crate) fn joins_too_many(graph: &Graph, object: ObjNo, span: Span) -> bool
-    requires { Stands graph.now object.0 }
-    ensures few { result ≡ false → FitFamily graph.now object.0 span }
-    ensures many { result ≡ true → AreManySpans (λ t. Exists graph.now object.0 t ⊎ Within t span) }
+pub(crate) fn joins_too_many(graph: &Graph, site: &Site) -> bool
+    requires { Stands graph.now site.now.object.0 }
+    ensures few { result ≡ false → FitFamily graph.now site.now.object.0 site.now.span }
+    ensures many { result ≡ true → AreManySpans (λ t. Exists graph.now site.now.object.0 t ⊎ Within t site.now.span) }
 {
-    graph.live(object).count_joined(span) > MAX_SPANS
+    graph.live(site.object).count_joined(site.span) > MAX_SPANS
 }
 
 /// Whether some family of the object would have too many spans, if its life in this one ended.
-pub(crate) fn cuts_too_many(graph: &Graph, object: ObjNo, span: Span) -> bool
-    requires { Stands graph.now object.0 }
-    ensures few { result ≡ false → FitCut graph.now object.0 span }
-    ensures many { result ≡ true → AreManySpans (ExistsOutside graph.now object.0 span) ⊎ ((prop : List ℕ) × AreManyRuns (ValOutside graph.now object.0 span prop)) }
+pub(crate) fn cuts_too_many(graph: &Graph, site: &Site) -> bool
+    requires { Stands graph.now site.now.object.0 }
+    ensures few { result ≡ false → FitCut graph.now site.now.object.0 site.now.span }
+    ensures many { result ≡ true → AreManyCut graph.now site.now.object.0 site.now.span }
 {
-    graph.widest_cut(object, span) > MAX_SPANS
+    graph.widest_cut(site.object, site.span) > MAX_SPANS
 }
 
 /// Whether the property would have too many runs, if it had the value in the span, or the object too many properties.
-pub(crate) fn puts_too_many(
-    graph: &Graph,
-    object: ObjNo,
-    prop: &Name,
-    value: Name,
-    span: Span,
-) -> bool
-    requires stands { Stands graph.now object.0 }
-    requires span { IsSpan span }
-    ensures few { result ≡ false → FitPut graph.now object.0 prop.now value span × HasPlace graph.now object.0 prop.now }
-    ensures many { result ≡ true → AreManyRuns (ValPut graph.now object.0 span value prop.now) ⊎ HasNoPlace graph.now object.0 prop.now }
+pub(crate) fn puts_too_many(graph: &Graph, site: &Site, prop: &Name, value: Name) -> bool
+    requires stands { Stands graph.now site.now.object.0 }
+    requires span { IsSpan site.now.span }
+    ensures few { result ≡ false → FitPut graph.now site.now.object.0 prop.now value site.now.span × HasPlace graph.now site.now.object.0 prop.now }
+    ensures many { result ≡ true → AreManyRuns (ValPut graph.now site.now.object.0 site.now.span value prop.now) ⊎ HasNoPlace graph.now site.now.object.0 prop.now }
 {
-    match graph.value(object, prop) {
-        Some(values) => values.count_put(span, value) > MAX_SPANS,
-        None => graph.prop_count(object) >= MAX_PROPERTIES,
+    match graph.value(site.object, prop) {
+        Some(values) => values.count_put(site.span, value) > MAX_SPANS,
+        None => graph.prop_count(site.object) >= MAX_PROPERTIES,
     }
 }
 
 /// Whether the property would have too many runs, if it had no value in the span.
-pub(crate) fn clears_too_many(graph: &Graph, object: ObjNo, prop: &Name, span: Span) -> bool
-    requires { Stands graph.now object.0 }
-    ensures few { result ≡ false → FitClear graph.now object.0 prop.now span }
-    ensures many { result ≡ true → AreManyRuns (ValOutside graph.now object.0 span prop.now) }
+pub(crate) fn clears_too_many(graph: &Graph, site: &Site, prop: &Name) -> bool
+    requires { Stands graph.now site.now.object.0 }
+    ensures few { result ≡ false → FitClear graph.now site.now.object.0 prop.now site.now.span }
+    ensures many { result ≡ true → AreManyRuns (ValOutside graph.now site.now.object.0 site.now.span prop.now) }
 {
-    match graph.value(object, prop) {
-        Some(values) => values.count_clear(span) > MAX_SPANS,
+    match graph.value(site.object, prop) {
+        Some(values) => values.count_clear(site.span) > MAX_SPANS,
         None => false,
     }
 }

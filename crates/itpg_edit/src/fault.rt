@@ -4,13 +4,16 @@ ghost use Rattle.itpg_edit.specs.declared.fault.EditFault.TheVariants.{Memory as
 
 use itpg_base::RuleCode;
 use std::alloc::AllocError;
+use thiserror::Error;
 
 /// Why an edit wasn't made. The graph is as it was.
-#[derive(Clone, Copy, Debug, PartialEq, Eq)]
+#[derive(Clone, Copy, Debug, PartialEq, Eq, Error)]
 pub enum EditFault {
     /// Memory was wanting. The edit breaks no rule.
+    #[error("memory was wanting for an edit that breaks no rule")]
     Memory,
     /// The first rule that the edit breaks.
+    #[error("the edit breaks the rule `{}`", .0.word())]
     Rule(RuleCode),
 }
 

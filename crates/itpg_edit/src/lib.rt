@@ -5,13 +5,14 @@
 //! an edit that breaks none leaves the one graph that differs as the edit says.
 #![tactic(auto)]
 
+mod change;
 mod checks;
 mod edit;
 mod facts;
 mod fault;
+mod finding;
 mod laws;
 mod making;
-mod site;
 
 pub use checks::broken;
 pub use edit::Edit;

@@ -1,5 +1,7 @@
 -- Where each token fits, what is kept of a tree is what it stands for.
 use Rattle.std.proofs.Common.{◌≡◌, ◌⊎◌, inl, inr, ⊎_elim, ℕ, ◌<◌, ◌≤◌, ℤ, pos, neg_ℤ, Bool, true, false, ◌&&◌, not, List, [], ◌∷◌, ◌++◌, map, length, drop, Option, Some, None, refl, ap, ◌∙◌, arith}
+use Rattle.std.specs.Cmp.{second_so}
+use Rattle.std.proofs.lemmas.Bool.{and_from}
 use Rattle.std.specs.Prelude.{if◌then◌else◌, nat_eq, nat_le, slice_index}
 use Rattle.std.specs.Char.{is_ascii_digit}
 use Rattle.std.specs.List.{list_all}
@@ -14,6 +16,8 @@ use Rattle.script_lex.specs.Lexemes.{Lexeme, AWord, ANumber, AQuote, AMark}
 use Rattle.script_lex.specs.Lines.{Placed, AreTokens}
 use Rattle.script_lex.specs.Numbers.{digits_of, number_value, IsNumber, HasNumber}
 use Rattle.script_lex.proofs.Fronts.{token_read}
+use Rattle.script_lex.specs.declared.numbers.TheConstants.{MAX_NUMBER}
+use Rattle.itpg_base.specs.declared.name.TheConstants.{MAX_NAME}
 use Rattle.path_ast.specs.Terms.{PathTerm, OfTest, Sequence, Choice, TestTerm, HasLabel, Condition, Conjunction, Disjunction, Negation}
 use Rattle.match_parser.specs.declared.words.Keyword.TheVariants.{Or}
 use Rattle.match_parser.specs.Words.{keyword_text, is_signed}
@@ -26,9 +30,9 @@ use Rattle.match_parser.proofs.KeptTrees.{times_kept, fact_kept, alt_kept, seq_k
 
 -- a query can have it
 abbrev pub Fits : Lexeme → Type 0
-Fits (AWord w) = length w ≤ 64
+Fits (AWord w) = length w ≤ MAX_NAME
 Fits (ANumber n) = is_tame n ≡ true
-Fits (AQuote q) = length q ≤ 64
+Fits (AQuote q) = length q ≤ MAX_NAME
 Fits (AMark m) = Unit {0}
 
 abbrev pub AllFit : List Lexeme → Type 0
@@ -43,9 +47,9 @@ pub fit_back : (xs ys : List Lexeme) → AllFit (xs ++ ys) → AllFit ys
 fit_back [] ys h = h
 fit_back (x ∷ xs) ys h = fit_back xs ys h.1
 
-pub name_fits : (w : List ℕ) → length w ≤ 64 → kept_name w ≡ w
+pub name_fits : (w : List ℕ) → length w ≤ MAX_NAME → kept_name w ≡ w
 unfolding kept_name
-name_fits w h = rw (le-leb (length w) 64 h) refl
+name_fits w h = rw (le-leb (length w) MAX_NAME h) refl
 
 pub value_fits : (n : List ℕ) → is_tame n ≡ true → kept_value n ≡ number_value n
 unfolding kept_value
@@ -172,46 +176,35 @@ pub numbers_of : (text : List ℕ) (at : ℕ) (ts : List Placed) (end : Option T
 numbers_of text at [] end h = tt
 numbers_of text at (t ∷ ts) end h = ((token_read (drop t.from text) t.what h.0.what).number, numbers_of text t.to ts end h.1)
 
-both_true : (a b : Bool) → a ≡ true → b ≡ true → (a && b) ≡ true
-both_true a b e f = rw (e, f) refl
-
-first_true : (a b : Bool) → (a && b) ≡ true → a ≡ true
-first_true true b e = refl
-first_true false b e = e
-
-pub second_true : (a b : Bool) → (a && b) ≡ true → b ≡ true
-second_true true b e = e
-second_true false b e = absurd (let none : ⊥ = cc in none)
-
 not_zero : (k : ℕ) → 0 < k → not (nat_eq k 0) ≡ true
 not_zero k h = ap not (ne_eqb k 0 (λ e. omega (arith, h, e)))
 
 number_digits : (n : List ℕ) → IsNumber n → (not (nat_eq (length (digits_of n)) 0) && list_all is_ascii_digit (digits_of n)) ≡ true
-number_digits n h = both_true (not (nat_eq (length (digits_of n)) 0)) (list_all is_ascii_digit (digits_of n)) (not_zero (length (digits_of n)) h.some) h.digits
+number_digits n h = and_from (not (nat_eq (length (digits_of n)) 0)) (list_all is_ascii_digit (digits_of n)) (not_zero (length (digits_of n)) h.some) h.digits
 
 -- a number with its sign
 abbrev with_sign : Bool → ℕ → ℤ
 with_sign s d = if s then neg_ℤ (pos d) else pos d
 
-moment_signed : (s : Bool) (d : ℕ) → d ≤ 1000000000000 → IsMoment (with_sign s d)
+moment_signed : (s : Bool) (d : ℕ) → d ≤ MAX_NUMBER → IsMoment (with_sign s d)
 moment_signed true d h = record { least = omega (arith, ints, h); greatest = omega (arith, ints, h) }
 moment_signed false d h = record { least = omega (arith, ints, h); greatest = omega (arith, ints, h) }
 
-signed_moment : (s : Bool) (d : ℕ) → IsMoment (with_sign s d) → d ≤ 1000000000000
+signed_moment : (s : Bool) (d : ℕ) → IsMoment (with_sign s d) → d ≤ MAX_NUMBER
 signed_moment true d h = omega (arith, ints, h.least)
 signed_moment false d h = omega (arith, ints, h.greatest)
 
 pub tame_moment : (n : List ℕ) → is_tame n ≡ true → IsMoment (number_value n)
-tame_moment n h = moment_signed (nat_eq (slice_index n 0) 45) (digits_value 10 (digits_of n)) (leb-true (digits_value 10 (digits_of n)) 1000000000000 (second_true (not (nat_eq (length (digits_of n)) 0) && list_all is_ascii_digit (digits_of n)) (nat_le (digits_value 10 (digits_of n)) 1000000000000) h))
+tame_moment n h = moment_signed (nat_eq (slice_index n 0) 45) (digits_value 10 (digits_of n)) (leb-true (digits_value 10 (digits_of n)) MAX_NUMBER (second_so (not (nat_eq (length (digits_of n)) 0) && list_all is_ascii_digit (digits_of n)) (nat_le (digits_value 10 (digits_of n)) MAX_NUMBER) h))
 
 pub moment_tame : (n : List ℕ) → IsNumber n → IsMoment (number_value n) → is_tame n ≡ true
-moment_tame n h m = both_true (not (nat_eq (length (digits_of n)) 0) && list_all is_ascii_digit (digits_of n)) (nat_le (digits_value 10 (digits_of n)) 1000000000000) (number_digits n h)
-    (le-leb (digits_value 10 (digits_of n)) 1000000000000 (signed_moment (nat_eq (slice_index n 0) 45) (digits_value 10 (digits_of n)) m))
+moment_tame n h m = and_from (not (nat_eq (length (digits_of n)) 0) && list_all is_ascii_digit (digits_of n)) (nat_le (digits_value 10 (digits_of n)) MAX_NUMBER) (number_digits n h)
+    (le-leb (digits_value 10 (digits_of n)) MAX_NUMBER (signed_moment (nat_eq (slice_index n 0) 45) (digits_value 10 (digits_of n)) m))
 
 pub tame_or_wild : (n : List ℕ) → IsNumber n → (is_tame n ≡ true) ⊎ (¬ IsMoment (number_value n))
-tame_or_wild n h = elim (cases_lt 1000000000000 (digits_value 10 (digits_of n))) [
+tame_or_wild n h = elim (cases_lt MAX_NUMBER (digits_value 10 (digits_of n))) [
   | inl above ↦ inr (λ m. let below = signed_moment (nat_eq (slice_index n 0) 45) (digits_value 10 (digits_of n)) m in omega (arith, above, below))
-  | inr below ↦ inl (both_true (not (nat_eq (length (digits_of n)) 0) && list_all is_ascii_digit (digits_of n)) (nat_le (digits_value 10 (digits_of n)) 1000000000000) (number_digits n h) (le-leb (digits_value 10 (digits_of n)) 1000000000000 below))
+  | inr below ↦ inl (and_from (not (nat_eq (length (digits_of n)) 0) && list_all is_ascii_digit (digits_of n)) (nat_le (digits_value 10 (digits_of n)) MAX_NUMBER) (number_digits n h) (le-leb (digits_value 10 (digits_of n)) MAX_NUMBER below))
 ]
 
 -- it is decided whether a token is wild, and whether one is overlong
@@ -225,7 +218,7 @@ wild_decided (ANumber v ∷ ts) h = elim (tame_or_wild v h.0) [
   | inr wild ↦ inl (inl wild)
 ]
 
-long_decided : (w : List ℕ) → Decided (64 < length w)
+long_decided : (w : List ℕ) → Decided (MAX_NAME < length w)
 long_decided w = elim (cases_lt 64 (length w)) [ inl e ↦ inl e | inr n ↦ inr (λ e. omega (arith, n, e)) ]
 
 pub overlong_decided : (ts : List Lexeme) → Decided (SomeToken IsOverlong ts)
@@ -241,7 +234,7 @@ overlong_decided (AQuote w ∷ ts) = elim (long_decided w) [
   | inr n ↦ elim (overlong_decided ts) [ inl e ↦ inl (inr e) | inr m ↦ inr (λ e. ⊎_elim n m e) ]
 ]
 
-not_above : (n : ℕ) → (64 < n → ⊥) → n ≤ 64
+not_above : (n : ℕ) → (MAX_NAME < n → ⊥) → n ≤ MAX_NAME
 not_above n h = elim (cases_lt 64 n) [ inl e ↦ absurd (h e) | inr e ↦ e ]
 
 -- where none is, all fit

@@ -1,5 +1,7 @@
 -- A query that a text reads as is in range, small, and asks for an end.
 use Rattle.std.proofs.Common.{◌≡◌, inl, inr, ℕ, ◌≤◌, ℤ, pos, ◌+ℤ◌, ◌||◌, Bool, true, false, not, List, [], ◌∷◌, ◌++◌, Option, Some, None, refl, sym, ap, subst, ◌∙◌, arith, true≢false}
+use Rattle.std.specs.Cmp.{second_so}
+use Rattle.std.proofs.lemmas.Bool.{false_from_ne_true}
 use Rattle.std.specs.Prelude.{nat_lt, IsTrue, is_some}
 use Rattle.std.specs.Str.Parse.{digits_value}
 use Rattle.std.proofs.lemmas.Int.{ints}
@@ -9,6 +11,8 @@ use Rattle.itpg_base.specs.Spans.{IsMoment}
 use Rattle.script_lex.specs.declared.mark.Mark.TheVariants.{ParenR, BraceR, Plus, Slash, DashSlash, SlashDash}
 use Rattle.script_lex.specs.Lexemes.{AWord, AMark}
 use Rattle.script_lex.specs.Numbers.{number_value, digits_of}
+use Rattle.script_lex.specs.declared.numbers.TheConstants.{MAX_NUMBER}
+use Rattle.match_parser.specs.declared.checks.TheConstants.{MAX_TERMS}
 use Rattle.path_ast.specs.Terms.{PathTerm, TestTerm, QueryTerm}
 use Rattle.path_ast.specs.Sizes.{path_size, IsBoundInRange, IsPathInRange, IsTestInRange}
 use Rattle.match_parser.specs.declared.words.Keyword.TheVariants.{Or}
@@ -20,7 +24,7 @@ use Rattle.match_parser.specs.Grammar.{TimesTree, Once, Starred, FromTo, FromOn,
 use Rattle.match_parser.specs.Translation.{axis_path, node_test, times_path, fact_test, alt_path, seq_path, rep_path, atom_path, or_test, and_test, unary_test, prim_test, with_label, with_tests, pattern_path, chain_path, first_name, last_name}
 use Rattle.match_parser.specs.Faults.{has_backwards, test_has_backwards, later_named, inner_named}
 use Rattle.match_parser.specs.Reading.{Reads}
-use Rattle.match_parser.proofs.Fits.{AllFit, fit_front, fit_back, all_fit, tame_moment, unsigned_digits, second_true}
+use Rattle.match_parser.proofs.Fits.{AllFit, fit_front, fit_back, all_fit, tame_moment, unsigned_digits}
 use Rattle.match_parser.proofs.Law.{text_fits}
 use Rattle.match_parser.proofs.Whole.{neither_first, neither_rest}
 
@@ -28,10 +32,10 @@ use Rattle.match_parser.proofs.Whole.{neither_first, neither_rest}
 not_less : (m n : ℕ) → nat_lt m n ≡ false → n ≤ m
 not_less m n e = elim (cases_lt m n) [ inl less ↦ absurd (true≢false (sym (lt-ltb m n less) ∙ e)) | inr more ↦ more ]
 
-tame_count : (n : List ℕ) → is_tame n ≡ true → is_signed n ≡ false → digits_value 10 n ≤ 1000000000000
+tame_count : (n : List ℕ) → is_tame n ≡ true → is_signed n ≡ false → digits_value 10 n ≤ MAX_NUMBER
 tame_count n t s =
-    let whole : digits_value 10 (digits_of n) ≤ 1000000000000 = leb-true (digits_value 10 (digits_of n)) 1000000000000 (second_true (is_number n) _ t) in
-    subst (λ (d : List ℕ). digits_value 10 d ≤ 1000000000000) (unsigned_digits n s) whole
+    let whole : digits_value 10 (digits_of n) ≤ MAX_NUMBER = leb-true (digits_value 10 (digits_of n)) MAX_NUMBER (second_so (is_number n) _ t) in
+    subst (λ (d : List ℕ). digits_value 10 d ≤ MAX_NUMBER) (unsigned_digits n s) whole
 
 bound_in_range : (k : ℤ) → IsMoment k → IsBoundInRange k
 bound_in_range k m = record { least = m.least; greatest = omega (arith, ints, m.greatest) }
@@ -155,18 +159,14 @@ chain_in_range (MorePattern c a p) h e =
       pattern_in_range p (fit_back (alt_text a) (AMark SlashDash ∷ pattern_text p) back).1 (neither_rest (has_backwards (chain_path c) || has_backwards (alt_path a)) (has_backwards (pattern_path p)) e),
     )
 
-is_false : (b : Bool) → (b ≡ true → ⊥) → b ≡ false
-is_false true h = absurd (h refl)
-is_false false h = refl
-
 pub path_in_range : (text : List ℕ) (q : QueryTerm) → Reads text q → IsPathInRange q.path
 path_in_range text q r =
     let fit = all_fit r.tokens (text_fits text r.tokens None r.is) (r.clean Number) (r.clean Name) in
-    let right = is_false (has_backwards (chain_path r.tree.chain)) (λ b. r.clean Range (r.tree, r.spells, b)) in
+    let right = false_from_ne_true (has_backwards (chain_path r.tree.chain)) (λ b. r.clean Range (r.tree, r.spells, b)) in
     subst (λ (p : QueryTerm). IsPathInRange p.path) r.means (chain_in_range r.tree.chain (fit_front (chain_text r.tree.chain) (graph_text r.tree.graph_name) (subst AllFit (sym r.spells) fit).1) right)
 
-pub few_terms : (text : List ℕ) (q : QueryTerm) → Reads text q → path_size q.path ≤ 1024
-few_terms text q r = subst (λ (p : QueryTerm). path_size p.path ≤ 1024) r.means (elim (cases_lt 1024 (path_size (chain_path r.tree.chain))) [
+pub few_terms : (text : List ℕ) (q : QueryTerm) → Reads text q → path_size q.path ≤ MAX_TERMS
+few_terms text q r = subst (λ (p : QueryTerm). path_size p.path ≤ MAX_TERMS) r.means (elim (cases_lt MAX_TERMS (path_size (chain_path r.tree.chain))) [
   | inl many ↦ absurd (r.clean Terms (r.tree, r.spells, many))
   | inr few ↦ few
 ])
@@ -189,4 +189,4 @@ end_named c inner named = by_first (first_name c) refl
 
 pub asks_for_one : (text : List ℕ) (q : QueryTerm) → Reads text q → IsTrue (q.first || q.last)
 asks_for_one text q r = subst (λ (p : QueryTerm). IsTrue (p.first || p.last)) r.means
-    (end_named r.tree.chain (is_false (inner_named r.tree.chain) (λ e. r.clean Names (r.tree, r.spells, inl e))) (λ n. r.clean Names (r.tree, r.spells, inr (inl n))))
+    (end_named r.tree.chain (false_from_ne_true (inner_named r.tree.chain) (λ e. r.clean Names (r.tree, r.spells, inl e))) (λ n. r.clean Names (r.tree, r.spells, inr (inl n))))

@@ -1,16 +1,20 @@
 -- A text reads as at most one query, and has a first fault exactly where it reads as none.
-use Rattle.std.proofs.Common.{◌≡◌, ◌⊎◌, inl, inr, ⊎_elim, ℕ, zero, suc, ◌+◌, ◌*◌, ◌<◌, ◌≤◌, not, List, [], ◌∷◌, map, length, take, drop, get_or, Option, Some, None, refl, sym, ap, subst, ◌∙◌, arith}
+use Rattle.std.proofs.Common.{◌≡◌, ◌⊎◌, inl, inr, ⊎_elim, ℕ, zero, suc, ◌+◌, ◌*◌, ◌<◌, ◌≤◌, not, List, [], ◌∷◌, map, length, take, drop, Option, Some, None, refl, sym, ap, subst, ◌∙◌, arith}
 use Rattle.std.specs.Prelude.{is_some, IsTrue, count_by}
 use Rattle.std.proofs.lemmas.Bool.{cases_lt}
 use Rattle.std.proofs.lemmas.List.{take_all}
 use Rattle.itpg_base.specs.Decided.{Decided}
 use Rattle.itpg_base.specs.TextCodes.{text_place}
+use Rattle.itpg_base.proofs.TextOrder.{one_place, place_within}
 use Rattle.itpg_base.specs.declared.text_code.TextCode.{TextCode}
 use Rattle.itpg_base.specs.declared.text_code.TextCode.TheVariants.{Long, Byte, Tokens, Deep, Text, Number, Name, Range, Names, Terms}
 use Rattle.itpg_base.proofs.Searches.{is_true, either, both, same_word}
 use Rattle.script_lex.specs.Lexemes.{Lexeme}
 use Rattle.script_lex.specs.Lines.{Placed, behind_blanks, AreTokens}
 use Rattle.script_lex.proofs.Rows.{one_of_two}
+use Rattle.script_lex.specs.declared.token.TheConstants.{MAX_TOKENS}
+use Rattle.match_parser.specs.declared.checks.TheConstants.{MAX_TERMS}
+use Rattle.match_parser.specs.declared.scan.TheConstants.{MAX_DEPTH}
 use Rattle.path_ast.specs.Terms.{QueryTerm}
 use Rattle.path_ast.specs.Sizes.{path_size}
 use Rattle.match_parser.specs.Grammar.{QueryTree, query_text}
@@ -77,37 +81,8 @@ one_query one text p q r s =
     let a = alike r.tokens fit r.tree s.tree r.spells (s.spells ∙ sym same.tokens) in
     sym r.means ∙ (λ i. query_from (a.chain i) (a.graph_name i)) ∙ s.means
 
--- the codes by their places
-code_at : ℕ → TextCode
-code_at n = get_or (Long ∷ Long ∷ Byte ∷ Tokens ∷ Deep ∷ Text ∷ Number ∷ Name ∷ Range ∷ Names ∷ Terms ∷ []) n Long
-
-code_again : (c : TextCode) → code_at (text_place c) ≡ c
-unfolding code_at
-code_again Long = refl
-code_again Byte = refl
-code_again Tokens = refl
-code_again Deep = refl
-code_again Text = refl
-code_again Number = refl
-code_again Name = refl
-code_again Range = refl
-code_again Names = refl
-code_again Terms = refl
-
-same_place : (c d : TextCode) → text_place c ≡ text_place d → c ≡ d
-same_place c d e = sym (code_again c) ∙ ap code_at e ∙ code_again d
-
 pub code_small : (c : TextCode) → text_place c < 11
-code_small Long = omega arith
-code_small Byte = omega arith
-code_small Tokens = omega arith
-code_small Deep = omega arith
-code_small Text = omega arith
-code_small Number = omega arith
-code_small Name = omega arith
-code_small Range = omega arith
-code_small Names = omega arith
-code_small Terms = omega arith
+code_small c = let p = place_within c in omega (arith, p.most)
 
 meets_same : (xs ys : List Lexeme) (e f : Option TextCode) (c : TextCode) → OneText xs ys e f → Meets xs e c → Meets ys f c
 meets_same xs ys e f c same h = subst (λ (k : Option TextCode). Meets ys k c) same.end (subst (λ (l : List Lexeme). Meets l e c) same.tokens h)
@@ -122,7 +97,7 @@ one_fault one text c d a b =
       | inl less ↦ absurd (b.first c less (meets_same a.tokens b.tokens a.end b.end c same a.meets))
       | inr more ↦ elim (cases_lt (text_place d) (text_place c)) [
         | inl less ↦ absurd (a.first d less (meets_same b.tokens a.tokens b.end a.end d (back a.tokens b.tokens a.end b.end same) b.meets))
-        | inr less ↦ same_place c d (omega (arith, more, less))
+        | inr less ↦ one_place c d (omega (arith, more, less))
       ]
     ]
 
@@ -136,7 +111,7 @@ Clean ts end n = (c : TextCode) → text_place c < n → Meets ts end c → ⊥
 pub clean_more : (ts : List Lexeme) (end : Option TextCode) (d : TextCode) → Clean ts end (text_place d) → (Meets ts end d → ⊥) → Clean ts end (text_place d + 1)
 clean_more ts end d clean none c less = elim (cases_lt (text_place c) (text_place d)) [
   | inl before ↦ clean c before
-  | inr after ↦ λ m. none (subst (Meets ts end) (same_place c d (omega (arith, less, after))) m)
+  | inr after ↦ λ m. none (subst (Meets ts end) (one_place c d (omega (arith, less, after))) m)
 ]
 
 -- the tokens have a first fault, or none
@@ -163,8 +138,8 @@ one_at_least Range = omega arith
 one_at_least Names = omega arith
 one_at_least Terms = omega arith
 
-many_tokens : (ts : List Lexeme) → Decided (4096 < length ts)
-many_tokens ts = elim (cases_lt 4096 (length ts)) [ inl h ↦ inl h | inr n ↦ inr (λ h. omega (arith, n, h)) ]
+many_tokens : (ts : List Lexeme) → Decided (MAX_TOKENS < length ts)
+many_tokens ts = elim (cases_lt MAX_TOKENS (length ts)) [ inl h ↦ inl h | inr n ↦ inr (λ h. omega (arith, n, h)) ]
 
 -- how the tokens of a text end
 pub ends_in_two : (text : List ℕ) (at : ℕ) (ts : List Placed) (end : Option TextCode) → AreTokens text at ts end → (end ≡ None) ⊎ ((end ≡ Some Byte) ⊎ (end ≡ Some Text))
@@ -187,7 +162,7 @@ deep_upto : (ts : List Lexeme) (n : ℕ) → Decided ((k : ℕ) × ((k < n) × A
 deep_upto ts zero = inr (λ h. omega (arith, h.1.0))
 deep_upto ts (suc n) = elim (deep_upto ts n) [
   | inl h ↦ inl (h.0, (omega (arith, h.1.0), h.1.1))
-  | inr none ↦ elim (cases_lt (count_by closes (take n ts) + 64) (count_by opens (take n ts))) [
+  | inr none ↦ elim (cases_lt (count_by closes (take n ts) + MAX_DEPTH) (count_by opens (take n ts))) [
     | inl open_here ↦ inl (n, (omega arith, open_here))
     | inr closed ↦ inr (λ h. elim (cases_lt h.0 n) [
       | inl less ↦ none (h.0, (less, h.1.1))
@@ -253,10 +228,10 @@ pub names_decided : (c : Chain) → Decided (WrongNames c)
 names_decided c = either (is_true c.inner) (either (both (is_none c.first) (is_true (not c.later))) (same_name c.first c.last))
 
 abbrev pub ManyTerms : Chain → Type 0
-ManyTerms c = 1024 < path_size c.path
+ManyTerms c = MAX_TERMS < path_size c.path
 
 many_decided : (c : Chain) → Decided (ManyTerms c)
-many_decided c = elim (cases_lt 1024 (path_size c.path)) [ inl h ↦ inl h | inr n ↦ inr (λ h. omega (arith, n, h)) ]
+many_decided c = elim (cases_lt MAX_TERMS (path_size c.path)) [ inl h ↦ inl h | inr n ↦ inr (λ h. omega (arith, n, h)) ]
 
 abbrev pub BadRange : Chain → Type 0
 BadRange c = IsTrue (has_backwards c.path)

@@ -1,7 +1,7 @@
 -- Tokens that are taken one behind another, and what is said of them before any is kept.
 use Rattle.std.proofs.Common.{◌≡◌, ◌⊎◌, inl, inr, ⊎_elim, ◌↔◌, ℕ, suc, ◌+◌, ◌<◌, ◌≤◌, ◌||◌, Bool, true, false, List, [], ◌∷◌, ◌++◌, map, length, Option, Some, None, Result, Ok, Err, refl, sym, ap, subst, ◌∙◌, arith, true≢false, length-append}
 use Rattle.std.specs.Prelude.{nat_lt, count_by, cond, IsTrue, if◌then◌else◌, MatchResult, IfOk, IfErr}
-use Rattle.std.proofs.lemmas.Bool.{cases_lt, ltb-true, lt-ltb}
+use Rattle.std.proofs.lemmas.Bool.{or_cases, or_left, or_right, cases_lt, ltb-true, lt-ltb}
 use Rattle.std.proofs.lemmas.List.{map-append, take-append-le, take_all}
 use Rattle.std.proofs.lemmas.List.Sums.{sum_by-append}
 use Rattle.itpg_base.specs.declared.text_code.TextCode.{TextCode}
@@ -9,6 +9,8 @@ use Rattle.itpg_base.specs.declared.text_code.TextCode.TheVariants.{Long, Byte, 
 use Rattle.script_lex.specs.Lexemes.{Lexeme}
 use Rattle.script_lex.specs.Lines.{Placed, LeadTo, IsNext, EndsAt}
 use Rattle.script_lex.proofs.OneList.{lead_more, lead_end}
+use Rattle.script_lex.specs.declared.token.TheConstants.{MAX_TOKENS}
+use Rattle.match_parser.specs.declared.scan.TheConstants.{MAX_DEPTH}
 use Rattle.match_parser.specs.declared.scan.Look.{Look}
 use Rattle.match_parser.specs.Faults.{opens, closes, AreOpen, AreDeep}
 use Rattle.match_parser.specs.Reading.{lexeme_of, IsText, FaultOf}
@@ -52,21 +54,10 @@ deep_less ts t h = elim (cases_lt (length ts) h.0) [
 deep_here : (ts : List Lexeme) → AreOpen ts → AreDeep ts
 deep_here ts h = (length ts, subst AreOpen (sym (take_all (length ts) ts (omega arith))) h)
 
-either_true : (a b : Bool) → (a || b) ≡ true → (a ≡ true) ⊎ (b ≡ true)
-either_true true b e = inl refl
-either_true false b e = inr e
-
-first_or : (a b : Bool) → a ≡ true → (a || b) ≡ true
-first_or a b e = rw e refl
-
-second_or : (a b : Bool) → b ≡ true → (a || b) ≡ true
-second_or true b e = refl
-second_or false b e = e
-
 deep_flag : (ts : List Lexeme) (t : Lexeme) (old open_here : Bool) → (IsTrue old ↔ AreDeep ts) → (IsTrue open_here → AreOpen (ts ++ t ∷ [])) → (AreOpen (ts ++ t ∷ []) → IsTrue open_here) → IsTrue (old || open_here) ↔ AreDeep (ts ++ t ∷ [])
 deep_flag ts t old open_here was there back = (
-  λ e. ⊎_elim (λ o. deep_less ts t (was.0 o)) (λ n. deep_here (ts ++ t ∷ []) (there n)) (either_true old open_here e),
-  λ d. ⊎_elim (λ o. first_or old open_here (was.1 o)) (λ n. second_or old open_here (back n)) (deep_more ts t d),
+  λ e. ⊎_elim (λ o. deep_less ts t (was.0 o)) (λ n. deep_here (ts ++ t ∷ []) (there n)) (or_cases old open_here e),
+  λ d. ⊎_elim (λ o. or_left old open_here (was.1 o)) (λ n. or_right old open_here (back n)) (deep_more ts t d),
 )
 
 at_most_one : (b : Bool) → (let n : ℕ = if b then 1 else 0 in n) ≤ 1
@@ -75,15 +66,15 @@ at_most_one false = omega arith
 
 -- the look with one more token
 module _ (text : List ℕ) (look new : Look) (t : Placed) where
-  pub seen_more : HasSeen text look → IsNext text look.at t → look.at ≤ t.from → t.from < t.to → t.to ≤ length text → new.at ≡ t.to → new.count ≡ look.count + 1 → new.opened ≡ look.opened + (if opens t.what then 1 else 0) → new.closed ≡ look.closed + (if closes t.what then 1 else 0) → new.deep ≡ (look.deep || nat_lt (new.closed + 64) new.opened) → HasSeen text new
+  pub seen_more : HasSeen text look → IsNext text look.at t → look.at ≤ t.from → t.from < t.to → t.to ≤ length text → new.at ≡ t.to → new.count ≡ look.count + 1 → new.opened ≡ look.opened + (if opens t.what then 1 else 0) → new.closed ≡ look.closed + (if closes t.what then 1 else 0) → new.deep ≡ (look.deep || nat_lt (new.closed + MAX_DEPTH) new.opened) → HasSeen text new
   seen_more s n from some to at count opened closed deep =
       let ts : List Lexeme = map lexeme_of s.placed in
       let all : map lexeme_of (s.placed ++ t ∷ []) ≡ map lexeme_of s.placed ++ t.what ∷ [] = map-append lexeme_of s.placed (t ∷ []) in
       let open_count : new.opened ≡ count_by opens (map lexeme_of s.placed ++ t.what ∷ []) = opened ∙ ap (λ (k : ℕ). k + (if opens t.what then 1 else 0)) s.opened ∙ sym (count_more opens (map lexeme_of s.placed) t.what) in
       let close_count : new.closed ≡ count_by closes (map lexeme_of s.placed ++ t.what ∷ []) = closed ∙ ap (λ (k : ℕ). k + (if closes t.what then 1 else 0)) s.closed ∙ sym (count_more closes (map lexeme_of s.placed) t.what) in
-      let flag = deep_flag (map lexeme_of s.placed) t.what look.deep (nat_lt (new.closed + 64) new.opened) s.deep
-      (λ e. let less : new.closed + 64 < new.opened = ltb-true (new.closed + 64) new.opened e in omega (arith, less, open_count, close_count))
-      (λ o. lt-ltb (new.closed + 64) new.opened (omega (arith, o, open_count, close_count))) in
+      let flag = deep_flag (map lexeme_of s.placed) t.what look.deep (nat_lt (new.closed + MAX_DEPTH) new.opened) s.deep
+      (λ e. let less : new.closed + MAX_DEPTH < new.opened = ltb-true (new.closed + MAX_DEPTH) new.opened e in omega (arith, less, open_count, close_count))
+      (λ o. lt-ltb (new.closed + MAX_DEPTH) new.opened (omega (arith, o, open_count, close_count))) in
       record {
         placed = s.placed ++ t ∷ [];
         lead = subst (LeadTo text 0 (s.placed ++ t ∷ [])) (sym at) (lead_more text 0 look.at s.placed t s.lead n);
@@ -94,7 +85,7 @@ module _ (text : List ℕ) (look new : Look) (t : Placed) where
         count = omega (arith, count, s.count, length-append s.placed (t ∷ []));
         opened = open_count ∙ ap (count_by opens) (sym all);
         closed = close_count ∙ ap (count_by closes) (sym all);
-        deep = subst (λ (b : Bool). IsTrue b ↔ AreDeep (map lexeme_of (s.placed ++ t ∷ []))) (sym deep) (subst (λ (l : List Lexeme). IsTrue (look.deep || nat_lt (new.closed + 64) new.opened) ↔ AreDeep l) (sym all) flag);
+        deep = subst (λ (b : Bool). IsTrue b ↔ AreDeep (map lexeme_of (s.placed ++ t ∷ []))) (sym deep) (subst (λ (l : List Lexeme). IsTrue (look.deep || nat_lt (new.closed + MAX_DEPTH) new.opened) ↔ AreDeep l) (sym all) flag);
       }
 
 -- what is said at the end of the tokens
@@ -111,15 +102,15 @@ module _ (text : List ℕ) (ts : List Lexeme) (count : ℕ) (many : count ≡ le
   end_said (Some c) is (inr e) clean = subst (FaultOf text) (sym (let same : c ≡ Text = cc in same)) (record { tokens = ts; end = Some c; is = is; meets = inl e; first = clean })
 
   depth_said : (end : Option TextCode) → IsText text ts end → (end ≡ None) ⊎ (end ≡ Some Text) → Clean ts end 3 → Said text end (by_depth count deep end)
-  depth_said end is two clean = by_count (nat_lt 4096 count) refl
+  depth_said end is two clean = by_count (nat_lt MAX_TOKENS count) refl
     where
       by_flag : (d : Bool) → deep ≡ d → Clean ts end 4 → Said text end (if d then Err Deep else by_end count end)
       by_flag true d c4 = record { tokens = ts; end = end; is = is; meets = flag.0 d; first = c4 }
       by_flag false d c4 = end_said end is two (clean_more ts end Deep c4 (λ m. true≢false (sym (flag.1 m) ∙ d)))
 
-      by_count : (b : Bool) → nat_lt 4096 count ≡ b → Said text end (if b then Err Tokens else (if deep then Err Deep else by_end count end))
-      by_count true b = record { tokens = ts; end = end; is = is; meets = let above : 4096 < count = ltb-true 4096 count b in omega (arith, above, many); first = clean }
-      by_count false b = by_flag deep refl (clean_more ts end Tokens clean (λ m. true≢false (sym (lt-ltb 4096 count (omega (arith, m, many))) ∙ b)))
+      by_count : (b : Bool) → nat_lt MAX_TOKENS count ≡ b → Said text end (if b then Err Tokens else (if deep then Err Deep else by_end count end))
+      by_count true b = record { tokens = ts; end = end; is = is; meets = let above : MAX_TOKENS < count = ltb-true MAX_TOKENS count b in omega (arith, above, many); first = clean }
+      by_count false b = by_flag deep refl (clean_more ts end Tokens clean (λ m. true≢false (sym (lt-ltb MAX_TOKENS count (omega (arith, m, many))) ∙ b)))
 
   pub all_said : (end : Option TextCode) → IsText text ts end → (end ≡ None) ⊎ ((end ≡ Some Byte) ⊎ (end ≡ Some Text)) → Said text end (judged count deep end)
   all_said end is (inl e) = subst (λ (k : Option TextCode). IsText text ts k → Said text k (judged count deep k)) (sym e) (λ i. depth_said None i (inl refl) (clean_more ts None Byte (clean_long ts None) (λ m. let none : ⊥ = cc in none))) is

@@ -2,7 +2,7 @@
 use Rattle.std.proofs.Common.{◌≡◌, ◌⊎◌, inl, inr, ⊎_elim, ℕ, ◌+◌, ◌*◌, ◌≤◌, ◌||◌, Bool, true, false, not, List, [], ◌∷◌, length, Option, Some, None, refl, sym, ap, subst, ◌∙◌, arith, true≢false}
 use Rattle.std.specs.Prelude.{nat_lt, IsTrue, if◌then◌else◌, MatchOption}
 use Rattle.std.specs.Cmp.Lexicographic.{bytes_decides}
-use Rattle.std.proofs.lemmas.Bool.{cases_lt, ltb-true, lt-ltb}
+use Rattle.std.proofs.lemmas.Bool.{or_cases, cases_lt, ltb-true, lt-ltb}
 use Rattle.itpg_base.specs.declared.text_code.TextCode.{TextCode}
 use Rattle.itpg_base.specs.declared.text_code.TextCode.TheVariants.{Tokens, Text, Number, Name, Range, Names, Terms}
 use Rattle.script_lex.specs.declared.token.What.{What}
@@ -12,6 +12,8 @@ use Rattle.script_lex.proofs.OneList.{tokens_unique}
 use Rattle.script_lex.specs.Numbers.{IsNumber, number_value}
 use Rattle.itpg_base.specs.Spans.{IsMoment}
 use Rattle.itpg_base.specs.TextCodes.{text_place}
+use Rattle.script_lex.specs.declared.token.TheConstants.{MAX_TOKENS}
+use Rattle.match_parser.specs.declared.checks.TheConstants.{MAX_TERMS}
 use Rattle.match_parser.specs.Kept.{is_tame}
 use Rattle.path_ast.specs.Terms.{QueryTerm}
 use Rattle.path_ast.specs.Sizes.{path_size}
@@ -50,7 +52,7 @@ few_terms text ts k c g e =
     let small = query_small w.tree in
     let long : length (query_text w.tree) ≡ length ts = ap length w.spells in
     let size : path_size (chain_kept w.tree.chain).path ≡ path_size c.path = ap (λ (x : Chain). path_size x.path) w.chain in
-    elim (cases_lt 4096 (length ts)) [ inl many ↦ absurd (k.clean Tokens (omega arith) many) | inr few ↦ omega (arith, few, small, long, size) ]
+    elim (cases_lt MAX_TOKENS (length ts)) [ inl many ↦ absurd (k.clean Tokens (omega arith) many) | inr few ↦ omega (arith, few, small, long, size) ]
 
 -- no query is spelled
 pub no_query : (text : List ℕ) (ts : List Lexeme) → Known text ts → query_at (fuel_of ts) ts ≡ None → FaultOf text Text
@@ -66,10 +68,6 @@ no_query text ts k e = record {
     none_some x h = let none : ⊥ = cc in none
 
 -- the tests of tokens
-first_or_rest : (a b : Bool) → (a || b) ≡ true → (a ≡ true) ⊎ (b ≡ true)
-first_or_rest true b e = inl refl
-first_or_rest false b e = inr e
-
 pub neither_first : (a b : Bool) → (a || b) ≡ false → a ≡ false
 neither_first true b e = e
 neither_first false b e = refl
@@ -90,7 +88,7 @@ some_wild [] h e = absurd (true≢false (sym e))
 some_wild (whats.Word w ∷ ls) h e = inr (some_wild ls h.1 e)
 some_wild (whats.Quoted w ∷ ls) h e = inr (some_wild ls h.1 e)
 some_wild (whats.Mark w ∷ ls) h e = inr (some_wild ls h.1 e)
-some_wild (whats.Number w ∷ ls) h e = elim (first_or_rest _ _ e) [ inl f ↦ inl (wild_number w.now h.0 f) | inr r ↦ inr (some_wild ls h.1 r) ]
+some_wild (whats.Number w ∷ ls) h e = elim (or_cases _ _ e) [ inl f ↦ inl (wild_number w.now h.0 f) | inr r ↦ inr (some_wild ls h.1 r) ]
 
 no_wild : (ls : List What) → some_what is_wild ls ≡ false → SomeToken IsWild (lexemes ls) → ⊥
 no_wild [] e s = s
@@ -103,8 +101,8 @@ some_overlong : (ls : List What) → some_what is_overlong ls ≡ true → SomeT
 some_overlong [] e = absurd (true≢false (sym e))
 some_overlong (whats.Number w ∷ ls) e = inr (some_overlong ls e)
 some_overlong (whats.Mark w ∷ ls) e = inr (some_overlong ls e)
-some_overlong (whats.Word w ∷ ls) e = elim (first_or_rest _ _ e) [ inl f ↦ inl (ltb-true 64 (length w.now) f) | inr r ↦ inr (some_overlong ls r) ]
-some_overlong (whats.Quoted w ∷ ls) e = elim (first_or_rest _ _ e) [ inl f ↦ inl (ltb-true 64 (length w.now) f) | inr r ↦ inr (some_overlong ls r) ]
+some_overlong (whats.Word w ∷ ls) e = elim (or_cases _ _ e) [ inl f ↦ inl (ltb-true 64 (length w.now) f) | inr r ↦ inr (some_overlong ls r) ]
+some_overlong (whats.Quoted w ∷ ls) e = elim (or_cases _ _ e) [ inl f ↦ inl (ltb-true 64 (length w.now) f) | inr r ↦ inr (some_overlong ls r) ]
 
 no_overlong : (ls : List What) → some_what is_overlong ls ≡ false → SomeToken IsOverlong (lexemes ls) → ⊥
 no_overlong [] e s = s
@@ -127,7 +125,7 @@ wrong_ends (Some v) None later (inr h) = absurd (let e = h.2 in let none : ⊥ =
 wrong_ends (Some v) (Some w) later (inr h) = (bytes_decides v w).1 (let e = h.1 in let f = h.2 in cc)
 
 names_wrong : (c : Chain) → are_names_wrong c ≡ true → WrongNames c
-names_wrong c e = elim (first_or_rest c.inner (ends_are_wrong c.first c.last c.later) e) [ inl f ↦ inl f | inr r ↦ inr (ends_wrong c.first c.last c.later r) ]
+names_wrong c e = elim (or_cases c.inner (ends_are_wrong c.first c.last c.later) e) [ inl f ↦ inl f | inr r ↦ inr (ends_wrong c.first c.last c.later r) ]
 
 names_right : (c : Chain) → are_names_wrong c ≡ false → WrongNames c → ⊥
 names_right c e w = ⊎_elim
@@ -154,15 +152,15 @@ module _ (text : List ℕ) (ts : List Lexeme) (is : IsText text ts None) where
     good : Clean ts None 11 → Reads text (query_made c g)
     good clean = record { tokens = ts; is = is; tree = q; spells = s; means = (λ i. query_made (chain_is i) (graph_is i)); clean = λ d m. clean d (code_small d) m }
 
-    by_terms : (b : Bool) → nat_lt 1024 (path_size c.path) ≡ b → Clean ts None 10 → Outcome text c g (if b then Some Terms else None)
-    by_terms true e clean = bad Terms (spells_it ts fit q s c chain_is ManyTerms (ltb-true 1024 (path_size c.path) e)) clean
-    by_terms false e clean = good (clean_more ts None Terms clean (spells_not ts fit q s c chain_is ManyTerms (λ m. true≢false (sym (lt-ltb 1024 (path_size c.path) m) ∙ e))))
+    by_terms : (b : Bool) → nat_lt MAX_TERMS (path_size c.path) ≡ b → Clean ts None 10 → Outcome text c g (if b then Some Terms else None)
+    by_terms true e clean = bad Terms (spells_it ts fit q s c chain_is ManyTerms (ltb-true MAX_TERMS (path_size c.path) e)) clean
+    by_terms false e clean = good (clean_more ts None Terms clean (spells_not ts fit q s c chain_is ManyTerms (λ m. true≢false (sym (lt-ltb MAX_TERMS (path_size c.path) m) ∙ e))))
 
-    by_names : (b : Bool) → are_names_wrong c ≡ b → Clean ts None 9 → Outcome text c g (if b then Some Names else (if nat_lt 1024 (path_size c.path) then Some Terms else None))
+    by_names : (b : Bool) → are_names_wrong c ≡ b → Clean ts None 9 → Outcome text c g (if b then Some Names else (if nat_lt MAX_TERMS (path_size c.path) then Some Terms else None))
     by_names true e clean = bad Names (spells_it ts fit q s c chain_is WrongNames (names_wrong c e)) clean
-    by_names false e clean = by_terms (nat_lt 1024 (path_size c.path)) refl (clean_more ts None Names clean (spells_not ts fit q s c chain_is WrongNames (names_right c e)))
+    by_names false e clean = by_terms (nat_lt MAX_TERMS (path_size c.path)) refl (clean_more ts None Names clean (spells_not ts fit q s c chain_is WrongNames (names_right c e)))
 
-    by_range : (b : Bool) → has_backwards c.path ≡ b → Clean ts None 8 → Outcome text c g (if b then Some Range else (if are_names_wrong c then Some Names else (if nat_lt 1024 (path_size c.path) then Some Terms else None)))
+    by_range : (b : Bool) → has_backwards c.path ≡ b → Clean ts None 8 → Outcome text c g (if b then Some Range else (if are_names_wrong c then Some Names else (if nat_lt MAX_TERMS (path_size c.path) then Some Terms else None)))
     by_range true e clean = bad Range (spells_it ts fit q s c chain_is BadRange e) clean
     by_range false e clean = by_names (are_names_wrong c) refl (clean_more ts None Range clean (spells_not ts fit q s c chain_is BadRange (λ m. true≢false (sym m ∙ e))))
 
@@ -179,16 +177,16 @@ later_said text ls k c g e o is = subst (Outcome text c g) (sym is) (by_wild (so
     c5 : Clean (lexemes ls) None 6
     c5 = clean_more (lexemes ls) None Text k.clean (λ m. ⊎_elim (λ f. let none : ⊥ = cc in none) (λ none. none w.tree w.spells) m)
 
-    by_fit : AllFit (lexemes ls) → Clean (lexemes ls) None 8 → Outcome text c g (if has_backwards c.path then Some Range else (if are_names_wrong c then Some Names else (if nat_lt 1024 (path_size c.path) then Some Terms else None)))
+    by_fit : AllFit (lexemes ls) → Clean (lexemes ls) None 8 → Outcome text c g (if has_backwards c.path then Some Range else (if are_names_wrong c then Some Names else (if nat_lt MAX_TERMS (path_size c.path) then Some Terms else None)))
     by_fit fit clean =
         let exact = query_fits w.tree (subst AllFit (sym w.spells) fit) in
         by_range text (lexemes ls) k.is fit w.tree w.spells c g (sym exact.chain ∙ w.chain) (sym exact.graph_name ∙ w.graph) (has_backwards c.path) refl clean
 
-    by_overlong : (SomeToken IsWild (lexemes ls) → ⊥) → (b : Bool) → some_what is_overlong ls ≡ b → Clean (lexemes ls) None 7 → Outcome text c g (if b then Some Name else (if has_backwards c.path then Some Range else (if are_names_wrong c then Some Names else (if nat_lt 1024 (path_size c.path) then Some Terms else None))))
+    by_overlong : (SomeToken IsWild (lexemes ls) → ⊥) → (b : Bool) → some_what is_overlong ls ≡ b → Clean (lexemes ls) None 7 → Outcome text c g (if b then Some Name else (if has_backwards c.path then Some Range else (if are_names_wrong c then Some Names else (if nat_lt MAX_TERMS (path_size c.path) then Some Terms else None))))
     by_overlong tame true h clean = bad text (lexemes ls) k.is Name (some_overlong ls h) clean
     by_overlong tame false h clean = by_fit (all_fit (lexemes ls) numbers tame (no_overlong ls h)) (clean_more (lexemes ls) None Name clean (no_overlong ls h))
 
-    by_wild : (b : Bool) → some_what is_wild ls ≡ b → Outcome text c g (if b then Some Number else (if some_what is_overlong ls then Some Name else (if has_backwards c.path then Some Range else (if are_names_wrong c then Some Names else (if nat_lt 1024 (path_size c.path) then Some Terms else None)))))
+    by_wild : (b : Bool) → some_what is_wild ls ≡ b → Outcome text c g (if b then Some Number else (if some_what is_overlong ls then Some Name else (if has_backwards c.path then Some Range else (if are_names_wrong c then Some Names else (if nat_lt MAX_TERMS (path_size c.path) then Some Terms else None)))))
     by_wild true h = bad text (lexemes ls) k.is Number (some_wild ls numbers h) c5
     by_wild false h = by_overlong (no_wild ls h) (some_what is_overlong ls) refl (clean_more (lexemes ls) None Number c5 (no_wild ls h))
 

@@ -6,6 +6,10 @@ use Rattle.itpg_base.specs.Spans.{IsMoment}
 use Rattle.script_lex.specs.Lexemes.{Lexeme, AWord, ANumber, AQuote, AMark}
 use Rattle.script_lex.specs.Numbers.{number_value}
 use Rattle.script_lex.specs.declared.mark.Mark.TheVariants.{ParenL, ParenR, BraceL, BraceR, BrackL, BrackR}
+use Rattle.script_lex.specs.declared.token.TheConstants.{MAX_TOKENS}
+use Rattle.itpg_base.specs.declared.name.TheConstants.{MAX_NAME}
+use Rattle.match_parser.specs.declared.checks.TheConstants.{MAX_TERMS}
+use Rattle.match_parser.specs.declared.scan.TheConstants.{MAX_DEPTH}
 use Rattle.path_ast.specs.Terms.{PathTerm, OfTest, Forward, Backward, Next, Previous, Sequence, Choice, Repetition, TestTerm, IsNode, IsEdge, HasLabel, HasValue, IsBelow, DoesExist, Condition, Conjunction, Disjunction, Negation}
 use Rattle.path_ast.specs.Sizes.{path_size}
 use Rattle.match_parser.specs.Grammar.{ChainTree, OnePattern, MorePattern, QueryTree, query_text}
@@ -25,9 +29,9 @@ closes (AMark BrackR) = true
 closes (AMark BraceR) = true
 closes t = false
 
--- the tokens have more opening brackets than closing ones, by more than 64
+-- the tokens have more opening brackets than closing ones, by more than brackets may stand in one another
 abbrev pub AreOpen : List Lexeme → Type 0
-AreOpen tokens = count_by closes tokens + 64 < count_by opens tokens
+AreOpen tokens = count_by closes tokens + MAX_DEPTH < count_by opens tokens
 
 -- some front of the tokens has
 abbrev pub AreDeep : List Lexeme → Type 0
@@ -43,10 +47,10 @@ abbrev pub IsWild : Lexeme → Type 0
 IsWild (ANumber number) = ¬ IsMoment (number_value number)
 IsWild t = ⊥
 
--- a word or a quoted text of more than 64 bytes
+-- a word or a quoted text longer than a name may be
 abbrev pub IsOverlong : Lexeme → Type 0
-IsOverlong (AWord word) = 64 < length word
-IsOverlong (AQuote text) = 64 < length text
+IsOverlong (AWord word) = MAX_NAME < length word
+IsOverlong (AQuote text) = MAX_NAME < length text
 IsOverlong t = ⊥
 
 -- the least number of times is above the most
@@ -101,7 +105,7 @@ AreNamesWrong c = IsTrue (inner_named c) ⊎ (IsNameless c ⊎ IsNameTwice c)
 
 -- the path has more than 1,024 terms
 abbrev pub HasManyTerms : PathTerm → Type 0
-HasManyTerms p = 1024 < path_size p
+HasManyTerms p = MAX_TERMS < path_size p
 
 -- the tokens are a query, and it is so
 abbrev pub SpellsSome : List Lexeme → (QueryTree → Type 0) → Type 0
@@ -111,7 +115,7 @@ SpellsSome tokens Is = (q : QueryTree) × (query_text q ≡ tokens) × Is q
 abbrev pub Meets : List Lexeme → Option TextCode → TextCode → Type 0
 Meets tokens end Long = ⊥
 Meets tokens end Byte = end ≡ Some Byte
-Meets tokens end Tokens = 4096 < length tokens
+Meets tokens end Tokens = MAX_TOKENS < length tokens
 Meets tokens end Deep = AreDeep tokens
 Meets tokens end Text = (end ≡ Some Text) ⊎ ((q : QueryTree) → query_text q ≡ tokens → ⊥)
 Meets tokens end Number = SomeToken IsWild tokens

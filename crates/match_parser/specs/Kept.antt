@@ -4,10 +4,12 @@ use Rattle.std.specs.Char.{is_ascii_digit}
 use Rattle.std.specs.List.{list_all}
 use Rattle.std.specs.Str.Parse.{digits_value}
 use Rattle.script_lex.specs.Numbers.{digits_of, number_value}
+use Rattle.script_lex.specs.declared.numbers.TheConstants.{MAX_NUMBER}
+use Rattle.itpg_base.specs.declared.name.TheConstants.{MAX_NAME}
 
--- the word, where it has at most 64 bytes
+-- the word, where it is no longer than a name may be
 unfoldable pub kept_name : List ℕ → List ℕ
-kept_name w = if nat_le (length w) 64 then w else []
+kept_name w = if nat_le (length w) MAX_NAME then w else []
 
 -- the bytes are a number: one digit or more, with or without a `-` before them
 abbrev pub is_number : List ℕ → Bool
@@ -15,7 +17,7 @@ is_number n = not (nat_eq (length (digits_of n)) 0) && list_all is_ascii_digit (
 
 -- one from -10^12 to 10^12
 abbrev pub is_tame : List ℕ → Bool
-is_tame n = is_number n && nat_le (digits_value 10 (digits_of n)) 1000000000000
+is_tame n = is_number n && nat_le (digits_value 10 (digits_of n)) MAX_NUMBER
 
 -- the number, where it is
 unfoldable pub kept_value : List ℕ → ℤ

@@ -6,6 +6,7 @@ use Rattle.itpg_base.specs.declared.text_code.TextCode.{TextCode}
 use Rattle.itpg_base.specs.declared.text_code.TextCode.TheVariants.{Number, Name, Range, Names, Terms}
 use Rattle.script_lex.specs.declared.token.What.{What}
 use Rattle.script_lex.specs.Lexemes.{Lexeme, lexeme, AWord, ANumber, AQuote, AMark}
+use Rattle.match_parser.specs.declared.checks.TheConstants.{MAX_TERMS}
 use Rattle.path_ast.specs.Sizes.{path_size}
 use Rattle.match_parser.specs.Faults.{has_backwards}
 use Rattle.match_parser.specs.Kept.{is_tame}
@@ -42,7 +43,7 @@ later_of ts c =
     if some_what is_overlong ts then Some Name else (
     if has_backwards c.path then Some Range else (
     if are_names_wrong c then Some Names else (
-    if nat_lt 1024 (path_size c.path) then Some Terms else None
+    if nat_lt MAX_TERMS (path_size c.path) then Some Terms else None
     )
     )
     )

@@ -5,6 +5,7 @@ use Rattle.itpg_base.specs.declared.text_code.TextCode.TheVariants.{Long, Byte, 
 use Rattle.itpg_base.specs.TextCodes.{text_place}
 use Rattle.script_lex.specs.Lexemes.{Lexeme}
 use Rattle.script_lex.specs.Lines.{Placed, LeadTo}
+use Rattle.script_lex.specs.declared.token.TheConstants.{MAX_TOKENS}
 use Rattle.match_parser.specs.declared.scan.Look.{Look}
 use Rattle.match_parser.specs.Faults.{opens, closes, AreDeep, Meets}
 use Rattle.match_parser.specs.Reading.{lexeme_of, IsText}
@@ -28,7 +29,7 @@ by_end count None = Ok count
 by_end count (Some code) = Err code
 
 abbrev pub by_depth : ℕ → Bool → Option TextCode → Result ℕ TextCode
-by_depth count deep end = if nat_lt 4096 count then Err Tokens else (if deep then Err Deep else by_end count end)
+by_depth count deep end = if nat_lt MAX_TOKENS count then Err Tokens else (if deep then Err Deep else by_end count end)
 
 -- the first fault of those that don't depend on what the tokens are
 abbrev pub judged : ℕ → Bool → Option TextCode → Result ℕ TextCode

@@ -1,6 +1,7 @@
 //! Paths and tests of two parts, and of one.
 ghost use Rattle.std.specs.Prelude.{◌≡◌, Option, Some, None, ℕ, IfOk};
-ghost use Rattle.path_ast.specs.Terms.{path_term, test_term, OfTest, Sequence, Choice, Repetition, IsBelow, Condition, Conjunction, Disjunction, Negation, DoesExist, Forward, Backward, Next, Previous};
+ghost use Rattle.path_ast.specs.Terms.{path_term, OfTest, Sequence, Choice, Repetition, Forward, Backward, Next, Previous};
+ghost use Rattle.path_ast.specs.Terms.{test_term, IsBelow, Condition, Conjunction, Disjunction, Negation, DoesExist};
 ghost use Rattle.match_parser.specs.Translation.{axis_path, node_test};
 ghost use Rattle.match_parser.specs.Parsing.{repeated};
 

@@ -13,8 +13,8 @@ use itpg_base::{MAX_NAME, TextCode};
 use path_ast::{Path, Test, terms};
 use script_lex::What;
 
-// How many terms the path of a query may have.
-const MAX_TERMS: usize = 1024;
+/// How many terms the path of a query may have.
+pub const MAX_TERMS: usize = 1_024;
 
 // Whether the token is a number out of range.
 fn is_wild(what: &What) -> bool

@@ -1,14 +1,16 @@
 //! Why a query text gives no query.
-
 use itpg_base::TextCode;
 use std::alloc::{AllocError, AllocFailed};
+use thiserror::Error;
 
 /// Why a query text gives no query.
-#[derive(Clone, Copy, Debug, PartialEq, Eq)]
+#[derive(Clone, Copy, Debug, PartialEq, Eq, Error)]
 pub enum QueryFault {
     /// There was no memory for it.
+    #[error("memory was wanting for the query")]
     Memory,
     /// The first fault of the text.
+    #[error("the text is no query: `{}`", .0.word())]
     Bad(TextCode),
 }
 

@@ -41,7 +41,7 @@ fn are_digits(bytes: &[u8]) -> bool
     bytes.iter().all(|byte| byte.is_ascii_digit())
 }
 
-// The number, where it is from -10^12 to 10^12.
+// The number, where it is no further from zero than `MAX_NUMBER`.
 pub(crate) fn tame_value(bytes: &[u8]) -> Option<i64>
     ensures { result ≡ (if is_tame bytes.now then Some (number_value bytes.now) else None) }
 {

@@ -4,6 +4,7 @@ ghost use Rattle.itpg_base.specs.declared.text_code.TextCode.{TextCode};
 ghost use Rattle.path_ast.specs.Terms.{QueryTerm};
 ghost use Rattle.path_ast.specs.Sizes.{path_size, IsPathInRange};
 ghost use Rattle.match_parser.specs.Reading.{Reads, FaultOf};
+ghost use Rattle.match_parser.specs.declared.checks.TheConstants.{MAX_TERMS};
 
 use script_lex::law_of_tokens;
 
@@ -17,9 +18,9 @@ pub fn law_of_queries()
     law_of_tokens();
 }
 
-/// What a text reads as is in range, has at most 1,024 terms, and asks for an end of its path or for both.
+/// What a text reads as is in range, has at most `MAX_TERMS` terms, and asks for an end of its path or for both.
 pub fn law_of_read_queries()
     ensures range { (text : List ℕ) (q : QueryTerm) → Reads text q → IsPathInRange q.path }
-    ensures terms { (text : List ℕ) (q : QueryTerm) → Reads text q → path_size q.path ≤ 1024 }
+    ensures terms { (text : List ℕ) (q : QueryTerm) → Reads text q → path_size q.path ≤ MAX_TERMS }
     ensures ends { (text : List ℕ) (q : QueryTerm) → Reads text q → IsTrue (q.first || q.last) }
 {}

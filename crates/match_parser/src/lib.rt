@@ -7,16 +7,16 @@
 
 mod build;
 mod checks;
-mod facts;
+mod facts_and_steps;
 mod fault;
-mod front;
 mod kept;
 mod laws;
-mod levels;
+mod paths_and_tests;
 mod patterns;
 mod reading;
 mod scan;
 mod times;
+mod tokens;
 mod words;
 
 pub use fault::QueryFault;

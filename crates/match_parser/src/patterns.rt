@@ -1,16 +1,17 @@
 //! Patterns, the chain of them with the paths between, and the whole of a query.
 ghost use Rattle.std.specs.Prelude.{◌≡◌, ℕ, ◌+◌, ◌*◌, ◌<◌, ◌≤◌, length, Some, IfOk};
 ghost use Rattle.path_ast.specs.Terms.{path_term, test_term};
-ghost use Rattle.match_parser.specs.Parsing.{or_at, alt_at, name_at, and_label as label_and, and_tests as tests_and, pattern_by, piece_by, chain_at, graph_at, query_at, chain_of, with_piece as piece_with};
+ghost use Rattle.match_parser.specs.Parsing.{or_at, alt_at, name_at, pattern_by, piece_by, chain_at, graph_at, query_at};
+ghost use Rattle.match_parser.specs.Parsing.{and_label as label_and, and_tests as tests_and, chain_of, with_piece as piece_with};
 ghost use Rattle.match_parser.specs.Gives.{lexemes, seen, Gives, GivesFor};
 ghost use Rattle.match_parser.specs.Views.{pattern_view, chain_view, piece_view, query_view};
 
 use crate::build;
-use crate::facts::label;
+use crate::facts_and_steps::label;
 use crate::fault::Stop;
-use crate::front::{expect, first, skip_mark, skip_word, word};
 use crate::kept::keep_name;
-use crate::levels::{alt, tests};
+use crate::paths_and_tests::{alt, tests};
+use crate::tokens::{expect, first, skip_mark, skip_word, word};
 use itpg_base::Name;
 use path_ast::{Path, Test};
 use script_lex::{Mark, What};

@@ -8,13 +8,11 @@ ghost use Rattle.match_parser.specs.Gives.{lexemes};
 ghost use Rattle.match_parser.specs.Scans.{judged, IsSurveyed};
 
 use itpg_base::TextCode;
-use script_lex::{Mark, Token, What, next_token};
+use script_lex::{MAX_TOKENS, Mark, Token, What, next_token};
 use std::alloc::{AllocError, Global};
 
-// How many tokens a text may have.
-const MAX_TOKENS: usize = 4096;
-// How deep brackets may stand in one another.
-const MAX_DEPTH: usize = 64;
+/// How deep brackets may stand in one another.
+pub const MAX_DEPTH: usize = 64;
 
 // How far a look at a text has come, and what it has counted.
 #[derive(Clone, Copy)]
@@ -58,7 +56,7 @@ fn look_on(look: Look, token: &Token) -> Look
     ensures count { result.count ≡ look.count + 1 }
     ensures opened { result.opened ≡ look.opened + (if opening (lexeme token.now.what) then 1 else 0) }
     ensures closed { result.closed ≡ look.closed + (if closing (lexeme token.now.what) then 1 else 0) }
-    ensures deep { result.deep ≡ (look.deep || nat_lt (result.closed + 64) result.opened) }
+    ensures deep { result.deep ≡ (look.deep || nat_lt (result.closed + MAX_DEPTH) result.opened) }
 {
     let opened = look.opened + usize::from(opens(&token.what));
     let closed = look.closed + usize::from(closes(&token.what));

@@ -5,8 +5,8 @@ ghost use Rattle.match_parser.specs.Parsing.{moment_at, count_at, most_at, bound
 ghost use Rattle.match_parser.specs.Gives.{lexemes, seen, Gives};
 
 use crate::fault::Stop;
-use crate::front::{expect, number, skip_mark};
 use crate::kept::{is_signed, keep_count, keep_value};
+use crate::tokens::{expect, number, skip_mark};
 use script_lex::{Mark, What};
 
 // The number that stands first, and the tokens behind it.

@@ -1,5 +1,6 @@
 -- A token is written at the front of the bytes that it is read from.
 use Rattle.std.proofs.Common.{◌≡◌, ℕ, ◌<◌, List, [], ◌∷◌, ◌++◌, Bool, true, false, ◌&&◌, Option, Some, None, ◌⊎◌, inl, inr, length, take, drop, refl, sym, ap, ◌∙◌, subst, arith, take-append-drop, append_assoc, true≢false, lit<}
+use Rattle.std.proofs.lemmas.Option.{same_Some}
 use Rattle.std.specs.Prelude.{nat_eq, option_map, find}
 use Rattle.std.specs.Char.{is_ascii_alphabetic, is_ascii_digit}
 use Rattle.std.specs.Cmp.Lexicographic.{bytes_decides}
@@ -25,9 +26,6 @@ pub record IsRead (bytes : List ℕ) (t : Lexeme) : Type 0 where
   pub front : IsFront (written t) bytes
   pub number : HasNumber t
 
-some_is : {X : Type 0} (x y : X) → Some x ≡ Some y → x ≡ y
-some_is x y e = cc
-
 word_read : (bytes : List ℕ) (t : Lexeme) → word_row bytes ≡ Some t → IsRead bytes t
 word_read [] t e = absurd (let none : ⊥ = cc in none)
 word_read (b ∷ bs) t e = by_test (is_ascii_alphabetic b) refl
@@ -46,7 +44,7 @@ word_read (b ∷ bs) t e = by_test (is_ascii_alphabetic b) refl
     }
 
     by_test : (v : Bool) → is_ascii_alphabetic b ≡ v → IsRead (b ∷ bs) t
-    by_test true a = subst (IsRead (b ∷ bs)) (some_is (AWord (b ∷ take_while is_word_byte bs)) t (rw a at e)) whole
+    by_test true a = subst (IsRead (b ∷ bs)) (same_Some (AWord (b ∷ take_while is_word_byte bs)) t (rw a at e)) whole
     by_test false a = absurd (let f : None ≡ Some t = rw a at e in let none : ⊥ = cc in none)
 
 number_is : (b : ℕ) (bs : List ℕ) → begins_number (b ∷ bs) ≡ true → IsNumber (b ∷ take_while is_ascii_digit bs)
@@ -73,7 +71,7 @@ number_read (b ∷ bs) t e = by_test (begins_number (b ∷ bs)) refl
     }
 
     by_test : (v : Bool) → begins_number (b ∷ bs) ≡ v → IsRead (b ∷ bs) t
-    by_test true a = subst (IsRead (b ∷ bs)) (some_is (ANumber (b ∷ take_while is_ascii_digit bs)) t (rw a at e)) (whole a)
+    by_test true a = subst (IsRead (b ∷ bs)) (same_Some (ANumber (b ∷ take_while is_ascii_digit bs)) t (rw a at e)) (whole a)
     by_test false a = absurd (let f : None ≡ Some t = rw a at e in let none : ⊥ = cc in none)
 
 -- what stands behind the run begins with the byte
@@ -99,7 +97,7 @@ quoted_read (b ∷ bs) t e = by_test (nat_eq b 39) (begins_with (λ c. nat_eq c 
         }
 
     by_test : (v w : Bool) → nat_eq b 39 ≡ v → begins_with (λ c. nat_eq c 39) (drop (prefix_len is_plain bs) bs) ≡ w → IsRead (b ∷ bs) t
-    by_test true true q a = subst (IsRead (b ∷ bs)) (some_is (AQuote (take_while is_plain bs)) t (rw (q, a) at e)) (whole q a)
+    by_test true true q a = subst (IsRead (b ∷ bs)) (same_Some (AQuote (take_while is_plain bs)) t (rw (q, a) at e)) (whole q a)
     by_test true false q a = absurd (let f : None ≡ Some t = rw (q, a) at e in let none : ⊥ = cc in none)
     by_test false w q a = absurd (let f : None ≡ Some t = rw q at e in let none : ⊥ = cc in none)
 
@@ -119,7 +117,7 @@ mark_front (k ∷ ks) bytes m e = by_test (starts_with nat_eq bytes (mark_text k
     }
 
     by_test : (v : Bool) → starts_with nat_eq bytes (mark_text k) ≡ v → (find (λ j. starts_with nat_eq bytes (mark_text j)) ks ≡ Some m → IsFront (mark_text m) bytes) → IsFront (mark_text m) bytes
-    by_test true a next = subst (λ j. IsFront (mark_text j) bytes) (some_is k m (rw a at e)) (here a)
+    by_test true a next = subst (λ j. IsFront (mark_text j) bytes) (same_Some k m (rw a at e)) (here a)
     by_test false a next = next (rw a at e)
 
 mark_read : (marks : List Mark) (bytes : List ℕ) (t : Lexeme) → option_map AMark (first_mark marks bytes) ≡ Some t → IsRead bytes t
@@ -128,7 +126,7 @@ mark_read marks bytes t e = by_mark (find (λ k. starts_with nat_eq bytes (mark_
   where
     by_mark : (o : Option Mark) → find (λ k. starts_with nat_eq bytes (mark_text k)) marks ≡ o → IsRead bytes t
     by_mark None f = absurd (let g : None ≡ Some t = sym (ap (option_map AMark) f) ∙ e in let none : ⊥ = cc in none)
-    by_mark (Some m) f = subst (IsRead bytes) (some_is (AMark m) t (sym (ap (option_map AMark) f) ∙ e)) (record { front = mark_front marks bytes m f; number = tt })
+    by_mark (Some m) f = subst (IsRead bytes) (same_Some (AMark m) t (sym (ap (option_map AMark) f) ∙ e)) (record { front = mark_front marks bytes m f; number = tt })
 
 row_or_later : (r : Option Lexeme) (rows : List (Option Lexeme)) (t : Lexeme) → first_some (r ∷ rows) ≡ Some t → (r ≡ Some t) ⊎ (first_some rows ≡ Some t)
 row_or_later None rows t e = inr e

@@ -1,5 +1,6 @@
 -- A line has one list of tokens, and it is written with them.
 use Rattle.std.proofs.Common.{◌≡◌, ℕ, zero, suc, ◌+◌, ◌-◌, ◌<◌, ◌≤◌, List, [], ◌∷◌, ◌++◌, Option, Some, None, ◌⊎◌, inl, inr, length, take, drop, refl, sym, ap, ◌∙◌, subst, arith}
+use Rattle.std.proofs.lemmas.Option.{same_Some}
 use Rattle.std.specs.Prelude.{slice_range}
 use Rattle.std.specs.List.{prefix_len}
 use Rattle.std.proofs.lemmas.Bool.{cases_lt}
@@ -13,16 +14,13 @@ use Rattle.script_lex.proofs.Runs.{run_passes}
 use Rattle.script_lex.proofs.Fronts.{token_read}
 use Rattle.script_lex.proofs.Places.{blank_end, end_blank, token_inside}
 
-some_is : {X : Type 0} (x y : X) → Some x ≡ Some y → x ≡ y
-some_is x y e = cc
-
 placed_is : (x y : Placed) → x.from ≡ y.from → x.to ≡ y.to → x.what ≡ y.what → x ≡ y
 placed_is x y e f g = λ i. record { from = e i; to = f i; what = g i }
 
 pub next_unique : (line : List ℕ) (at : ℕ) (x y : Placed) → IsNext line at x → IsNext line at y → x ≡ y
 next_unique line at x y n m =
     let from : x.from ≡ y.from = n.from ∙ sym m.from in
-    let what : x.what ≡ y.what = some_is x.what y.what (sym n.what ∙ ap (λ k. first_token (drop k line)) from ∙ m.what) in
+    let what : x.what ≡ y.what = same_Some x.what y.what (sym n.what ∙ ap (λ k. first_token (drop k line)) from ∙ m.what) in
     let width : length (written x.what) ≡ length (written y.what) = ap (λ w. length (written w)) what in
     let to : x.to ≡ y.to = omega (arith, n.to, m.to) in
     placed_is x y from to what

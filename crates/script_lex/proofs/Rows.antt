@@ -1,5 +1,6 @@
 -- Which row of the table fits, by the first byte.
 use Rattle.std.proofs.Common.{◌≡◌, ◌⊎◌, inl, inr, ◌&&◌, Bool, ◌≢◌, ℕ, ◌-◌, ◌<◌, List, [], ◌∷◌, true, false, Option, Some, None, length, take, drop, get_or, refl, sym, ap, ◌∙◌, arith, true≢false, length-drop}
+use Rattle.std.proofs.Math.Bool.{and-false}
 use Rattle.std.specs.Prelude.{nat_eq, option_map, slice_index, slice_get}
 use Rattle.std.specs.Option.{option_or}
 use Rattle.std.specs.Char.{is_ascii_alphabetic, is_ascii_digit}
@@ -13,12 +14,12 @@ use Rattle.script_lex.specs.Bytes.{is_word_byte, is_plain, begins_with}
 use Rattle.script_lex.specs.Marks.{first_mark, double_marks, single_marks, mark_of}
 use Rattle.script_lex.specs.Lexemes.{AWord, ANumber, AQuote, AMark}
 use Rattle.script_lex.specs.Table.{begins_number, first_some, first_token, fault_of}
-use Rattle.script_lex.proofs.Runs.{and_false, run_whole, run_short}
+use Rattle.script_lex.proofs.Runs.{run_whole, run_short}
 
 -- one byte is no mark of two
 pub no_double : (b : ℕ) → first_mark double_marks (b ∷ []) ≡ None
 unfolding first_mark
-no_double b = simp and_false
+no_double b = simp and-false
 
 pub word_token : (bytes : List ℕ) → is_ascii_alphabetic (slice_index bytes 0) ≡ true → first_token bytes ≡ Some (AWord (slice_index bytes 0 ∷ take_while is_word_byte (drop 1 bytes)))
 unfolding first_token

@@ -15,5 +15,5 @@ mod token;
 pub use laws::{law_of_lines, law_of_places, law_of_reading, law_of_tokens};
 pub use lexing::next_token;
 pub use mark::Mark;
-pub use numbers::value_of;
-pub use token::{Token, What};
+pub use numbers::{MAX_NUMBER, value_of};
+pub use token::{MAX_TOKENS, Token, What};

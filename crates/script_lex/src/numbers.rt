@@ -6,10 +6,12 @@ ghost use Rattle.std.specs.Str.Parse.{digits_value};
 ghost use Rattle.itpg_base.specs.Spans.{IsMoment};
 ghost use Rattle.script_lex.specs.Numbers.{IsNumber, number_value};
 
-// The greatest number; the least is its negative.
-const GREATEST: u64 = 1_000_000_000_000;
+use itpg_base::MAX_MOMENT;
 
-/// The number that the bytes of a number token write; `None` exactly where it is below -10^12 or above 10^12.
+/// The greatest number that a number token may write, which is the greatest moment. The least is as far below zero.
+pub const MAX_NUMBER: u64 = MAX_MOMENT as u64;
+
+/// The number that the bytes of a number token write; `None` exactly where it is further from zero than `MAX_NUMBER`.
 ///
 /// Leading zeros count for nothing, however many: `007` is 7, and `-0` is 0.
 pub fn value_of(number: &[u8]) -> Option<i64>
@@ -28,15 +30,15 @@ pub fn value_of(number: &[u8]) -> Option<i64>
     }
 }
 
-// The number that the digits write; `None` where it is above `GREATEST`.
+// The number that the digits write; `None` where it is above `MAX_NUMBER`.
 fn read_digits(digits: &[u8]) -> Option<u64>
     requires { IsTrue (list_all is_ascii_digit digits.now) }
-    ensures { SomeIff result (digits_value 10 digits.now ≤ GREATEST) (digits_value 10 digits.now) }
+    ensures { SomeIff result (digits_value 10 digits.now ≤ MAX_NUMBER) (digits_value 10 digits.now) }
 {
     let mut value = 0;
     for digit in digits {
         value = value * 10 + u64::from(*digit - b'0');
-        if value > GREATEST {
+        if value > MAX_NUMBER {
             return None;
         }
     }

@@ -4,6 +4,9 @@ ghost use Rattle.script_lex.specs.Lexemes.{lexeme, written};
 
 use crate::mark::Mark;
 
+/// How many tokens a line or a query text may have. `next_token` doesn't count them.
+pub const MAX_TOKENS: usize = 4_096;
+
 /// A token and where it stands in its line.
 ///
 /// ```text

@@ -1,4 +1,5 @@
 use Rattle.std.proofs.Common.{length, sym, ap, ◌∙◌, ◌≤◌, arith, refl}
+use Rattle.script_lex.specs.declared.token.TheConstants.{MAX_TOKENS}
 use Rattle.edit_reader.proofs.Counting.{same_faults, many_told, few_told}
 use Rattle.edit_reader.specs.Telling.{end_told}
 use Rattle.script_lex.proofs.OneList.{tokens_unique}
@@ -26,5 +27,5 @@ returns-in-None c =
     let scan = c.scan_line-scan.result in
     λ tokens end are.
     let same = tokens_unique c.args.line.now 0 tokens c.scan_line-scan.ensures.tokens end scan.end are c.scan_line-scan.ensures.are in
-    let long : length tokens ≤ 4096 = omega (arith, ap length same.0, c.scan_line-scan.ensures.count, c.if-scan-gt-MAX_TOKENS.false) in
+    let long : length tokens ≤ MAX_TOKENS = omega (arith, ap length same.0, c.scan_line-scan.ensures.count, c.if-scan-gt-MAX_TOKENS.false) in
     (same.1 ∙ c.in-None.is, long)

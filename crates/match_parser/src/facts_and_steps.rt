@@ -6,9 +6,9 @@ ghost use Rattle.match_parser.specs.Gives.{lexemes, seen, Gives};
 
 use crate::build;
 use crate::fault::Stop;
-use crate::front::{expect, quote, skip_mark, word};
 use crate::kept::keep_name;
 use crate::times::moment;
+use crate::tokens::{expect, quote, skip_mark, word};
 use crate::words::{Keyword, find_axis, find_keyword};
 use path_ast::{Path, Test};
 use script_lex::{Mark, What};

@@ -1,4 +1,4 @@
-//! The front of some tokens.
+//! Tokens taken from the front of those that are left: the marks and words that the grammar's rules begin with.
 ghost use Rattle.std.specs.Prelude.{◌≡◌, ◌<◌, [], ◌∷◌, length, MatchOption, IfSome, IfOk, option_map};
 ghost use Rattle.script_lex.specs.Lexemes.{lexeme};
 ghost use Rattle.match_parser.specs.Words.{keyword_text};

@@ -2,7 +2,7 @@ use Rattle.std.proofs.Common.{◌+◌, ◌*◌, length}
 use Rattle.path_ast.specs.Terms.{path_term, test_term}
 use Rattle.match_parser.specs.Gives.{lexemes}
 use Rattle.match_parser.proofs.Rules.{AltSoFar, SeqSoFar, OrSoFar, AndSoFar}
-use Rattle.match_parser.proofs.levels.+levels.Given as goal
+use Rattle.match_parser.proofs.paths_and_tests.+paths_and_tests.Given as goal
 
 abbrev pub decreases-alt : goal.decreases-alt
 decreases-alt l = 5 * length (lexemes l.tokens.now) + 3

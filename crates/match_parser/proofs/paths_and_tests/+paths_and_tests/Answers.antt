@@ -10,7 +10,7 @@ use Rattle.match_parser.specs.Gives.{lexemes, seen, left}
 use Rattle.match_parser.proofs.Lists.{comes_on, begins, goes_on, ends}
 use Rattle.match_parser.proofs.Rules.{alts_is, seqs_is, ors_is, ands_is, reps_is}
 use Rattle.match_parser.proofs.Steps.{first_err, next_err, gives_on, gives_as, then_err, chosen_err, closed_ok, closed_err, atom_label, atom_brace, atom_ask, atom_group, atom_step, unary_not, unary_plain, prim_ask, prim_group, prim_fact}
-use Rattle.match_parser.proofs.levels.+levels.Goals as goal
+use Rattle.match_parser.proofs.paths_and_tests.+paths_and_tests.Goals as goal
 
 pub alt-returns-in_err-path-clause-gives : goal.alt-returns-in_err-path-clause-gives
 alt-returns-in_err-path-clause-gives t c =

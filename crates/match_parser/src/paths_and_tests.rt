@@ -8,16 +8,16 @@ ghost use Rattle.match_parser.specs.Parsing.{closed, asked_by, alt_at, seq_at, r
 ghost use Rattle.match_parser.specs.Gives.{lexemes, GivesFor};
 
 use crate::build;
-use crate::facts::{fact, label, step};
+use crate::facts_and_steps::{fact, label, step};
 use crate::fault::Stop;
-use crate::front::{expect, skip_both, skip_mark, skip_word};
 use crate::times::times;
+use crate::tokens::{expect, skip_both, skip_mark, skip_word};
 use path_ast::{Path, Test};
 use script_lex::{Mark, What};
 use std::alloc::Global;
 
 // alt : seq ( + seq )*
-#[cycle(levels)]
+#[cycle(paths_and_tests)]
 pub(crate) fn alt<'a>(alloc: Global, tokens: &'a [What<'a>]) -> Result<(Path, &'a [What<'a>]), Stop>
     ensures shorter { IfOk result (λ x. length (lexemes x.1.now) < length (lexemes tokens.now)) }
     ensures gives { GivesFor alt_at 4 path_term tokens.now result }
@@ -32,7 +32,7 @@ pub(crate) fn alt<'a>(alloc: Global, tokens: &'a [What<'a>]) -> Result<(Path, &'
 }
 
 // seq : rep ( / rep )*
-#[cycle(levels)]
+#[cycle(paths_and_tests)]
 fn seq<'a>(alloc: Global, tokens: &'a [What<'a>]) -> Result<(Path, &'a [What<'a>]), Stop>
     ensures shorter { IfOk result (λ x. length (lexemes x.1.now) < length (lexemes tokens.now)) }
     ensures gives { GivesFor seq_at 3 path_term tokens.now result }
@@ -47,7 +47,7 @@ fn seq<'a>(alloc: Global, tokens: &'a [What<'a>]) -> Result<(Path, &'a [What<'a>
 }
 
 // rep : atom [ * | [ n , m ] | [ n , _ ] ]
-#[cycle(levels)]
+#[cycle(paths_and_tests)]
 fn rep<'a>(alloc: Global, tokens: &'a [What<'a>]) -> Result<(Path, &'a [What<'a>]), Stop>
     ensures shorter { IfOk result (λ x. length (lexemes x.1.now) < length (lexemes tokens.now)) }
     ensures gives { GivesFor rep_at 2 path_term tokens.now result }
@@ -58,7 +58,7 @@ fn rep<'a>(alloc: Global, tokens: &'a [What<'a>]) -> Result<(Path, &'a [What<'a>
 }
 
 // atom : a step | : label | { or } | ? ( alt ) | ( alt )
-#[cycle(levels)]
+#[cycle(paths_and_tests)]
 fn atom<'a>(alloc: Global, tokens: &'a [What<'a>]) -> Result<(Path, &'a [What<'a>]), Stop>
     ensures shorter { IfOk result (λ x. length (lexemes x.1.now) < length (lexemes tokens.now)) }
     ensures gives { GivesFor atom_at 1 path_term tokens.now result }
@@ -83,7 +83,7 @@ fn atom<'a>(alloc: Global, tokens: &'a [What<'a>]) -> Result<(Path, &'a [What<'a
 }
 
 // A path up to its `)`; the `(` stands before it.
-#[cycle(levels)]
+#[cycle(paths_and_tests)]
 fn group<'a>(alloc: Global, tokens: &'a [What<'a>]) -> Result<(Path, &'a [What<'a>]), Stop>
     ensures shorter { IfOk result (λ x. length (lexemes x.1.now) < length (lexemes tokens.now)) }
     ensures gives { GivesFor (λ n ts. closed Mark.ParenR (alt_at n ts)) 4 path_term tokens.now result }
@@ -94,7 +94,7 @@ fn group<'a>(alloc: Global, tokens: &'a [What<'a>]) -> Result<(Path, &'a [What<'
 }
 
 // A path in round brackets; the `?` stands before it.
-#[cycle(levels)]
+#[cycle(paths_and_tests)]
 fn asked<'a>(alloc: Global, tokens: &'a [What<'a>]) -> Result<(Path, &'a [What<'a>]), Stop>
     ensures shorter { IfOk result (λ x. length (lexemes x.1.now) < length (lexemes tokens.now)) }
     ensures gives { GivesFor (λ n ts. asked_by (alt_at n) ts) 4 path_term tokens.now result }
@@ -104,7 +104,7 @@ fn asked<'a>(alloc: Global, tokens: &'a [What<'a>]) -> Result<(Path, &'a [What<'
 }
 
 // Tests up to the closing bracket; the opening one stands before them.
-#[cycle(levels)]
+#[cycle(paths_and_tests)]
 pub(crate) fn tests<'a>(
     alloc: Global,
     tokens: &'a [What<'a>],
@@ -119,7 +119,7 @@ pub(crate) fn tests<'a>(
 }
 
 // or : and ( OR and )*
-#[cycle(levels)]
+#[cycle(paths_and_tests)]
 fn or<'a>(alloc: Global, tokens: &'a [What<'a>]) -> Result<(Test, &'a [What<'a>]), Stop>
     ensures shorter { IfOk result (λ x. length (lexemes x.1.now) < length (lexemes tokens.now)) }
     ensures gives { GivesFor or_at 4 test_term tokens.now result }
@@ -134,7 +134,7 @@ fn or<'a>(alloc: Global, tokens: &'a [What<'a>]) -> Result<(Test, &'a [What<'a>]
 }
 
 // and : unary ( ( , | AND ) unary )*
-#[cycle(levels)]
+#[cycle(paths_and_tests)]
 fn and<'a>(alloc: Global, tokens: &'a [What<'a>]) -> Result<(Test, &'a [What<'a>]), Stop>
     ensures shorter { IfOk result (λ x. length (lexemes x.1.now) < length (lexemes tokens.now)) }
     ensures gives { GivesFor and_at 3 test_term tokens.now result }
@@ -149,7 +149,7 @@ fn and<'a>(alloc: Global, tokens: &'a [What<'a>]) -> Result<(Test, &'a [What<'a>
 }
 
 // unary : [ NOT ] prim
-#[cycle(levels)]
+#[cycle(paths_and_tests)]
 fn unary<'a>(alloc: Global, tokens: &'a [What<'a>]) -> Result<(Test, &'a [What<'a>]), Stop>
     ensures shorter { IfOk result (λ x. length (lexemes x.1.now) < length (lexemes tokens.now)) }
     ensures gives { GivesFor unary_at 2 test_term tokens.now result }
@@ -162,7 +162,7 @@ fn unary<'a>(alloc: Global, tokens: &'a [What<'a>]) -> Result<(Test, &'a [What<'
 }
 
 // prim : a fact | ? ( alt ) | ( or )
-#[cycle(levels)]
+#[cycle(paths_and_tests)]
 fn prim<'a>(alloc: Global, tokens: &'a [What<'a>]) -> Result<(Test, &'a [What<'a>]), Stop>
     ensures shorter { IfOk result (λ x. length (lexemes x.1.now) < length (lexemes tokens.now)) }
     ensures gives { GivesFor prim_at 1 test_term tokens.now result }
