@@ -14,7 +14,7 @@ use Rattle.relation_rows.specs.declared.rows.Row.{Row}
 use Rattle.relation_rows.specs.declared.timetable.Leg.{Leg}
 use Rattle.relation_rows.specs.Rows.{InRow, RowsHold, RowBefore}
 use Rattle.relation_rows.specs.Relations.{Item, ItemsHold, HasMiddlePoint}
-use Rattle.relation_rows.specs.Timetables.{DepartsWithin}
+use Rattle.relation_rows.specs.Timetables.{DepartsWithin, HasZone}
 use Rattle.relation_rows.specs.Ways.{ItemThere, GoesOn, GoesOnBy, AreComposed}
 use Rattle.relation_rows.proofs.Pushing.{items_more, rows_more}
 
@@ -200,8 +200,8 @@ pub every_row : (base items : List Item) (rows : List Row) (second : List Row) (
     → (x y : Point) → ItemsHold items x y ↔ (ItemsHold base x y ⊎ HasMiddlePoint rows second x y)
 every_row base items rows second k le = subst (λ (v : List Row). (x y : Point) → ItemsHold items x y ↔ (ItemsHold base x y ⊎ HasMiddlePoint v second x y)) (take_all k rows le)
 
-pub leg_formed : (legs found : List Leg) (k : ℕ) (d : Leg) → k < length found → ((s : Leg) → Among found s → Among legs s) → ((s : Leg) → Among legs s → IsWellFormed s.row.band) → IsWellFormed (slice_index_or found k d).row.band
-leg_formed legs found k d lt there formed = formed (slice_index_or found k d) (there (slice_index_or found k d) (among_at found k d lt))
+pub leg_zone : (legs found : List Leg) (k : ℕ) (d : Leg) → k < length found → ((s : Leg) → Among found s → Among legs s) → ((s : Leg) → Among legs s → HasZone s) → HasZone (slice_index_or found k d)
+leg_zone legs found k d lt there zones = zones (slice_index_or found k d) (there (slice_index_or found k d) (among_at found k d lt))
 
 pub leg_source : (found : List Leg) (o k : ℕ) (d : Leg) → k < length found → ((s : Leg) → Among found s → s.row.source.0 ≡ o) → (slice_index_or found k d).row.source.0 ≡ o
 leg_source found o k d lt same = same (slice_index_or found k d) (among_at found k d lt)

@@ -1,12 +1,15 @@
 -- How far rows reach, and the legs that are made of them by halves.
-use Rattle.std.proofs.Common.{◌≡◌, ⊎_elim, ℕ, zero, suc, ◌+◌, ◌<◌, ◌≤◌, ◌/◌, List, [], ◌∷◌, ◌++◌, length, map, slice_index_or, take, drop, refl, sym, ◌∙◌, ap, subst, arith, append_assoc}
+use Rattle.std.proofs.Common.{◌≡◌, ◌↔◌, inl, inr, ⊎_elim, ℤ, ℕ, zero, suc, ◌+◌, ◌<◌, ◌≤◌, ◌/◌, List, [], ◌∷◌, ◌++◌, length, map, slice_index_or, take, drop, refl, sym, ◌∙◌, ap, subst, arith, append_assoc}
 use Rattle.std.proofs.lemmas.List.{take_all, take_at, drop_at, take_more, append-nil, map-append, length-map}
+use Rattle.zone_core.specs.declared.Bounds.{Bounds}
+use Rattle.zone_core.specs.Zone.{Meets}
 use Rattle.itpg_base.specs.Lists.{Among}
+use Rattle.band_normal.specs.Bands.{InBand}
 use Rattle.itpg_base.proofs.Lists.{among_append}
 use Rattle.relation_rows.specs.declared.rows.Row.{Row}
 use Rattle.relation_rows.specs.declared.timetable.Farthest.{Farthest}
 use Rattle.relation_rows.specs.declared.timetable.Leg.{Leg}
-use Rattle.relation_rows.specs.Timetables.{Reaches, AreReached, HasLegs}
+use Rattle.relation_rows.specs.Timetables.{Reaches, AreReached, HasZone, HasLegs}
 use Rattle.relation_rows.proofs.Legs.{row_of, row_among}
 
 pub none_reached : (rows : List Row) (reach : Farthest) (r : Row) → Among (take 0 rows) r → Reaches reach r
@@ -25,7 +28,7 @@ pub all_reached : (rows : List Row) (k : ℕ) (reach : Farthest) → length rows
 all_reached rows k reach le so r a = so r (subst (λ (v : List Row). Among v r) (sym (take_all k rows le)) a)
 
 pub no_legs : (rows : List Row) (legs : List Leg) → length rows ≡ 0 → HasLegs rows legs legs
-no_legs [] legs e = ([], sym (append-nil legs), refl, none)
+no_legs [] legs e = ([], sym (append-nil legs), refl, none, λ s a. absurd a)
   where
     empty : (before behind : List Leg) (middle : Leg) → [] ≡ before ++ middle ∷ behind → ⊥
     empty [] behind middle is = let none : ⊥ = cc in none
@@ -59,9 +62,10 @@ halves_reached before behind middle half reaches first last (suc depth) = λ us 
     )
 
 -- the legs of the rows before the middle one, of this, and of those behind it
-module _ (rows before behind : List Row) (row : Row) (is : rows ≡ before ++ row ∷ behind) (half : length before ≡ length rows / 2) (reach : Farthest) (reaches : (r : Row) → Among rows r → Reaches reach r) where
+module _ (rows before behind : List Row) (row : Row) (is : rows ≡ before ++ row ∷ behind) (half : length before ≡ length rows / 2) (reach : Farthest) (reaches : (r : Row) → Among rows r → Reaches reach r)
+    (zone : Bounds) (is_zone : (t u : ℤ) → Meets zone t u ↔ InBand row.band t u) where
   abbrev pub leg : Leg
-  leg = record { row = row; reach = reach }
+  leg = record { row = row; reach = reach; zone = zone }
 
   pub legs_by_halves : (old first more new : List Leg) → HasLegs before old first → more ≡ first ++ leg ∷ [] → HasLegs behind more new → HasLegs rows old new
   legs_by_halves old first more new a e b = (
@@ -70,6 +74,7 @@ module _ (rows before behind : List Row) (row : Row) (is : rows ≡ before ++ ro
     made,
     halves_reached a.0 b.0 leg (count ∙ half ∙ ap (λ (v : ℕ). v / 2) whole)
         (λ s i. reaches s.row (subst (λ (v : List Row). Among v s.row) made (row_among (a.0 ++ leg ∷ b.0) s i))) a.3 b.3,
+    λ s i. ⊎_elim (λ k. a.4 s k) (λ k. ⊎_elim (λ (e : leg ≡ s). subst HasZone e is_zone) (λ j. b.4 s j) k) (among_append a.0 (leg ∷ b.0) s i),
   )
     where
       made : map row_of (a.0 ++ leg ∷ b.0) ≡ rows

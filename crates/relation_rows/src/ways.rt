@@ -72,7 +72,7 @@ fn push_searched(
     let zone = zone_of(&row.band);
     find_departing(found, legs, row.target, arrivals(&zone))?;
     for leg in found.as_slice() {
-        let way = compose(&zone, &zone_of(&leg.row.band));
+        let way = compose(&zone, &leg.zone);
         push_there(items, row.source, leg.row.target, way)?;
     }
     Ok(())
