@@ -27,8 +27,8 @@ pub(crate) enum Workload {
     /// The composition of two relations with all rows each, all to one object and all from it. Each leads there at a span
     /// of its own, and one leads on then.
     Middle,
-    /// The composition of an object's lives of one moment with free moments between them, each leading to all moments from its own
-    /// on, and of each life to itself: so each life leads to each that comes no sooner.
+    /// The composition of an object's lives of one moment, a fourth as many, with free moments between them, each leading to all
+    /// moments from its own on, and of each life to itself: so each life leads to each that comes no sooner.
     Lives,
     /// As [`Workload::Middle`], with one more row in the second relation, from the one object to itself, that lasts as long
     /// as all others together.
@@ -113,7 +113,8 @@ impl Workload {
     fn each(self, count: u32) -> u32 {
         match self {
             Workload::Union => count / 2,
-            Workload::Chain | Workload::Middle | Workload::Lasting | Workload::Lives => count,
+            Workload::Lives => count / 4,
+            Workload::Chain | Workload::Middle | Workload::Lasting => count,
         }
     }
 
@@ -124,7 +125,7 @@ impl Workload {
             Workload::Union => count / 2 + count / 2 / 3,
             Workload::Chain | Workload::Middle => count,
             Workload::Lasting => count.saturating_mul(2),
-            Workload::Lives => count.saturating_mul(count.saturating_add(1)) / 2,
+            Workload::Lives => (count / 4).saturating_mul((count / 4).saturating_add(1)) / 2,
         }
     }
 }

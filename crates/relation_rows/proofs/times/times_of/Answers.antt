@@ -1,7 +1,4 @@
-use Rattle.std.proofs.Common.{IfOk, subst, arith, length, ◌≤◌}
-use Rattle.relation_rows.specs.Times.{AreTimes, TimesHold}
-use Rattle.relation_rows.specs.Sides.{HaveTime}
-use Rattle.relation_rows.proofs.Arriving.{no_times, push_time, all_holds, few_times, all_times, formed_row}
+use Rattle.relation_rows.proofs.Arriving.{no_times, push_time, few_times, all_times, formed_row}
 use Rattle.relation_rows.proofs.times.times_of.Goals as goal
 
 pub time_of-requires : goal.time_of-requires

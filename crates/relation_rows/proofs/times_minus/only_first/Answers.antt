@@ -2,7 +2,6 @@ use Rattle.std.proofs.Common.{sym, subst}
 use Rattle.itpg_base.specs.Lists.{Among}
 use Rattle.itpg_base.proofs.Lists.{among_at}
 use Rattle.relation_rows.proofs.TimesMinus.{none_first, first_more, first_all}
-use Rattle.relation_rows.proofs.Runs.{one_time_of}
 use Rattle.relation_rows.proofs.times_minus.only_first.Goals as goal
 
 pub loop-row-init : goal.loop-row-init

@@ -1,4 +1,4 @@
-use Rattle.std.proofs.Common.{◌≡◌, ◌∙◌, ap, refl, arith, SFits, w64, to_z, of_z, to_z-of_z, sym, true≢false}
+use Rattle.std.proofs.Common.{◌∙◌, ap, refl, arith, SFits, w64, to_z-of_z, sym, true≢false}
 use Rattle.std.proofs.lemmas.Int.{ints}
 use Rattle.itpg_base.specs.Spans.{Span}
 use Rattle.relation_rows.proofs.TimesMinus.{items_start, item_step, item_last, items_end}
