@@ -6,7 +6,7 @@ use Rattle.itpg_base.specs.declared.object_number.ObjNo.{ObjNo}
 use Rattle.itpg_base.specs.Decided.{Decided}
 use Rattle.itpg_base.specs.Lists.{Among}
 use Rattle.itpg_base.specs.Points.{Point, Relation}
-use Rattle.itpg_base.specs.Spans.{Span, Within}
+use Rattle.itpg_base.specs.Spans.{Span}
 use Rattle.itpg_base.proofs.PointSearch.{same_point, within_span}
 use Rattle.itpg_base.proofs.Searches.{both, either, fails, as_well, same_number, not_after, some_from}
 use Rattle.zone_core.specs.declared.Bounds.{Bounds}

@@ -2,7 +2,6 @@
 use Rattle.std.proofs.Common.{◌≡◌, ◌⊎◌, inl, inr, ⊎_elim, ℕ, ◌+◌, ◌<◌, ℤ, pos, ◌≤ℤ◌, List, [], ◌∷◌, refl, sym, subst, arith}
 use Rattle.std.proofs.lemmas.Int.{ints}
 use Rattle.itpg_base.specs.Decided.{Decided}
-use Rattle.itpg_base.specs.Lists.{Among}
 use Rattle.itpg_base.specs.Spans.{Within}
 use Rattle.itpg_base.proofs.PointSearch.{within_span}
 use Rattle.itpg_base.proofs.Searches.{both, either, fails, as_well, same_number}

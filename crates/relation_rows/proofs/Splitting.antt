@@ -1,5 +1,5 @@
 -- Two relations of which no departures are at or beside one another: a normal list of both falls into one of each.
-use Rattle.std.proofs.Common.{◌≡◌, ◌⊎◌, inl, inr, ⊎_elim, ℕ, ◌+◌, ℤ, pos, ◌+ℤ◌, ◌-ℤ◌, ◌≤ℤ◌, List, [], ◌∷◌, length, refl, subst, arith}
+use Rattle.std.proofs.Common.{◌≡◌, ◌⊎◌, inl, inr, ⊎_elim, ◌+◌, ℤ, pos, ◌+ℤ◌, ◌-ℤ◌, ◌≤ℤ◌, List, [], ◌∷◌, length, refl, subst, arith}
 use Rattle.std.proofs.lemmas.Int.{ints}
 use Rattle.itpg_base.specs.Lists.{Among, Ordered}
 use Rattle.itpg_base.specs.Points.{Point, Relation}
@@ -7,7 +7,7 @@ use Rattle.band_normal.specs.Bands.{end_at}
 use Rattle.band_normal.specs.Normal.{IsRun, IsRow}
 use Rattle.band_normal.proofs.Far.{climb_to}
 use Rattle.relation_rows.specs.declared.rows.Row.{Row}
-use Rattle.relation_rows.specs.Rows.{between, InRow, RowBefore, NormalRows}
+use Rattle.relation_rows.specs.Rows.{between, RowBefore, NormalRows}
 use Rattle.relation_rows.proofs.Alike.{row_alike, in_relation, row_start}
 use Rattle.relation_rows.proofs.Diagonals.{point}
 

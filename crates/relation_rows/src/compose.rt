@@ -17,7 +17,7 @@ ghost use Rattle.relation_rows.specs.Ways.{HasBusy, AreComposed, DepartsNoLater,
 use crate::gather::{gathered_of, push_zones};
 use crate::relations::Relation;
 use crate::rows::{RelFault, Row};
-use crate::timetable::Stop;
+use crate::timetable::Leg;
 use crate::ways::{FEW, MANY, with_ways};
 use std::alloc::{AllocError, Global};
 
@@ -101,7 +101,7 @@ fn of_source(
     alloc: Global,
     rows: &[Row],
     second: &[Row],
-    busy: &[Stop],
+    busy: &[Leg],
     room: usize,
 ) -> Result<Relation, RelFault>
     requires rows { (r : PlainRow) → Among rows.now r → IsWellFormed r.band }
@@ -133,12 +133,12 @@ fn of_source(
     gathered_of(alloc, kept, room)
 }
 
-/// The relation of the ways that begin with the rows and go on in the second. The stops are those of the second's busy objects.
+/// The relation of the ways that begin with the rows and go on in the second. The legs are those of the second's busy objects.
 pub(crate) fn composed(
     alloc: Global,
     rows: &[Row],
     second: &[Row],
-    busy: &[Stop],
+    busy: &[Leg],
     max_rows: usize,
 ) -> Result<Relation, RelFault>
     requires order { Ordered RowBefore rows.now }

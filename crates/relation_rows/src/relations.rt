@@ -17,7 +17,7 @@ use crate::minus::only_in_first;
 use crate::rows::{RelFault, Row};
 use crate::search::{is_in_band, rows_between, rows_of_key};
 use crate::strike::struck;
-use crate::times::{OneTime, arrivals, departures, runs_of};
+use crate::times::{OneTime, Side, times_of};
 use crate::timetable::timetable;
 use crate::union::united;
 use interval_set::Span;
@@ -184,10 +184,7 @@ impl Relation {
         ensures times { IfOk result (λ times. AreTimes (Departs self.now) times) }
         ensures few { IfOk result (λ times. length times ≤ length self.now) }
     {
-        let alloc = *self.rows.allocator();
-        let times = departures(alloc, &self.rows)?;
-        let runs = runs_of(alloc, times)?;
-        Ok(runs)
+        times_of(*self.rows.allocator(), &self.rows, Side::Departure)
     }
 
     /// The objects at the moments at which some pair arrives. There are no more rows than here.
@@ -195,9 +192,6 @@ impl Relation {
         ensures times { IfOk result (λ times. AreTimes (Arrives self.now) times) }
         ensures few { IfOk result (λ times. length times ≤ length self.now) }
     {
-        let alloc = *self.rows.allocator();
-        let times = arrivals(alloc, &self.rows)?;
-        let runs = runs_of(alloc, times)?;
-        Ok(runs)
+        times_of(*self.rows.allocator(), &self.rows, Side::Arrival)
     }
 }

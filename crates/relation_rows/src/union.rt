@@ -79,6 +79,10 @@ fn push_both(rows: &mut Vec<Row>, key: &Row, here: &[Row], there: &[Row]) -> Res
         rows.extend_from_slice(there)?;
         return Ok(());
     }
+    if here == there {
+        rows.extend_from_slice(here)?;
+        return Ok(());
+    }
     let bands = bands_of_both(*rows.allocator(), here, there)?;
     push_bands(rows, key.source, key.target, &bands)?;
     Ok(())

@@ -1,7 +1,6 @@
 use Rattle.std.proofs.Common.{◌≡◌, ◌⊎◌, ◌↔◌, ◌+◌, ◌++◌, ℕ, List, ap, sym, subst, ◌∙◌, length, arith}
 use Rattle.std.proofs.lemmas.Result.{err_from_is_err_and}
 use Rattle.itpg_base.specs.Lists.{Among, Ordered}
-use Rattle.band_normal.specs.Bands.{IsWellFormed}
 use Rattle.band_normal.proofs.PartLemmas.{none_left}
 use Rattle.relation_rows.specs.declared.rows.Row.{Row}
 use Rattle.itpg_base.specs.Points.{Point}

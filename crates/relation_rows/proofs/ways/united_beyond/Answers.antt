@@ -1,6 +1,6 @@
 use Rattle.std.proofs.Common.{⊎_elim, List, inr, subst, sym, ◌∙◌}
 use Rattle.relation_rows.specs.declared.rows.Row.{Row}
-use Rattle.relation_rows.specs.Rows.{NormalRows, RowsHold}
+use Rattle.relation_rows.specs.Rows.{RowsHold}
 use Rattle.relation_rows.specs.Relations.{ItemsHold}
 use Rattle.relation_rows.proofs.Alike.{hold_only, rows_hold}
 use Rattle.relation_rows.proofs.ways.united_beyond.Goals as goal
