@@ -1,5 +1,5 @@
 -- How the union of the powers 0 to k grows by what is new in it.
-use Rattle.std.proofs.Common.{◌≡◌, ℕ, zero, suc, ◌+◌, ◌-◌, ◌<◌, ◌≤◌, ◌⊎◌, inl, inr, sym, subst, arith, add-zero}
+use Rattle.std.proofs.Common.{◌≡◌, ℕ, zero, suc, ◌+◌, ◌-◌, ◌<◌, ◌≤◌, inl, inr, sym, subst, arith, add-zero}
 use Rattle.std.proofs.Math.Nat.{le-suc_iff}
 use Rattle.repeat_engine.specs.Powers.{Algebra, nth_power, union_of_powers}
 use Rattle.repeat_engine.specs.Composed.{IsLawful}

@@ -1,5 +1,5 @@
 -- The union of the powers 0 to n is the n-th power of `one` united with x, and holds each of them.
-use Rattle.std.proofs.Common.{◌≡◌, ℕ, zero, suc, ◌^◌, ◌≤◌, ◌⊎◌, inl, inr, sym, subst, arith}
+use Rattle.std.proofs.Common.{ℕ, zero, suc, ◌^◌, ◌≤◌, ◌⊎◌, inl, inr, sym, subst, arith}
 use Rattle.std.proofs.Math.Nat.{le-suc_iff}
 use Rattle.repeat_engine.specs.Powers.{Algebra, nth_power, union_of_powers}
 use Rattle.repeat_engine.specs.Composed.{IsLawful, Includes, IncludesPowers}

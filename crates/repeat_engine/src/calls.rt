@@ -5,11 +5,7 @@ ghost use Rattle.repeat_engine.specs.Composed.{IsOkWhere};
 use crate::Composed;
 
 /// x, and then y.
-pub(crate) fn compose<C: Composed>(
-    c: &C,
-    x: &C::Value,
-    y: &C::Value,
-) -> Result<C::Value, C::Fault>
+pub(crate) fn compose<C: Composed>(c: &C, x: &C::Value, y: &C::Value) -> Result<C::Value, C::Fault>
     requires own_x { C.own c.now (C.means x.now) }
     requires own_y { C.own c.now (C.means y.now) }
     requires fits_x { C.fits c.now (C.means x.now) }

@@ -1,5 +1,4 @@
 use Rattle.std.proofs.Common.{subst, IfSome, Option}
-use Rattle.repeat_engine.proofs.Results.{own_from, fits_from}
 use Rattle.repeat_engine.proofs.Steps.{square_is_new}
 use Rattle.repeat_engine.proofs.doubling.newest_squared.Goals as goal
 

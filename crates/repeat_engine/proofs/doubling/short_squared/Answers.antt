@@ -1,6 +1,5 @@
 use Rattle.std.proofs.Common.{subst, IfSome, Option}
-use Rattle.repeat_engine.proofs.Results.{own_from, fits_from}
-use Rattle.repeat_engine.proofs.Steps.{kept, kept_twice, fits_where, square_is_new}
+use Rattle.repeat_engine.proofs.Steps.{kept, square_is_new}
 use Rattle.repeat_engine.proofs.doubling.short_squared.Goals as goal
 
 pub returns-else-size-clause-own : goal.returns-else-size-clause-own

@@ -1,7 +1,6 @@
 use Rattle.std.proofs.Common.{◌+◌}
 use Rattle.std.proofs.lemmas.Result.{err_from_is_err_and}
-use Rattle.repeat_engine.proofs.Results.{own_from, fits_from}
-use Rattle.repeat_engine.proofs.Steps.{own_made, on_below, double_makes, is_united, united_fits, united_must_fit}
+use Rattle.repeat_engine.proofs.Steps.{on_below, double_makes, is_united, united_fits, united_must_fit}
 use Rattle.repeat_engine.proofs.Growth.{made_new}
 use Rattle.repeat_engine.proofs.doubling.squared.Goals as goal
 

@@ -1,6 +1,5 @@
 use Rattle.std.proofs.Common.{◌+◌}
 use Rattle.std.proofs.lemmas.Result.{err_from_is_err_and}
-use Rattle.repeat_engine.proofs.Results.{own_from, fits_from}
 use Rattle.repeat_engine.proofs.Steps.{on_below, is_whole_double, whole_double_fits, whole_double_must_fit}
 use Rattle.repeat_engine.proofs.doubling.squared_whole.Goals as goal
 

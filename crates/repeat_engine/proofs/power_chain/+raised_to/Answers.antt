@@ -1,7 +1,6 @@
 use Rattle.std.proofs.Common.{◌≡◌, ◌≤◌, ◌/◌, true, is_some, arith}
 use Rattle.std.proofs.lemmas.Result.{err_from_is_err_and}
 use Rattle.repeat_engine.specs.Powers.{nth_power}
-use Rattle.repeat_engine.proofs.Results.{own_from, fits_from}
 use Rattle.repeat_engine.proofs.Squaring.{first_is, first_fits, first_must_fit, half_must_fit, double_must_fit, even_is, even_fits, odd_is, odd_fits, odd_must_fit}
 use Rattle.repeat_engine.proofs.LastPowers.{IsRaised, turned_raised, done_fits, next_some}
 use Rattle.repeat_engine.proofs.power_chain.+raised_to.Goals as goal

@@ -1,4 +1,3 @@
-use Rattle.repeat_engine.proofs.Results.{own_from, fits_from}
 use Rattle.repeat_engine.proofs.power_chain.next_of.Goals as goal
 
 pub returns-then-same-clause-back : goal.returns-then-same-clause-back

@@ -1,4 +1,3 @@
-use Rattle.std.proofs.Common.{◌^◌}
 use Rattle.std.proofs.lemmas.Result.{err_from_is_err_and}
 use Rattle.repeat_engine.specs.Powers.{union_of_powers}
 use Rattle.repeat_engine.proofs.UnionLaws.{all_held, least_held}

@@ -1,6 +1,5 @@
 use Rattle.std.proofs.Common.{◌+◌}
-use Rattle.repeat_engine.proofs.Results.{own_from, fits_from}
-use Rattle.repeat_engine.proofs.Steps.{own_made, on_below, step_makes, is_united}
+use Rattle.repeat_engine.proofs.Steps.{on_below, step_makes, is_united}
 use Rattle.repeat_engine.proofs.single_steps.step_from.Goals as goal
 
 pub returns-clause-grows : goal.returns-clause-grows

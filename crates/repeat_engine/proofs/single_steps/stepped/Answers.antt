@@ -1,6 +1,5 @@
 use Rattle.std.proofs.Common.{◌+◌}
 use Rattle.std.proofs.lemmas.Result.{err_from_is_err_and}
-use Rattle.repeat_engine.proofs.Results.{own_from, fits_from}
 use Rattle.repeat_engine.proofs.Steps.{on_below, at_fits, is_whole_step, whole_step_fits, whole_step_must_fit}
 use Rattle.repeat_engine.proofs.single_steps.stepped.Goals as goal
 

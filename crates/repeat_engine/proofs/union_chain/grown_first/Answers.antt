@@ -1,6 +1,5 @@
 use Rattle.std.proofs.lemmas.Result.{err_from_is_err_and}
-use Rattle.repeat_engine.proofs.Results.{own_from, fits_from}
-use Rattle.repeat_engine.proofs.Steps.{kept, kept_twice, fits_where, no_truth, first_is, first_must_fit, first_new}
+use Rattle.repeat_engine.proofs.Steps.{kept, no_truth, first_is, first_must_fit, first_new}
 use Rattle.repeat_engine.proofs.union_chain.grown_first.Goals as goal
 
 pub returns-in_err-all-clause-exact : goal.returns-in_err-all-clause-exact

@@ -1,6 +1,6 @@
 use Rattle.std.proofs.lemmas.Result.{err_from_is_err_and}
 use Rattle.repeat_engine.proofs.Results.{own_from, fits_from}
-use Rattle.repeat_engine.proofs.Uniting.{first_own, first_is, first_must_fit}
+use Rattle.repeat_engine.proofs.Uniting.{first_is, first_must_fit}
 use Rattle.repeat_engine.proofs.union_chain.united_from_one.Goals as goal
 
 pub returns-in_err-first-clause-exact : goal.returns-in_err-first-clause-exact
