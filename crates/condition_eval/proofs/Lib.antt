@@ -5,3 +5,4 @@ pub mod Itself
 pub mod Starting
 pub mod Meanings
 pub mod Finding
+pub mod Existing

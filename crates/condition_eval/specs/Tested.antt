@@ -4,9 +4,7 @@ use Rattle.itpg_base.specs.declared.object_number.ObjNo.{ObjNo}
 use Rattle.itpg_base.specs.Spans.{Span}
 use Rattle.itpg_base.specs.Graphs.{Graph, Stands}
 use Rattle.itpg_base.specs.Points.{Point, IsAt}
-use Rattle.itpg_graph.specs.declared.graph.Kind.{Kind}
-use Rattle.itpg_graph.specs.declared.graph.Kind.TheVariants.{Node, Edge}
-use Rattle.path_ast.specs.Terms.{TestTerm, IsNode, IsEdge}
+use Rattle.path_ast.specs.Terms.{TestTerm}
 use Rattle.path_ast.specs.Meaning.{Sat}
 use Rattle.relation_rows.specs.declared.rows.Row.{Row}
 use Rattle.relation_rows.specs.Times.{Departs}
@@ -27,8 +25,3 @@ Stand g objects = (o : ℕ) → IsOneOf objects o → Stands g o
 -- the graph is begun, and this is its horizon
 abbrev pub HasHorizon : Graph → Span → Type 0
 HasHorizon g horizon = option_map (λ b. b.horizon) g.begun ≡ Some horizon
-
--- the test that an object is of the kind
-abbrev pub kind_test : Kind → TestTerm
-kind_test Node = IsNode
-kind_test Edge = IsEdge

@@ -56,3 +56,9 @@ pub fn law_of_unique_marks()
     ensures { (g : Graph) (objects : List ObjNo) (c : TestTerm) (own other : List Marked) → Rise objects →
         AreMarks objects (HoldsAt c g) own → AreMarks objects (HoldsAt c g) other → own ≡ other }
 {}
+
+/// Whatever the marks, the relation in which each marked point leads to itself has exactly one normal list of rows.
+pub fn law_of_marked_rows()
+    ensures some { (marks : List Marked) → (rows : List Row) × NormalRows (MarkedToItself marks) rows }
+    ensures one { (marks : List Marked) (xs ys : List Row) → NormalRows (MarkedToItself marks) xs → NormalRows (MarkedToItself marks) ys → xs ≡ ys }
+{}

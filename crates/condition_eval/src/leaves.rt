@@ -5,106 +5,29 @@ ghost use Rattle.std.specs.Prelude.{◌≡◌, ◌<ℤ◌, ℕ, List, IsSome, If
 ghost use Rattle.itpg_base.specs.Graphs.{Good, Stands, Val};
 ghost use Rattle.interval_set.specs.Runs.{AreRuns};
 ghost use Rattle.relation_rows.specs.Relations.{Rise};
-ghost use Rattle.path_ast.specs.Terms.{HasLabel, HasValue, IsBelow, DoesExist};
+ghost use Rattle.path_ast.specs.Terms.{leaf_term};
 ghost use Rattle.condition_eval.specs.Marking.{AreMarks};
-ghost use Rattle.condition_eval.specs.Tested.{HoldsAt, Stand, HasHorizon, kind_test};
-ghost use Rattle.condition_eval.specs.Parts.{leaf_test};
+ghost use Rattle.condition_eval.specs.Tested.{HoldsAt, Stand, HasHorizon};
 
 use crate::marks::{Marked, Marks};
 use crate::moments::{all_below, all_if};
 use interval_set::{IntervalSet, Span};
 use itpg_base::{Name, ObjNo};
 use itpg_graph::{Graph, Kind};
+use path_ast::Leaf;
 use std::alloc::{AllocError, Global};
 
-/// A test that asks only for one object at one moment.
-#[derive(Drop)]
-enum Leaf {
-    Kind(Kind),
-    Label(Name),
-    Value { prop: Name, value: Name },
-    Before(i64),
-    Exists,
-}
-
-/// The points of those objects that are of the kind: all moments of the horizon of each.
+/// The points of the objects at which the test holds, which asks only for one object at one moment.
+///
+/// ```text
+///     Node, Edge, Label     all moments of the horizon of each object that is of the kind, or has the label
+///     Value                 the moments at which the property has the value
+///     Before                the moments of the horizon below the number, which may lie beyond them all
+///     Exists                the moments at which the object exists
+/// ```
 ///
 /// The graph is begun; the objects rise and stand.
-pub fn by_kind(
-    alloc: Global,
-    graph: &Graph,
-    objects: &[ObjNo],
-    kind: Kind,
-) -> Result<Marks, AllocError>
-    requires begun { IsSome graph.now.begun }
-    requires rise { Rise objects.now }
-    requires stand { Stand graph.now objects.now }
-    ensures { IfOk result (λ marks. AreMarks objects.now (HoldsAt (kind_test kind) graph.now) marks) }
-{
-    marked_by(alloc, graph, objects, &Leaf::Kind(kind))
-}
-
-/// The points of those objects that have the label: all moments of the horizon of each.
-///
-/// The graph is begun; the objects rise and stand.
-pub fn by_label(
-    alloc: Global,
-    graph: &Graph,
-    objects: &[ObjNo],
-    label: Name,
-) -> Result<Marks, AllocError>
-    requires begun { IsSome graph.now.begun }
-    requires rise { Rise objects.now }
-    requires stand { Stand graph.now objects.now }
-    ensures { IfOk result (λ marks. AreMarks objects.now (HoldsAt (HasLabel label) graph.now) marks) }
-{
-    marked_by(alloc, graph, objects, &Leaf::Label(label))
-}
-
-/// The points of the objects at which the property has the value.
-///
-/// The graph is begun; the objects rise and stand.
-pub fn by_value(
-    alloc: Global,
-    graph: &Graph,
-    objects: &[ObjNo],
-    prop: Name,
-    value: Name,
-) -> Result<Marks, AllocError>
-    requires begun { IsSome graph.now.begun }
-    requires rise { Rise objects.now }
-    requires stand { Stand graph.now objects.now }
-    ensures { IfOk result (λ marks. AreMarks objects.now (HoldsAt (HasValue prop value) graph.now) marks) }
-{
-    marked_by(alloc, graph, objects, &Leaf::Value { prop, value })
-}
-
-/// The points of the objects whose moment is below k, which may be any moment or lie beyond them all.
-///
-/// The graph is begun; the objects rise and stand.
-pub fn before(alloc: Global, graph: &Graph, objects: &[ObjNo], k: i64) -> Result<Marks, AllocError>
-    requires begun { IsSome graph.now.begun }
-    requires rise { Rise objects.now }
-    requires stand { Stand graph.now objects.now }
-    ensures { IfOk result (λ marks. AreMarks objects.now (HoldsAt (IsBelow k) graph.now) marks) }
-{
-    marked_by(alloc, graph, objects, &Leaf::Before(k))
-}
-
-/// The points of the objects at which the object exists.
-///
-/// The graph is begun; the objects rise and stand.
-pub fn exists(alloc: Global, graph: &Graph, objects: &[ObjNo]) -> Result<Marks, AllocError>
-    requires begun { IsSome graph.now.begun }
-    requires rise { Rise objects.now }
-    requires stand { Stand graph.now objects.now }
-    ensures { IfOk result (λ marks. AreMarks objects.now (HoldsAt DoesExist graph.now) marks) }
-{
-    marked_by(alloc, graph, objects, &Leaf::Exists)
-}
-
-/// The points of the objects at which the leaf's test holds.
-fn marked_by(
+pub fn leaf_marks(
     alloc: Global,
     graph: &Graph,
     objects: &[ObjNo],
@@ -113,7 +36,7 @@ fn marked_by(
     requires begun { IsSome graph.now.begun }
     requires rise { Rise objects.now }
     requires stand { Stand graph.now objects.now }
-    ensures { IfOk result (λ marks. AreMarks objects.now (HoldsAt (leaf_test leaf.now) graph.now) marks) }
+    ensures { IfOk result (λ marks. AreMarks objects.now (HoldsAt (leaf_term leaf.now) graph.now) marks) }
 {
     let horizon = graph.horizon().unwrap();
     let mut marked = Vec::new(alloc);
@@ -126,7 +49,7 @@ fn marked_by(
     Ok(Marks::of(marked))
 }
 
-/// The moments of the horizon at which the leaf's test holds of the object.
+// The moments of the horizon at which the test holds of the object.
 fn moments_by(
     alloc: Global,
     graph: &Graph,
@@ -137,10 +60,11 @@ fn moments_by(
     requires good { Good graph.now }
     requires horizon { HasHorizon graph.now horizon }
     requires stands { Stands graph.now object.0 }
-    ensures { IfOk result (λ moments. AreRuns (λ t. HoldsAt (leaf_test leaf.now) graph.now (record { object = object.0; moment = t })) moments) }
+    ensures { IfOk result (λ moments. AreRuns (λ t. HoldsAt (leaf_term leaf.now) graph.now (record { object = object.0; moment = t })) moments) }
 {
     match leaf {
-        Leaf::Kind(kind) => all_if(alloc, horizon, graph.kind(object) == *kind),
+        Leaf::Node => all_if(alloc, horizon, graph.kind(object) == Kind::Node),
+        Leaf::Edge => all_if(alloc, horizon, graph.kind(object) == Kind::Edge),
         Leaf::Label(label) => all_if(alloc, horizon, graph.labels(object).has(label)),
         Leaf::Value { prop, value } => moments_with(alloc, graph, object, prop, value),
         Leaf::Before(k) => all_below(alloc, horizon, *k),
@@ -148,7 +72,7 @@ fn moments_by(
     }
 }
 
-/// The moments at which the property of the object has the value.
+// The moments at which the property of the object has the value.
 fn moments_with(
     alloc: Global,
     graph: &Graph,

@@ -14,10 +14,10 @@ mod starts;
 mod staying;
 
 pub use laws::{
-    law_of_conditions, law_of_connectives, law_of_negation, law_of_tests_as_paths,
-    law_of_unique_marks,
+    law_of_conditions, law_of_connectives, law_of_marked_rows, law_of_negation,
+    law_of_tests_as_paths, law_of_unique_marks,
 };
-pub use leaves::{before, by_kind, by_label, by_value, exists};
+pub use leaves::leaf_marks;
 pub use marks::Marks;
 pub use objects::objects_within;
 pub use starts::starts_of;

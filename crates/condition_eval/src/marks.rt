@@ -1,4 +1,4 @@
-//! Marks.
+//! Marks: points of some objects, each object with its moments.
 
 ghost use Rattle.std.specs.Prelude.{◌≡◌, IfOk};
 ghost use Rattle.zone_core.specs.Zone.{Within, moment_reach};
@@ -24,7 +24,7 @@ pub(crate) struct Marked {
     pub(crate) moments: IntervalSet,
 }
 
-/// How two tests are joined.
+// How two tests are joined.
 #[derive(Clone, Copy)]
 enum Connective {
     And,
@@ -32,7 +32,7 @@ enum Connective {
 }
 
 impl Connective {
-    /// The moments of both sets, or of either.
+    // The moments of both sets, or of either.
     fn apply(self, own: &IntervalSet, other: &IntervalSet) -> Result<IntervalSet, AllocError>
         ensures { IfOk result (λ moments. AreRuns (λ t. Joined self (Covers own.now t) (Covers other.now t)) moments) }
     {
@@ -139,7 +139,7 @@ impl Marks {
     }
 }
 
-/// The marks of both lists, joined object by object.
+// The marks of both lists, joined object by object.
 fn joined(
     alloc: Global,
     connective: Connective,
@@ -160,7 +160,7 @@ fn joined(
     Ok(marked)
 }
 
-/// The same objects, marked at those moments of the horizon at which they aren't.
+// The same objects, marked at those moments of the horizon at which they aren't.
 fn turned(alloc: Global, marks: &[Marked], horizon: Span) -> Result<Vec<Marked>, AllocError>
     requires { Rise (objects_of marks.now) }
     ensures { IfOk result (λ turned. AreMarks (objects_of marks.now) (IsUnmarked horizon marks.now) turned.items) }

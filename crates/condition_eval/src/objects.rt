@@ -1,7 +1,7 @@
 //! Objects by their labels.
 
 ghost use Rattle.std.specs.Prelude.{◌↔◌, IsTrue, IfOk};
-ghost use Rattle.itpg_base.specs.Graphs.{Stands};
+ghost use Rattle.itpg_base.specs.Graphs.{Good, Stands};
 ghost use Rattle.label_scope.specs.Scopes.{IsWithin};
 ghost use Rattle.condition_eval.specs.Within.{AreWithin};
 
@@ -12,7 +12,8 @@ use std::alloc::{AllocError, Global};
 
 /// The objects of the graph that stand and have a label in the scope, rising.
 pub fn objects_within(alloc: Global, graph: &Graph, scope: &Scope) -> Result<Vec<ObjNo>, AllocError>
-    ensures { IfOk result (λ objects. AreWithin scope.now graph.now objects.items) }
+    ensures within { IfOk result (λ objects. AreWithin scope.now graph.now objects.items) }
+    ensures good { Good graph.now }
 {
     let mut objects = Vec::new(alloc);
     for number in 0..graph.declared() {
@@ -24,7 +25,7 @@ pub fn objects_within(alloc: Global, graph: &Graph, scope: &Scope) -> Result<Vec
     Ok(objects)
 }
 
-/// Whether the object stands and has a label in the scope.
+// Whether the object stands and has a label in the scope.
 fn is_within(graph: &Graph, scope: &Scope, object: ObjNo) -> bool
     ensures { IsTrue result ↔ (Stands graph.now object.0 × IsWithin scope.now graph.now object.0) }
 {

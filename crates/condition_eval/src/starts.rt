@@ -45,7 +45,7 @@ pub fn starts_of(
     Ok(Marks::of(marked))
 }
 
-/// The moments that the rows have of the object. The rows stand in order.
+// The moments that the rows have of the object. The rows stand in order.
 fn moments_at(alloc: Global, rows: &[OneRow], object: ObjNo) -> Result<IntervalSet, AllocError>
     requires { Ordered TimeBefore rows.now }
     ensures { IfOk result (λ moments. AreRuns (λ t. TimesHold rows.now object.0 t) moments) }
@@ -57,7 +57,7 @@ fn moments_at(alloc: Global, rows: &[OneRow], object: ObjNo) -> Result<IntervalS
     Ok(moments)
 }
 
-/// The rows of the object, of rows in order.
+// The rows of the object, of rows in order.
 fn rows_of(rows: &[OneRow], object: ObjNo) -> &[OneRow]
     requires { Ordered TimeBefore rows.now }
     ensures { (r : PlainOneRow) → Among result.now r ↔ (Among rows.now r × (r.object.0 ≡ object.0)) }

@@ -6,7 +6,7 @@
 use anyhow::Result;
 use itpg_base::Name;
 use match_parser::{QueryFault, read_query};
-use path_ast::{Path, Query, Test};
+use path_ast::{Leaf, Path, Query, Test};
 use std::alloc::{AllocError, Global};
 use std::fs;
 
@@ -112,21 +112,7 @@ fn push_text(out: &mut String, text: Result<String, AllocError>) -> Result<(), A
 #[cycle(pushes)]
 fn push_test(out: &mut String, test: &Test) -> Result<(), AllocError> {
     match test {
-        Test::Node => out.push_str("node"),
-        Test::Edge => out.push_str("edge"),
-        Test::Exists => out.push_str("exists"),
-        Test::Label(label) => {
-            out.push_str("label ")?;
-            push_name(out, label)
-        }
-        Test::Value { prop, value } => {
-            out.push_str("value ")?;
-            push_name(out, prop)?;
-            out.push_str(" '")?;
-            push_name(out, value)?;
-            out.push_str("'")
-        }
-        Test::Before(k) => push_text(out, format!(in *out.allocator(); "before {k}")),
+        Test::Leaf(leaf) => push_leaf(out, leaf),
         Test::Cond(path) => {
             out.push_str("cond(")?;
             push_path(out, path)?;
@@ -151,6 +137,26 @@ fn push_test(out: &mut String, test: &Test) -> Result<(), AllocError> {
             push_test(out, a)?;
             out.push_str(")")
         }
+    }
+}
+
+fn push_leaf(out: &mut String, leaf: &Leaf) -> Result<(), AllocError> {
+    match leaf {
+        Leaf::Node => out.push_str("node"),
+        Leaf::Edge => out.push_str("edge"),
+        Leaf::Exists => out.push_str("exists"),
+        Leaf::Label(label) => {
+            out.push_str("label ")?;
+            push_name(out, label)
+        }
+        Leaf::Value { prop, value } => {
+            out.push_str("value ")?;
+            push_name(out, prop)?;
+            out.push_str(" '")?;
+            push_name(out, value)?;
+            out.push_str("'")
+        }
+        Leaf::Before(k) => push_text(out, format!(in *out.allocator(); "before {k}")),
     }
 }
 

@@ -5,3 +5,4 @@ pub mod Members
 pub mod Examples
 pub mod ScopedPaths
 pub mod PartMembers
+pub mod Sides

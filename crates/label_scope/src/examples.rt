@@ -5,7 +5,9 @@ ghost use Rattle.label_scope.specs.declared.scope.Scope.TheVariants.{All};
 ghost use Rattle.label_scope.specs.Members.{worked};
 ghost use Rattle.label_scope.specs.Examples.{persons, rooms, at_most, exactly};
 ghost use Rattle.label_scope.specs.ScopedPaths.{AreScoped, AreNarrowed, scoped_tests, scoped_sequences, scoped_choices, scoped_repetitions, narrowed_paths, doors};
-ghost use Rattle.label_scope.specs.PartMembers.{through_a_meeting, through_a_meeting_members, step_and_wait, step_and_wait_members, on_from_either, on_from_either_members, person_to_person, room_to_door_members, person_waits, two_waits_members, five_to_seven_members, without_end_members};
+ghost use Rattle.label_scope.specs.PartMembers.{through_a_meeting, through_a_meeting_members, step_and_wait, step_and_wait_members, on_from_either};
+ghost use Rattle.label_scope.specs.PartMembers.{on_from_either_members, person_to_person, room_to_door_members, person_waits, two_waits_members};
+ghost use Rattle.label_scope.specs.PartMembers.{five_to_seven_members, without_end_members};
 
 /// Forty-five tests and paths, each with its source scope, its target scope, and whether it keeps its object.
 pub fn scopes_of_short_paths()

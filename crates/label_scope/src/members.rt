@@ -2,7 +2,9 @@
 ghost use Rattle.std.specs.Prelude.{◌≡◌, List, [], ◌∷◌, ◌++◌};
 ghost use Rattle.label_scope.specs.declared.scope.Scope.TheVariants.{All};
 ghost use Rattle.label_scope.specs.Members.{Member, worked};
-ghost use Rattle.label_scope.specs.Examples.{anything, person, persons, from_to_anything, at_most, two_steps, contacts, within, wait_members, double_step_members, step_to_an_edge, step_members, meetings_from_a_room, meeting_members, two_to_five_steps, later_wait_members, persons_without_meeting, without_meeting_members};
+ghost use Rattle.label_scope.specs.Examples.{anything, person, persons, from_to_anything, at_most, two_steps, contacts, within, wait_members};
+ghost use Rattle.label_scope.specs.Examples.{double_step_members, step_to_an_edge, step_members, meetings_from_a_room, meeting_members};
+ghost use Rattle.label_scope.specs.Examples.{two_to_five_steps, later_wait_members, persons_without_meeting, without_meeting_members};
 ghost use Rattle.path_ast.specs.Terms.{Next};
 
 /// `(x)-/N[0,12]/-(y)`: the repetition goes through the powers up to 1, 2, 3, 6 and 12.

@@ -1,14 +1,22 @@
-//! The scopes of a path.
+//! The scopes in which a path can start and end.
 ghost use Rattle.std.specs.Prelude.{◌≡◌, ◌&&◌, IfOk};
 ghost use Rattle.path_ast.specs.Terms.{path_term, test_term};
 ghost use Rattle.path_ast.specs.Meaning.{keeps_object};
 ghost use Rattle.label_scope.specs.declared.scope.Scope.TheVariants.{All};
-ghost use Rattle.label_scope.specs.Scopes.{met, joined, unless_never, source_scope, target_scope, test_scope};
+ghost use Rattle.label_scope.specs.Scopes.{met, met_where, joined, unless_never, source_scope, target_scope, test_scope};
+ghost use Rattle.label_scope.specs.Sides.{scope_at};
 ghost use Rattle.label_scope.specs.Narrowing.{narrowed};
 
 use crate::scope::Scope;
-use path_ast::{Path, Test};
+use path_ast::{Leaf, Path, Test};
 use std::alloc::{AllocError, Global};
+
+// At which end of a path.
+#[derive(Clone, Copy)]
+enum PathEnd {
+    Start,
+    Finish,
+}
 
 // One end of a path: the scope in which it can be, and whether the path keeps its object. Both are found in one walk along the
 // path, because what stands behind a part counts only where the part keeps its object.
@@ -28,10 +36,10 @@ fn anywhere(keeps: bool) -> Side
     }
 }
 
-// The end at which the path starts.
-#[cycle(sources)]
-fn source_side(alloc: Global, path: &Path) -> Result<Side, AllocError>
-    ensures scope { IfOk result (λ side. side.scope ≡ source_scope (path_term path.now)) }
+// One end of a path.
+#[cycle(scopes)]
+fn side_of(alloc: Global, end: PathEnd, path: &Path) -> Result<Side, AllocError>
+    ensures scope { IfOk result (λ side. side.scope ≡ scope_at end (path_term path.now)) }
     ensures keeps { IfOk result (λ side. side.keeps ≡ keeps_object (path_term path.now)) }
 {
     match path {
@@ -41,24 +49,36 @@ fn source_side(alloc: Global, path: &Path) -> Result<Side, AllocError>
         }),
         Path::N | Path::P => Ok(anywhere(true)),
         Path::F | Path::B => Ok(anywhere(false)),
-        Path::Seq(first, second) => {
-            let own = source_side(alloc, first)?;
-            if own.keeps {
-                let behind = source_side(alloc, second)?;
-                both_sides(alloc, &own, &behind)
-            } else {
-                Ok(own)
-            }
-        }
+        Path::Seq(first, second) => match end {
+            PathEnd::Start => side_along(alloc, end, first, second),
+            PathEnd::Finish => side_along(alloc, end, second, first),
+        },
         Path::Alt(one, other) => {
-            let by_one = source_side(alloc, one)?;
-            let by_other = source_side(alloc, other)?;
+            let by_one = side_of(alloc, end, one)?;
+            let by_other = side_of(alloc, end, other)?;
             either_side(alloc, &by_one, &by_other)
         }
         Path::Repeat { body, least, .. } => {
-            let once = source_side(alloc, body)?;
+            let once = side_of(alloc, end, body)?;
             Ok(repeated_side(once, *least))
         }
+    }
+}
+
+// The end of a sequence at which the nearer of its parts stands.
+#[cycle(scopes)]
+fn side_along(alloc: Global, end: PathEnd, near: &Path, far: &Path) -> Result<Side, AllocError>
+    ensures scope { let at = scope_at end in let own = path_term near.now in let behind = path_term far.now in
+        IfOk result (λ side. side.scope ≡ met_where (keeps_object own) (at own) (at behind)) }
+    ensures keeps { let keeps = keeps_object in
+        IfOk result (λ side. side.keeps ≡ (keeps (path_term near.now) && keeps (path_term far.now))) }
+{
+    let own = side_of(alloc, end, near)?;
+    if own.keeps {
+        let behind = side_of(alloc, end, far)?;
+        both_sides(alloc, &own, &behind)
+    } else {
+        Ok(own)
     }
 }
 
@@ -107,57 +127,24 @@ fn repeated_side(once: Side, least: u64) -> Side
 pub fn src(alloc: Global, path: &Path) -> Result<Scope, AllocError>
     ensures { IfOk result (λ scope. scope ≡ source_scope (path_term path.now)) }
 {
-    let Side { scope, .. } = source_side(alloc, path)?;
+    let Side { scope, .. } = side_of(alloc, PathEnd::Start, path)?;
     Ok(scope)
 }
 
 // The scope in which the test can hold.
-#[cycle(sources)]
+#[cycle(scopes)]
 fn test_src(alloc: Global, test: &Test) -> Result<Scope, AllocError>
     ensures { IfOk result (λ scope. scope ≡ test_scope (test_term test.now)) }
 {
     match test {
-        Test::Label(label) => Scope::one(alloc, *label),
+        Test::Leaf(Leaf::Label(label)) => Scope::one(alloc, *label),
         Test::Cond(path) => {
-            let Side { scope, .. } = source_side(alloc, path)?;
+            let Side { scope, .. } = side_of(alloc, PathEnd::Start, path)?;
             Ok(scope)
         }
         Test::And(one, other) => test_src(alloc, one)?.meet(alloc, &test_src(alloc, other)?),
         Test::Or(one, other) => test_src(alloc, one)?.join(alloc, &test_src(alloc, other)?),
-        _ => Ok(Scope::All),
-    }
-}
-
-// The end at which the path ends.
-fn target_side(alloc: Global, path: &Path) -> Result<Side, AllocError>
-    ensures scope { IfOk result (λ side. side.scope ≡ target_scope (path_term path.now)) }
-    ensures keeps { IfOk result (λ side. side.keeps ≡ keeps_object (path_term path.now)) }
-{
-    match path {
-        Path::Test(test) => Ok(Side {
-            scope: test_src(alloc, test)?,
-            keeps: true,
-        }),
-        Path::N | Path::P => Ok(anywhere(true)),
-        Path::F | Path::B => Ok(anywhere(false)),
-        Path::Seq(first, second) => {
-            let own = target_side(alloc, second)?;
-            if own.keeps {
-                let before = target_side(alloc, first)?;
-                both_sides(alloc, &own, &before)
-            } else {
-                Ok(own)
-            }
-        }
-        Path::Alt(one, other) => {
-            let by_one = target_side(alloc, one)?;
-            let by_other = target_side(alloc, other)?;
-            either_side(alloc, &by_one, &by_other)
-        }
-        Path::Repeat { body, least, .. } => {
-            let once = target_side(alloc, body)?;
-            Ok(repeated_side(once, *least))
-        }
+        Test::Leaf(_) | Test::Not(_) => Ok(Scope::All),
     }
 }
 
@@ -165,7 +152,7 @@ fn target_side(alloc: Global, path: &Path) -> Result<Side, AllocError>
 pub fn tgt(alloc: Global, path: &Path) -> Result<Scope, AllocError>
     ensures { IfOk result (λ scope. scope ≡ target_scope (path_term path.now)) }
 {
-    let Side { scope, .. } = target_side(alloc, path)?;
+    let Side { scope, .. } = side_of(alloc, PathEnd::Finish, path)?;
     Ok(scope)
 }
 
@@ -197,7 +184,7 @@ pub fn narrow(
     ensures sources { IfOk result (λ pair. pair.0 ≡ (narrowed (path_term path.now) a.now b.now).sources) }
     ensures targets { IfOk result (λ pair. pair.1 ≡ (narrowed (path_term path.now) a.now b.now).targets) }
 {
-    let start = source_side(alloc, path)?;
+    let start = side_of(alloc, PathEnd::Start, path)?;
     let sources = a.meet(alloc, &start.scope)?;
     let targets = b.meet(alloc, &tgt(alloc, path)?)?;
     if start.keeps {

@@ -1,4 +1,4 @@
-//! Scopes.
+//! Scopes: sets of objects by their labels.
 ghost use Rattle.std.specs.Prelude.{◌≡◌, ◌↔◌, IsTrue, IfOk};
 ghost use Rattle.label_scope.specs.Scopes.{Has, met, joined, one_label};
 

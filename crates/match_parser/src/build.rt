@@ -6,7 +6,7 @@ ghost use Rattle.match_parser.specs.Translation.{axis_path, node_test};
 ghost use Rattle.match_parser.specs.Parsing.{repeated};
 
 use crate::words::Axis;
-use path_ast::{Path, Test};
+use path_ast::{Leaf, Path, Test};
 use std::alloc::{AllocError, Global};
 
 pub(crate) fn sequence(alloc: Global, a: Path, b: Path) -> Result<Path, AllocError>
@@ -73,7 +73,7 @@ pub(crate) fn negation(alloc: Global, a: Test) -> Result<Test, AllocError>
 pub(crate) fn node(alloc: Global) -> Result<Test, AllocError>
     ensures { IfOk result (λ test. test_term test ≡ node_test) }
 {
-    both(alloc, Test::Node, Test::Exists)
+    both(alloc, Test::Leaf(Leaf::Node), Test::Leaf(Leaf::Exists))
 }
 
 // The step that a word is.
@@ -96,6 +96,6 @@ pub(crate) fn step(alloc: Global, axis: Axis) -> Result<Path, AllocError>
 fn existing(alloc: Global, path: Path) -> Result<Path, AllocError>
     ensures { IfOk result (λ whole. path_term whole ≡ Sequence (path_term path) (OfTest DoesExist)) }
 {
-    let exists = of_test(alloc, Test::Exists)?;
+    let exists = of_test(alloc, Test::Leaf(Leaf::Exists))?;
     sequence(alloc, path, exists)
 }

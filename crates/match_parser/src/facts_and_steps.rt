@@ -10,7 +10,7 @@ use crate::kept::keep_name;
 use crate::times::moment;
 use crate::tokens::{expect, quote, skip_mark, word};
 use crate::words::{Keyword, find_axis, find_keyword};
-use path_ast::{Path, Test};
+use path_ast::{Leaf, Path, Test};
 use script_lex::{Mark, What};
 use std::alloc::{AllocError, Global};
 
@@ -21,7 +21,7 @@ pub(crate) fn label<'a>(tokens: &'a [What<'a>]) -> Result<(Test, &'a [What<'a>])
     ensures shorter { IfOk result (λ x. length (lexemes x.1.now) < length (lexemes tokens.now)) }
 {
     let (bytes, rest) = word(tokens)?;
-    Ok((Test::Label(keep_name(bytes)), rest))
+    Ok((Test::Leaf(Leaf::Label(keep_name(bytes))), rest))
 }
 
 // The test of a property's value; the name of the property stands before it.
@@ -31,18 +31,18 @@ fn property<'a>(name: &[u8], tokens: &'a [What<'a>]) -> Result<(Test, &'a [What<
 {
     let rest = expect(tokens, Mark::Equal)?;
     let (value, rest) = quote(rest)?;
-    let test = Test::Value {
+    let leaf = Leaf::Value {
         prop: keep_name(name),
         value: keep_name(value),
     };
-    Ok((test, rest))
+    Ok((Test::Leaf(leaf), rest))
 }
 
 // The test that the moment is this one or later.
 fn from_moment(alloc: Global, k: i64) -> Result<Test, AllocError>
     ensures { IfOk result (λ test. test_term test ≡ Negation (IsBelow k)) }
 {
-    build::negation(alloc, Test::Before(k))
+    build::negation(alloc, Test::Leaf(Leaf::Before(k)))
 }
 
 // The test of the moment; the word `time` stands before it.
@@ -52,12 +52,12 @@ fn time<'a>(alloc: Global, tokens: &'a [What<'a>]) -> Result<(Test, &'a [What<'a
 {
     if let Some(rest) = skip_mark(tokens, Mark::Less) {
         let (k, rest) = moment(rest)?;
-        return Ok((Test::Before(k), rest));
+        return Ok((Test::Leaf(Leaf::Before(k)), rest));
     }
     if let Some(rest) = skip_mark(tokens, Mark::Equal) {
         let (k, rest) = moment(rest)?;
         let from = from_moment(alloc, k)?;
-        return Ok((build::both(alloc, from, Test::Before(k + 1))?, rest));
+        return Ok((build::both(alloc, from, Test::Leaf(Leaf::Before(k + 1)))?, rest));
     }
     let rest = expect(tokens, Mark::AtLeast)?;
     let (k, rest) = moment(rest)?;
@@ -79,9 +79,9 @@ pub(crate) fn fact<'a>(
     let (bytes, rest) = word(tokens)?;
     match find_keyword(bytes) {
         None => property(bytes, rest),
-        Some(Keyword::Node) => Ok((Test::Node, rest)),
-        Some(Keyword::Edge) => Ok((Test::Edge, rest)),
-        Some(Keyword::Exists) => Ok((Test::Exists, rest)),
+        Some(Keyword::Node) => Ok((Test::Leaf(Leaf::Node), rest)),
+        Some(Keyword::Edge) => Ok((Test::Leaf(Leaf::Edge), rest)),
+        Some(Keyword::Exists) => Ok((Test::Leaf(Leaf::Exists), rest)),
         Some(Keyword::Time) => time(alloc, rest),
         Some(Keyword::Not) | Some(Keyword::And) | Some(Keyword::Or) => Err(Stop::Text),
     }

@@ -4,7 +4,9 @@ use Rattle.itpg_base.specs.Words.{Word}
 use Rattle.path_ast.specs.declared.ast.Path.{Path}
 use Rattle.path_ast.specs.declared.ast.Path.TheVariants.{Test', F, B, N, P, Seq', Alt', Repeat'}
 use Rattle.path_ast.specs.declared.ast.Test.{Test}
-use Rattle.path_ast.specs.declared.ast.Test.TheVariants.{Node, Edge, Label, Value, Before, Exists, Cond', And', Or', Not'}
+use Rattle.path_ast.specs.declared.ast.Test.TheVariants as test
+use Rattle.path_ast.specs.declared.ast.Leaf.{Leaf}
+use Rattle.path_ast.specs.declared.ast.Leaf.TheVariants.{Node, Edge, Label, Value, Before, Exists}
 use Rattle.path_ast.specs.declared.ast.Query.{Query}
 
 mutual
@@ -39,6 +41,15 @@ pub record QueryTerm : Type 0 where
   pub path : PathTerm
   pub graph_name : Option Word
 
+-- the term that a test of one object at one moment stands for
+abbrev pub leaf_term : Leaf → TestTerm
+leaf_term Node = IsNode
+leaf_term Edge = IsEdge
+leaf_term (Label label) = HasLabel label
+leaf_term (Value prop value) = HasValue prop value
+leaf_term (Before k) = IsBelow k
+leaf_term Exists = DoesExist
+
 -- the term that a path, or a test, in memory stands for
 abbrev mutual
   pub path_term : Path → PathTerm
@@ -52,16 +63,11 @@ abbrev mutual
   path_term (Repeat' p body least most) = Repetition (path_term body) least most
 
   pub test_term : Test → TestTerm
-  test_term Node = IsNode
-  test_term Edge = IsEdge
-  test_term (Label label) = HasLabel label
-  test_term (Value prop value) = HasValue prop value
-  test_term (Before k) = IsBelow k
-  test_term Exists = DoesExist
-  test_term (Cond' p a) = Condition (path_term a)
-  test_term (And' p a q b) = Conjunction (test_term a) (test_term b)
-  test_term (Or' p a q b) = Disjunction (test_term a) (test_term b)
-  test_term (Not' p a) = Negation (test_term a)
+  test_term (test.Leaf leaf) = leaf_term leaf
+  test_term (test.Cond' p a) = Condition (path_term a)
+  test_term (test.And' p a q b) = Conjunction (test_term a) (test_term b)
+  test_term (test.Or' p a q b) = Disjunction (test_term a) (test_term b)
+  test_term (test.Not' p a) = Negation (test_term a)
 
 -- the term that a query in memory stands for
 abbrev pub query_term : Query → QueryTerm

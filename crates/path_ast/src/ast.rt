@@ -52,6 +52,21 @@ pub enum Path {
 #[cycle(path)]
 #[derive(Debug, Drop)]
 pub enum Test {
+    /// The test asks for the one object at the one moment.
+    Leaf(Leaf),
+    /// The path leads from the point to some point.
+    Cond(Box<Path>),
+    /// Both tests hold.
+    And(Box<Test>, Box<Test>),
+    /// One of the tests holds, or both do.
+    Or(Box<Test>, Box<Test>),
+    /// The test doesn't hold, whether the object exists at the moment or not.
+    Not(Box<Test>),
+}
+
+/// A test that asks only for one object at one moment.
+#[derive(Clone, Copy, Debug, Drop)]
+pub enum Leaf {
     /// The object is a node.
     Node,
     /// The object is an edge.
@@ -64,14 +79,6 @@ pub enum Test {
     Before(i64),
     /// The object exists at the moment.
     Exists,
-    /// The path leads from the point to some point.
-    Cond(Box<Path>),
-    /// Both tests hold.
-    And(Box<Test>, Box<Test>),
-    /// One of the tests holds, or both do.
-    Or(Box<Test>, Box<Test>),
-    /// The test doesn't hold, whether the object exists at the moment or not.
-    Not(Box<Test>),
 }
 
 /// A query: a path, whether its first and its last point are asked for, and the name of the graph if the text says one.

@@ -54,15 +54,7 @@ fn copy_test(alloc: Global, test: &Test) -> Result<Test, AllocError>
     ensures { IfOk result (λ copy. test_term copy ≡ test_term test.now) }
 {
     match test {
-        Test::Node => Ok(Test::Node),
-        Test::Edge => Ok(Test::Edge),
-        Test::Label(label) => Ok(Test::Label(*label)),
-        Test::Value { prop, value } => Ok(Test::Value {
-            prop: *prop,
-            value: *value,
-        }),
-        Test::Before(k) => Ok(Test::Before(*k)),
-        Test::Exists => Ok(Test::Exists),
+        Test::Leaf(leaf) => Ok(Test::Leaf(*leaf)),
         Test::Cond(path) => Ok(Test::Cond(boxed_path(alloc, path)?)),
         Test::And(a, b) => Ok(Test::And(boxed_test(alloc, a)?, boxed_test(alloc, b)?)),
         Test::Or(a, b) => Ok(Test::Or(boxed_test(alloc, a)?, boxed_test(alloc, b)?)),

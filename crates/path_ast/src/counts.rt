@@ -31,6 +31,6 @@ fn test_terms(test: &Test) -> usize
         Test::Cond(path) => terms(path) + 1,
         Test::And(a, b) | Test::Or(a, b) => test_terms(a) + test_terms(b) + 1,
         Test::Not(a) => test_terms(a) + 1,
-        _ => 1,
+        Test::Leaf(_) => 1,
     }
 }

@@ -10,7 +10,7 @@ mod copies;
 mod counts;
 mod laws;
 
-pub use ast::{Path, Query, Test};
+pub use ast::{Leaf, Path, Query, Test};
 pub use counts::terms;
 pub use laws::{
     law_of_associativity, law_of_axes_and_kinds, law_of_decided_paths, law_of_decided_tests,

@@ -1,13 +1,13 @@
 -- A path joins finitely many points, and whether it does is decided.
-use Rattle.std.proofs.Common.{ℕ, ◌<◌, ℤ, pos, List, [], ◌∷◌, ◌⊎◌, inl, inr, length, Option, Some, None, refl, subst}
+use Rattle.std.proofs.Common.{ℕ, ◌<◌, Bool, ℤ, pos, List, [], ◌∷◌, ◌⊎◌, inl, inr, length, Option, Some, None, refl, subst}
 use Rattle.std.specs.Prelude.{IsSomeAnd}
 use Rattle.std.proofs.lemmas.Option.{slice_get_within}
 use Rattle.itpg_base.specs.Decided.{Decided}
 use Rattle.itpg_base.specs.Spans.{Within}
 use Rattle.itpg_base.specs.Graphs.{Graph, Begun}
-use Rattle.itpg_base.specs.Points.{Point, IsAt}
+use Rattle.itpg_base.specs.Points.{Point, Relation, IsAt}
 use Rattle.itpg_base.proofs.Objects.{there}
-use Rattle.itpg_base.proofs.Searches.{both, as_well}
+use Rattle.itpg_base.proofs.Searches.{both, as_well, is_true}
 use Rattle.itpg_base.proofs.PointSearch.{some_point}
 use Rattle.zone_core.specs.Zone.{Between}
 use Rattle.interval_set.proofs.Exists.{runs_exist}
@@ -27,7 +27,7 @@ use Rattle.label_scope.specs.declared.scope.Scope.{Scope}
 use Rattle.label_scope.specs.Narrowing.{Cut}
 use Rattle.label_scope.specs.Members.{Member}
 use Rattle.label_scope.proofs.Within.{decide_within_scope}
-use Rattle.path_eval.specs.Evaluated.{member_relation, AllFit, SomeIsWide}
+use Rattle.path_eval.specs.Evaluated.{member_relation, AllFit, SomeIsWide, CutToPicked}
 use Rattle.path_eval.specs.Answering.{DepartsAt, ArrivesAt}
 
 -- the moments between which all points lie
@@ -51,25 +51,38 @@ module _ (g : Graph) where
   near : (x : Point) → IsAt g x → Between (first_of g.begun) (last_of g.begun) x.moment
   near x at = in_begun g.begun x.moment at.within
 
+  -- a decided relation that is part of a path's has a normal list
+  module _ (p : PathTerm) (R : Relation) (leads : (x y : Point) → R x y → Rel p g x y) (decide : (x y : Point) → Decided (R x y)) where
+    part_finite : IsFinite (length g.objects) (first_of g.begun) (last_of g.begun) R
+    part_finite = record {
+      source = λ x y c. few x (starts_at p g x y (leads x y c));
+      target = λ x y c. few y (ends_at p g x y (leads x y c));
+      departs = λ x y c. near x (starts_at p g x y (leads x y c));
+      arrives = λ x y c. near y (ends_at p g x y (leads x y c));
+    }
+
+    part_rows : (rows : List Row) × NormalRows R rows
+    part_rows = rows_exist (length g.objects) (first_of g.begun) (last_of g.begun) R decide part_finite
+
+    part_either : (limit : ℕ) → Fits R limit ⊎ IsWide R limit
+    part_either limit = rows_either (length g.objects) (first_of g.begun) (last_of g.begun) R decide part_finite limit
+
+  pub picked_rows : (p : PathTerm) (sources targets : ℕ → Bool) → (rows : List Row) × NormalRows (CutToPicked g p sources targets) rows
+  picked_rows p sources targets = part_rows p (CutToPicked g p sources targets) (λ x y c. c.leads)
+      (λ x y. as_well (λ h. record { leads = h.0; source = h.1.0; target = h.1.1 }) (λ c. (c.leads, (c.source, c.target)))
+      (both (decide_rel p g x y) (both (is_true (sources x.object)) (is_true (targets y.object)))))
+
   module _ (p : PathTerm) (a b : Scope) where
     cut_decided : (x y : Point) → Decided (Cut g p a b x y)
     cut_decided x y =
         as_well (λ h. record { leads = h.0; source = h.1.0; target = h.1.1 }) (λ c. (c.leads, (c.source, c.target)))
         (both (decide_rel p g x y) (both (decide_within_scope a g x.object) (decide_within_scope b g y.object)))
 
-    cut_finite : IsFinite (length g.objects) (first_of g.begun) (last_of g.begun) (Cut g p a b)
-    cut_finite = record {
-      source = λ x y c. few x (starts_at p g x y c.leads);
-      target = λ x y c. few y (ends_at p g x y c.leads);
-      departs = λ x y c. near x (starts_at p g x y c.leads);
-      arrives = λ x y c. near y (ends_at p g x y c.leads);
-    }
-
     pub cut_rows : (rows : List Row) × NormalRows (Cut g p a b) rows
-    cut_rows = rows_exist (length g.objects) (first_of g.begun) (last_of g.begun) (Cut g p a b) cut_decided cut_finite
+    cut_rows = part_rows p (Cut g p a b) (λ x y c. c.leads) cut_decided
 
     pub cut_either : (limit : ℕ) → Fits (Cut g p a b) limit ⊎ IsWide (Cut g p a b) limit
-    cut_either limit = rows_either (length g.objects) (first_of g.begun) (last_of g.begun) (Cut g p a b) cut_decided cut_finite limit
+    cut_either limit = part_either p (Cut g p a b) (λ x y c. c.leads) cut_decided limit
 
   pub fit_or_wide : (limit : ℕ) (members : List Member) → AllFit g limit members ⊎ SomeIsWide g limit members
   fit_or_wide limit [] = inl (λ m among. absurd among)

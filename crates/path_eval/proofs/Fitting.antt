@@ -4,16 +4,14 @@ use Rattle.itpg_base.specs.Graphs.{Graph}
 use Rattle.itpg_base.specs.Points.{Point, Relation}
 use Rattle.relation_rows.specs.declared.rows.Row.{Row}
 use Rattle.relation_rows.specs.declared.rows.RelFault.{RelFault}
-use Rattle.relation_rows.specs.declared.rows.RelFault.TheVariants as rel
+use Rattle.relation_rows.specs.declared.rows.RelFault.TheVariants.{Memory, Wide}
 use Rattle.relation_rows.specs.Rows.{Fits}
 use Rattle.relation_rows.specs.Answers.{Gives}
 use Rattle.relation_rows.proofs.Alike.{rows_alike, wide_alike}
 use Rattle.label_scope.specs.Members.{Member}
-use Rattle.path_eval.specs.declared.evaluation.EvalFault.{EvalFault}
-use Rattle.path_eval.specs.declared.evaluation.EvalFault.TheVariants.{Memory, Wide}
 use Rattle.path_eval.specs.Evaluated.{member_relation, AllFit, SomeIsWide}
 use Rattle.path_eval.proofs.MembersWithin.{wide_own}
-use Rattle.path_eval.specs.Working.{evaluated_as, WorksOutAs}
+use Rattle.path_eval.specs.Working.{WorksOutAs}
 
 module _ (g : Graph) (limit : ℕ) where
   pub fit_own : (own : Member) (rest : List Member) → Fits (member_relation g own) limit → AllFit g limit rest → AllFit g limit (own ∷ rest)
@@ -22,16 +20,16 @@ module _ (g : Graph) (limit : ℕ) where
 
   -- what a call of a relation gives is what the member is, and the others fit
   pub works_out : (own : Member) (rest : List Member) (R : Relation) → ((x y : Point) → R x y → member_relation g own x y) → ((x y : Point) → member_relation g own x y → R x y)
-      → AllFit g limit rest → (result : Result (List Row) RelFault) → Gives result R limit → WorksOutAs (evaluated_as result) (member_relation g own) g limit (own ∷ rest)
+      → AllFit g limit rest → (result : Result (List Row) RelFault) → Gives result R limit → WorksOutAs result (member_relation g own) g limit (own ∷ rest)
   works_out own rest R f b all (Ok rows) h =
       let rows_are = rows_alike R (member_relation g own) f b rows h.0 in
       (rows_are, fit_own own rest (rows, rows_are, h.1) all)
-  works_out own rest R f b all (Err rel.Memory) h = tt
-  works_out own rest R f b all (Err rel.Wide) h = wide_own g limit own rest (wide_alike R (member_relation g own) f b limit h)
+  works_out own rest R f b all (Err Memory) h = tt
+  works_out own rest R f b all (Err Wide) h = wide_own g limit own rest (wide_alike R (member_relation g own) f b limit h)
 
   -- the same relation, and other members in place of these
   pub works_out_as : (R S : Relation) (ms ns : List Member) → ((x y : Point) → R x y → S x y) → ((x y : Point) → S x y → R x y) → ms ≡ ns
-      → (result : Result (List Row) EvalFault) → WorksOutAs result R g limit ms → WorksOutAs result S g limit ns
+      → (result : Result (List Row) RelFault) → WorksOutAs result R g limit ms → WorksOutAs result S g limit ns
   works_out_as R S ms ns f b same (Ok rows) h = (rows_alike R S f b rows h.0, subst (AllFit g limit) same h.1)
   works_out_as R S ms ns f b same (Err Memory) h = tt
   works_out_as R S ms ns f b same (Err Wide) h = subst (SomeIsWide g limit) same h

@@ -9,7 +9,7 @@ use Rattle.itpg_base.specs.Lists.{Among}
 use Rattle.itpg_base.proofs.Lists.{append_second}
 use Rattle.relation_rows.specs.declared.rows.Row.{Row}
 use Rattle.relation_rows.specs.declared.rows.RelFault.{RelFault}
-use Rattle.relation_rows.specs.declared.rows.RelFault.TheVariants as rel
+use Rattle.relation_rows.specs.declared.rows.RelFault.TheVariants.{Memory, Wide}
 use Rattle.relation_rows.specs.Rows.{NormalRows}
 use Rattle.relation_rows.specs.Answers.{Gives}
 use Rattle.relation_rows.specs.Relations.{HasMiddlePoint, EitherHolds}
@@ -29,11 +29,9 @@ use Rattle.condition_eval.specs.Marking.{AreMarks, objects_of}
 use Rattle.condition_eval.specs.Tested.{HoldsAt, StartsAt, Stand, HasHorizon}
 use Rattle.condition_eval.specs.Within.{AreWithin}
 use Rattle.condition_eval.proofs.Meanings.{negated, both_hold, either_holds, scoped_condition, scoped_test}
-use Rattle.path_eval.specs.declared.evaluation.EvalFault.{EvalFault}
-use Rattle.path_eval.specs.declared.evaluation.EvalFault.TheVariants.{Memory, Wide}
 use Rattle.path_eval.specs.Evaluated.{AllFit}
 use Rattle.path_eval.specs.Powers.{GivesMember, repetition_member, repetition_members}
-use Rattle.path_eval.specs.Working.{evaluated_as, WorksOutAs, MarksOutAs, member, axis_members, test_members, sequence_members, choice_members, repeated_members, members_between}
+use Rattle.path_eval.specs.Working.{WorksOutAs, MarksOutAs, member, axis_members, test_members, sequence_members, choice_members, repeated_members, members_between}
 use Rattle.path_eval.proofs.Fitting.{fit_own, works_out, works_out_as}
 use Rattle.path_eval.proofs.MembersWithin.{none_fit, fit_both, wide_first, wide_second, wide_rest}
 use Rattle.path_eval.proofs.Joining.{sequence_from, from_sequence, choice_from, from_choice}
@@ -63,28 +61,28 @@ first_member (Repetition r n m) a b = inl refl
 module _ (g : Graph) (limit : ℕ) (good : Good g) where
   -- narrowing the scopes changes nothing
   pub unnarrowed : (p : PathTerm) (a b s t : Scope) → s ≡ (narrowed p a b).sources → t ≡ (narrowed p a b).targets
-      → (result : Result (List Row) EvalFault) → WorksOutAs result (Cut g p s t) g limit (members_between p s t) → WorksOutAs result (Cut g p a b) g limit (worked p a b)
+      → (result : Result (List Row) RelFault) → WorksOutAs result (Cut g p s t) g limit (members_between p s t) → WorksOutAs result (Cut g p a b) g limit (worked p a b)
   unnarrowed p a b s t e f result h =
       let k = subst (λ (v : Scope). WorksOutAs result (Cut g p v t) g limit (members_between p v t)) e h in
       let l = subst (λ (v : Scope). WorksOutAs result (Cut g p (narrowed p a b).sources v) g limit (members_between p (narrowed p a b).sources v)) f k in
       works_out_as g limit (Cut g p (narrowed p a b).sources (narrowed p a b).targets) (Cut g p a b) (members_between p (narrowed p a b).sources (narrowed p a b).targets) (worked p a b)
       (widened_cut p a b g) (λ x y c. narrowed_cut p a b g x y good c) (members_are p a b) result l
 
-  pub axis_out : (p : PathTerm) (a b : Scope) (result : Result (List Row) RelFault) → Gives result (Cut g p a b) limit → WorksOutAs (evaluated_as result) (Cut g p a b) g limit (axis_members p a b)
+  pub axis_out : (p : PathTerm) (a b : Scope) (result : Result (List Row) RelFault) → Gives result (Cut g p a b) limit → WorksOutAs result (Cut g p a b) g limit (axis_members p a b)
   axis_out p a b = works_out g limit (member p a b) [] (Cut g p a b) (λ x y c. c) (λ x y c. c) (none_fit g limit)
 
   -- an axis in time, where both ends have one scope
-  pub time_out : (p : PathTerm) (a b : Scope) → a ≡ b → (result : Result (List Row) RelFault) → Gives result (Cut g p a a) limit → WorksOutAs (evaluated_as result) (Cut g p a b) g limit (axis_members p a b)
+  pub time_out : (p : PathTerm) (a b : Scope) → a ≡ b → (result : Result (List Row) RelFault) → Gives result (Cut g p a a) limit → WorksOutAs result (Cut g p a b) g limit (axis_members p a b)
   time_out p a b e result h = axis_out p a b result (subst (λ (v : Scope). Gives result (Cut g p a v) limit) e h)
 
   pub test_out : (c : TestTerm) (a : Scope) (objects : List ObjNo) (are : AreWithin a g objects) (marks : List Marked) → AreMarks objects (HoldsAt c g) marks → AllFit g limit (worked_conditions c a)
-      → (result : Result (List Row) RelFault) → Gives result (MarkedToItself marks) limit → WorksOutAs (evaluated_as result) (Cut g (OfTest c) a a) g limit (test_members c a)
+      → (result : Result (List Row) RelFault) → Gives result (MarkedToItself marks) limit → WorksOutAs result (Cut g (OfTest c) a a) g limit (test_members c a)
   test_out c a objects are marks is fit =
       works_out g limit (member (OfTest c) a a) (worked_conditions c a) (MarkedToItself marks) (λ x y h. (scoped_test g a objects are c marks is x y).0 h) (λ x y h. (scoped_test g a objects are c marks is x y).1 h) fit
 
   pub sequence_out : (p q : PathTerm) (a b m : Scope) → m ≡ middle p q (record { sources = a; targets = b }) → (left right : List Row)
       → NormalRows (Cut g p a m) left × AllFit g limit (worked p a m) → NormalRows (Cut g q m b) right × AllFit g limit (worked q m b)
-      → (result : Result (List Row) RelFault) → Gives result (HasMiddlePoint left right) limit → WorksOutAs (evaluated_as result) (Cut g (Sequence p q) a b) g limit (sequence_members p q a b)
+      → (result : Result (List Row) RelFault) → Gives result (HasMiddlePoint left right) limit → WorksOutAs result (Cut g (Sequence p q) a b) g limit (sequence_members p q a b)
   sequence_out p q a b m e left right first second =
       let l = subst (λ (v : Scope). NormalRows (Cut g p a v) left × AllFit g limit (worked p a v)) e first in
       let r = subst (λ (v : Scope). NormalRows (Cut g q v b) right × AllFit g limit (worked q v b)) e second in
@@ -94,15 +92,15 @@ module _ (g : Graph) (limit : ℕ) (good : Good g) where
 
   -- what is worked out within the scope of all that a repetition passes, after the members of its body
   pub repetition_out : (r : PathTerm) (n : ℕ) (m : Option ℕ) (a b u : Scope) → u ≡ passed r (record { sources = a; targets = b }) → AllFit g limit (worked r u u)
-      → (result : Result (List Row) RelFault) → GivesMember g limit (repetition_member r n m a b) (repetition_members r u n m) result → WorksOutAs (evaluated_as result) (Cut g (Repetition r n m) a b) g limit (repeated_members r n m a b)
+      → (result : Result (List Row) RelFault) → GivesMember g limit (repetition_member r n m a b) (repetition_members r u n m) result → WorksOutAs result (Cut g (Repetition r n m) a b) g limit (repeated_members r n m a b)
   repetition_out r n m a b u e fit result h =
       works_repeated r n m a b (passed r (record { sources = a; targets = b })) (subst (λ (v : Scope). AllFit g limit (worked r v v)) e fit) result (subst (λ (v : Scope). GivesMember g limit (repetition_member r n m a b) (repetition_members r v n m) result) e h)
     where
       works_repeated : (r : PathTerm) (n : ℕ) (m : Option ℕ) (a b u : Scope) → AllFit g limit (worked r u u) → (result : Result (List Row) RelFault) → GivesMember g limit (repetition_member r n m a b) (repetition_members r u n m) result
-          → WorksOutAs (evaluated_as result) (Cut g (Repetition r n m) a b) g limit (member (Repetition r n m) a b ∷ (worked r u u ++ repetition_members r u n m))
+          → WorksOutAs result (Cut g (Repetition r n m) a b) g limit (member (Repetition r n m) a b ∷ (worked r u u ++ repetition_members r u n m))
       works_repeated r n m a b u fit (Ok rows) h = (h.0, fit_own g limit (member (Repetition r n m) a b) (worked r u u ++ repetition_members r u n m) (rows, h.0, h.1) (fit_both g limit (worked r u u) (repetition_members r u n m) fit h.2))
-      works_repeated r n m a b u fit (Err rel.Memory) h = tt
-      works_repeated r n m a b u fit (Err rel.Wide) h = record { member = h.member; among = ⊎_elim (λ i. inl i) (λ i. inr (append_second (worked r u u) (repetition_members r u n m) h.member i)) h.among; wide = h.wide }
+      works_repeated r n m a b u fit (Err Memory) h = tt
+      works_repeated r n m a b u fit (Err Wide) h = record { member = h.member; among = ⊎_elim (λ i. inl i) (λ i. inr (append_second (worked r u u) (repetition_members r u n m) h.member i)) h.among; wide = h.wide }
 
   -- a relation whose members fit has few enough rows itself
   pub few_rows : (p : PathTerm) (a b : Scope) (rows : List Row) → NormalRows (Cut g p a b) rows → AllFit g limit (worked p a b) → length rows ≤ limit
@@ -114,38 +112,38 @@ module _ (g : Graph) (limit : ℕ) (good : Good g) where
       subst (λ (v : List Row). length v ≤ limit) (sym same) own.2
 
   pub choice_out : (p q : PathTerm) (a b : Scope) (left right : List Row) → NormalRows (Cut g p a b) left × AllFit g limit (worked p a b) → NormalRows (Cut g q a b) right × AllFit g limit (worked q a b)
-      → (result : Result (List Row) RelFault) → Gives result (EitherHolds left right) limit → WorksOutAs (evaluated_as result) (Cut g (Choice p q) a b) g limit (choice_members p q a b)
+      → (result : Result (List Row) RelFault) → Gives result (EitherHolds left right) limit → WorksOutAs result (Cut g (Choice p q) a b) g limit (choice_members p q a b)
   choice_out p q a b left right first second =
       works_out g limit (member (Choice p q) a b) (worked p a b ++ worked q a b) (EitherHolds left right) (choice_from g good p q a b left right first.0 second.0) (from_choice g good p q a b left right first.0 second.0)
       (fit_both g limit (worked p a b) (worked q a b) first.1 second.1)
 
 module _ (g : Graph) (limit : ℕ) where
   -- a fault of a part is one of the whole
-  pub first_fault : (R S : Relation) (own : Member) (ms ns : List Member) (fault : EvalFault) → WorksOutAs (Err fault) R g limit ms → WorksOutAs (Err fault) S g limit (own ∷ (ms ++ ns))
+  pub first_fault : (R S : Relation) (own : Member) (ms ns : List Member) (fault : RelFault) → WorksOutAs (Err fault) R g limit ms → WorksOutAs (Err fault) S g limit (own ∷ (ms ++ ns))
   first_fault R S own ms ns Memory h = tt
   first_fault R S own ms ns Wide h = wide_rest g limit own (ms ++ ns) (wide_first g limit ms ns h)
 
-  pub second_fault : (R S : Relation) (own : Member) (ms ns : List Member) (fault : EvalFault) → WorksOutAs (Err fault) R g limit ns → WorksOutAs (Err fault) S g limit (own ∷ (ms ++ ns))
+  pub second_fault : (R S : Relation) (own : Member) (ms ns : List Member) (fault : RelFault) → WorksOutAs (Err fault) R g limit ns → WorksOutAs (Err fault) S g limit (own ∷ (ms ++ ns))
   second_fault R S own ms ns Memory h = tt
   second_fault R S own ms ns Wide h = wide_rest g limit own (ms ++ ns) (wide_second g limit ms ns h)
 
-  pub marks_fault : (S : Relation) (c : TestTerm) (objects : List ObjNo) (own : Member) (ms : List Member) (fault : EvalFault) → MarksOutAs (Err fault) c objects g limit ms → WorksOutAs (Err fault) S g limit (own ∷ ms)
+  pub marks_fault : (S : Relation) (c : TestTerm) (objects : List ObjNo) (own : Member) (ms : List Member) (fault : RelFault) → MarksOutAs (Err fault) c objects g limit ms → WorksOutAs (Err fault) S g limit (own ∷ ms)
   marks_fault S c objects own ms Memory h = tt
   marks_fault S c objects own ms Wide h = wide_rest g limit own ms h
 
-  pub leading_fault : (R : Relation) (c : TestTerm) (objects : List ObjNo) (ms : List Member) (fault : EvalFault) → WorksOutAs (Err fault) R g limit ms → MarksOutAs (Err fault) c objects g limit ms
+  pub leading_fault : (R : Relation) (c : TestTerm) (objects : List ObjNo) (ms : List Member) (fault : RelFault) → WorksOutAs (Err fault) R g limit ms → MarksOutAs (Err fault) c objects g limit ms
   leading_fault R c objects ms Memory h = tt
   leading_fault R c objects ms Wide h = h
 
-  pub first_marks : (c d : TestTerm) (objects : List ObjNo) (ms ns : List Member) (fault : EvalFault) → MarksOutAs (Err fault) c objects g limit ms → MarksOutAs (Err fault) d objects g limit (ms ++ ns)
+  pub first_marks : (c d : TestTerm) (objects : List ObjNo) (ms ns : List Member) (fault : RelFault) → MarksOutAs (Err fault) c objects g limit ms → MarksOutAs (Err fault) d objects g limit (ms ++ ns)
   first_marks c d objects ms ns Memory h = tt
   first_marks c d objects ms ns Wide h = wide_first g limit ms ns h
 
-  pub second_marks : (c d : TestTerm) (objects : List ObjNo) (ms ns : List Member) (fault : EvalFault) → MarksOutAs (Err fault) c objects g limit ns → MarksOutAs (Err fault) d objects g limit (ms ++ ns)
+  pub second_marks : (c d : TestTerm) (objects : List ObjNo) (ms ns : List Member) (fault : RelFault) → MarksOutAs (Err fault) c objects g limit ns → MarksOutAs (Err fault) d objects g limit (ms ++ ns)
   second_marks c d objects ms ns Memory h = tt
   second_marks c d objects ms ns Wide h = wide_second g limit ms ns h
 
-  pub same_marks : (c d : TestTerm) (objects : List ObjNo) (ms : List Member) (fault : EvalFault) → MarksOutAs (Err fault) c objects g limit ms → MarksOutAs (Err fault) d objects g limit ms
+  pub same_marks : (c d : TestTerm) (objects : List ObjNo) (ms : List Member) (fault : RelFault) → MarksOutAs (Err fault) c objects g limit ms → MarksOutAs (Err fault) d objects g limit ms
   same_marks c d objects ms Memory h = tt
   same_marks c d objects ms Wide h = h
 

@@ -1,9 +1,11 @@
 -- Members that are worked out on a graph, and whether each fits.
-use Rattle.std.specs.Prelude.{ℕ, List}
+use Rattle.std.specs.Prelude.{ℕ, Bool, List, IsTrue}
 use Rattle.itpg_base.specs.Graphs.{Graph}
-use Rattle.itpg_base.specs.Points.{Relation}
+use Rattle.itpg_base.specs.Points.{Point, Relation}
 use Rattle.itpg_base.specs.Lists.{Among}
 use Rattle.relation_rows.specs.Rows.{Fits, IsWide}
+use Rattle.path_ast.specs.Terms.{PathTerm}
+use Rattle.path_ast.specs.Meaning.{Rel}
 use Rattle.label_scope.specs.Narrowing.{Cut}
 use Rattle.label_scope.specs.Members.{Member}
 
@@ -20,3 +22,9 @@ pub record SomeIsWide (g : Graph) (limit : ℕ) (members : List Member) : Type 0
   pub member : Member
   pub among : Among members member
   pub wide : IsWide (member_relation g member) limit
+
+-- the path leads from x to y, x is of one of any objects that are picked for the sources, and y of one for the targets
+pub record CutToPicked (g : Graph) (p : PathTerm) (sources targets : ℕ → Bool) (x y : Point) : Type 0 where
+  pub leads : Rel p g x y
+  pub source : IsTrue (sources x.object)
+  pub target : IsTrue (targets y.object)

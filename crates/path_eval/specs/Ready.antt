@@ -5,4 +5,4 @@ use Rattle.path_eval.specs.Powers.{IsBody}
 
 -- its relation is there
 abbrev pub IsReady : Powers → Type 0
-IsReady p = IsBody p.graph.now (path_term p.body.now) p.passed.now p.max_rows p.relation.now
+IsReady p = IsBody p.ground.now.graph.now (path_term p.body.now) p.passed.now p.ground.now.max_rows p.relation.now

@@ -2,70 +2,40 @@
 use Rattle.std.specs.Prelude.{ℕ, Option, List, [], ◌∷◌, ◌++◌, Result, Ok, Err}
 use Rattle.itpg_base.specs.declared.object_number.ObjNo.{ObjNo}
 use Rattle.itpg_base.specs.Chains.{chain}
-use Rattle.itpg_base.specs.Graphs.{Graph, Good}
+use Rattle.itpg_base.specs.Graphs.{Graph}
 use Rattle.itpg_base.specs.Points.{Relation}
 use Rattle.relation_rows.specs.declared.rows.Row.{Row}
 use Rattle.relation_rows.specs.declared.rows.RelFault.{RelFault}
-use Rattle.relation_rows.specs.declared.rows.RelFault.TheVariants as rel
+use Rattle.relation_rows.specs.declared.rows.RelFault.TheVariants.{Memory, Wide}
 use Rattle.relation_rows.specs.Rows.{NormalRows}
-use Rattle.path_ast.specs.Terms.{PathTerm, OfTest, Forward, Backward, Next, Previous, Sequence, Choice, Repetition, TestTerm, IsNode, IsEdge, HasLabel, HasValue, IsBelow, DoesExist, Condition, Conjunction, Disjunction, Negation}
+use Rattle.path_ast.specs.Terms.{PathTerm, OfTest, Forward, Backward, Next, Previous, Sequence, Choice, Repetition, TestTerm}
 use Rattle.label_scope.specs.declared.scope.Scope.{Scope}
 use Rattle.label_scope.specs.Narrowing.{Cut}
 use Rattle.label_scope.specs.Members.{Member, worked, worked_conditions, middle, passed, powers_within, unions_within, further}
 use Rattle.condition_eval.specs.declared.marks.Marked.{Marked}
 use Rattle.condition_eval.specs.Marking.{AreMarks}
-use Rattle.condition_eval.specs.Tested.{HoldsAt, HasHorizon}
-use Rattle.path_eval.specs.declared.evaluation.Ground.{Ground}
-use Rattle.path_eval.specs.declared.evaluation.EvalFault.{EvalFault}
-use Rattle.path_eval.specs.declared.evaluation.EvalFault.TheVariants.{Memory, Wide}
+use Rattle.condition_eval.specs.Tested.{HoldsAt}
+use Rattle.path_eval.specs.declared.basis.Ground.{Ground}
 use Rattle.path_eval.specs.Evaluated.{AllFit, SomeIsWide}
 
--- the fault of a relation as one of evaluation
-abbrev pub fault_of : RelFault → EvalFault
-fault_of rel.Memory = Memory
-fault_of rel.Wide = Wide
-
--- a relation, or why it isn't given, as one of evaluation
-abbrev pub evaluated_as : Result (List Row) RelFault → Result (List Row) EvalFault
-evaluated_as (Ok rows) = Ok rows
-evaluated_as (Err fault) = Err (fault_of fault)
-
--- the graph is good and begun, and the horizon is its own
-pub record IsGround (ground : Ground) : Type 0 where
-  pub good : Good ground.graph.now
-  pub horizon : HasHorizon ground.graph.now ground.horizon
-
 -- the normal rows of the relation, where each of the members fits; `Wide` where one of them doesn't; want of memory is free
-abbrev pub WorksOutAs : Result (List Row) EvalFault → Relation → Graph → ℕ → List Member → Type 0
+abbrev pub WorksOutAs : Result (List Row) RelFault → Relation → Graph → ℕ → List Member → Type 0
 WorksOutAs (Ok rows) R g limit members = NormalRows R rows × AllFit g limit members
 WorksOutAs (Err Memory) R g limit members = Unit {0}
 WorksOutAs (Err Wide) R g limit members = SomeIsWide g limit members
 
 -- the same for a path between two scopes
-abbrev pub WorksOut : Ground → Result (List Row) EvalFault → PathTerm → Scope → Scope → List Member → Type 0
+abbrev pub WorksOut : Ground → Result (List Row) RelFault → PathTerm → Scope → Scope → List Member → Type 0
 WorksOut ground result p a b members = WorksOutAs result (Cut ground.graph.now p a b) ground.graph.now ground.max_rows members
 
 -- the marks of a test on the objects, in the same way
-abbrev pub MarksOutAs : Result (List Marked) EvalFault → TestTerm → List ObjNo → Graph → ℕ → List Member → Type 0
+abbrev pub MarksOutAs : Result (List Marked) RelFault → TestTerm → List ObjNo → Graph → ℕ → List Member → Type 0
 MarksOutAs (Ok marks) c objects g limit members = AreMarks objects (HoldsAt c g) marks × AllFit g limit members
 MarksOutAs (Err Memory) c objects g limit members = Unit {0}
 MarksOutAs (Err Wide) c objects g limit members = SomeIsWide g limit members
 
-abbrev pub MarksOut : Ground → Result (List Marked) EvalFault → TestTerm → List ObjNo → List Member → Type 0
+abbrev pub MarksOut : Ground → Result (List Marked) RelFault → TestTerm → List ObjNo → List Member → Type 0
 MarksOut ground result c objects members = MarksOutAs result c objects ground.graph.now ground.max_rows members
-
--- the test asks only for one object at one moment
-abbrev pub IsLeaf : TestTerm → Type 0
-IsLeaf IsNode = Unit {0}
-IsLeaf IsEdge = Unit {0}
-IsLeaf (HasLabel label) = Unit {0}
-IsLeaf (HasValue prop value) = Unit {0}
-IsLeaf (IsBelow k) = Unit {0}
-IsLeaf DoesExist = Unit {0}
-IsLeaf (Condition p) = ⊥
-IsLeaf (Conjunction c d) = ⊥
-IsLeaf (Disjunction c d) = ⊥
-IsLeaf (Negation c) = ⊥
 
 -- the path between the scopes
 abbrev pub member : PathTerm → Scope → Scope → Member

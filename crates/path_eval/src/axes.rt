@@ -1,5 +1,5 @@
 //! The relations of the axes, between the objects of two scopes.
-ghost use Rattle.std.specs.Prelude.{◌≡◌, ◌⊎◌, ◌↔◌, IsSome, IfOk, OnOk, IsTrue};
+ghost use Rattle.std.specs.Prelude.{◌≡◌, ◌⊎◌, ◌↔◌, IfOk, OnOk, IsTrue};
 ghost use Rattle.itpg_base.specs.Graphs.{Good, Stands};
 ghost use Rattle.itpg_base.specs.Points.{Point};
 ghost use Rattle.itpg_graph.specs.Edges.{AreNumbers};
@@ -11,6 +11,7 @@ ghost use Rattle.label_scope.specs.Scopes.{IsWithin};
 ghost use Rattle.condition_eval.specs.Tested.{Stand};
 ghost use Rattle.path_eval.specs.Axes.{axis_of, axis_in_time, far_end as far_end_of, LeadsToEdge, OnEach, StepTo, StepToOne, StepsFrom, StepsFromAny};
 
+use crate::basis::Ground;
 use condition_eval::objects_within;
 use itpg_base::ObjNo;
 use itpg_graph::Graph;
@@ -20,7 +21,7 @@ use std::alloc::{AllocError, Global};
 use zone_compose::{diagonal, shift};
 use zone_core::Zone;
 
-/// A zone of moments from a source to a target.
+// A zone of moments from a source to a target.
 type Item = (ObjNo, ObjNo, Zone);
 
 /// Which way an edge is gone along.
@@ -34,44 +35,33 @@ pub(crate) enum Direction {
 
 /// The axis along edges in a direction: at each moment of the horizon, from the objects of the one scope to those of the other.
 pub(crate) fn along_edges(
-    alloc: Global,
-    graph: &Graph,
+    ground: &Ground<'_>,
     direction: Direction,
     sources: &Scope,
     targets: &Scope,
-    max_rows: u32,
 ) -> Result<Relation, RelFault>
-    requires begun { IsSome graph.now.begun }
-    ensures { Gives result (Cut graph.now (axis_of direction) sources.now targets.now) max_rows }
+    ensures { Gives result (Cut ground.now.graph.now (axis_of direction) sources.now targets.now) ground.now.max_rows }
 {
-    let horizon = graph.horizon().unwrap();
-    let zone = diagonal(horizon.from(), horizon.to()).unwrap();
-    let objects = objects_within(alloc, graph, sources)?;
-    let items = steps_of(alloc, graph, direction, &objects, targets, zone)?;
-    Relation::from_zones(alloc, items, max_rows)
+    let objects = objects_within(ground.alloc, ground.graph, sources)?;
+    let zone = diagonal(ground.horizon.from(), ground.horizon.to()).unwrap();
+    let items = steps_of(ground, direction, &objects, targets, zone)?;
+    Relation::from_zones(ground.alloc, items, ground.max_rows)
 }
 
 /// The axis to the next moment, or to the one before, on each object of the scope.
-pub(crate) fn in_time(
-    alloc: Global,
-    graph: &Graph,
-    step: &i64,
-    scope: &Scope,
-    max_rows: u32,
-) -> Result<Relation, RelFault>
-    requires begun { IsSome graph.now.begun }
-    requires one { IsOneStep step.now }
-    ensures { Gives result (Cut graph.now (axis_in_time step.now) scope.now scope.now) max_rows }
+pub(crate) fn in_time(ground: &Ground<'_>, step: i64, scope: &Scope) -> Result<Relation, RelFault>
+    requires { IsOneStep step }
+    ensures { Gives result (Cut ground.now.graph.now (axis_in_time step) scope.now scope.now) ground.now.max_rows }
 {
-    let horizon = graph.horizon().unwrap();
-    let objects = objects_within(alloc, graph, scope)?;
-    match shift(*step, horizon.from(), horizon.to()) {
+    let (alloc, max_rows) = (ground.alloc, ground.max_rows);
+    let objects = objects_within(alloc, ground.graph, scope)?;
+    match shift(step, ground.horizon.from(), ground.horizon.to()) {
         Some(zone) => Relation::from_zones(alloc, on_each(alloc, &objects, zone)?, max_rows),
         None => Ok(Relation::empty(alloc)),
     }
 }
 
-/// The zone from each of the objects to itself.
+// The zone from each of the objects to itself.
 fn on_each(alloc: Global, objects: &[ObjNo], zone: Zone) -> Result<Vec<Item>, AllocError>
     ensures { IfOk result (λ items. (x : Point) → (y : Point) → ItemsHold items.items x y ↔ OnEach zone objects.now x y) }
 {
@@ -82,27 +72,27 @@ fn on_each(alloc: Global, objects: &[ObjNo], zone: Zone) -> Result<Vec<Item>, Al
     Ok(items)
 }
 
-/// A zone from each of the objects to each object within the scope that the direction leads to.
+// A zone from each of the objects to each object within the scope that the direction leads to.
 fn steps_of(
-    alloc: Global,
-    graph: &Graph,
+    ground: &Ground<'_>,
     direction: Direction,
     objects: &[ObjNo],
     targets: &Scope,
     zone: Zone,
 ) -> Result<Vec<Item>, AllocError>
-    requires good { Good graph.now }
-    requires stand { Stand graph.now objects.now }
-    ensures { IfOk result (λ items. (x : Point) → (y : Point) → ItemsHold items.items x y ↔ StepsFromAny direction targets.now graph.now zone objects.now x y) }
+    requires good { Good ground.now.graph.now }
+    requires stand { Stand ground.now.graph.now objects.now }
+    ensures { let Steps = StepsFromAny direction targets.now ground.now.graph.now zone objects.now in
+        IfOk result (λ items. (x : Point) → (y : Point) → ItemsHold items.items x y ↔ Steps x y) }
 {
-    let mut items = Vec::new(alloc);
+    let mut items = Vec::new(ground.alloc);
     for object in objects {
-        push_steps(&mut items, graph, direction, *object, targets, zone)?;
+        push_steps(&mut items, ground.graph, direction, *object, targets, zone)?;
     }
     Ok(items)
 }
 
-/// Adds a zone from the object to each object within the scope that the direction leads to.
+// Adds a zone from the object to each object within the scope that the direction leads to.
 fn push_steps(
     items: &mut Vec<Item>,
     graph: &Graph,
@@ -113,7 +103,8 @@ fn push_steps(
 ) -> Result<(), AllocError>
     requires good { Good graph.now }
     requires stands { Stands graph.now object.0 }
-    ensures { OnOk result ((x : Point) → (y : Point) → ItemsHold items.new.items x y ↔ (ItemsHold items.old.items x y ⊎ StepsFrom direction targets.now graph.now zone object x y)) }
+    ensures { let Steps = StepsFrom direction targets.now graph.now zone object in
+        OnOk result ((x : Point) → (y : Point) → ItemsHold items.new.items x y ↔ (ItemsHold items.old.items x y ⊎ Steps x y)) }
 {
     match graph.ends(object) {
         Some(ends) => {
@@ -127,7 +118,7 @@ fn push_steps(
     }
 }
 
-/// The end of an edge that the direction leads to; its source is the first of the two.
+// The end of an edge that the direction leads to; its source is the first of the two.
 fn far_end(direction: Direction, ends: (ObjNo, ObjNo)) -> ObjNo
     ensures { result ≡ far_end_of direction ends }
 {
@@ -137,7 +128,7 @@ fn far_end(direction: Direction, ends: (ObjNo, ObjNo)) -> ObjNo
     }
 }
 
-/// The edges that the direction leads to from a node.
+// The edges that the direction leads to from a node.
 fn edges_at(graph: &Graph, direction: Direction, node: ObjNo) -> &[ObjNo]
     requires { Stands graph.now node.0 }
     ensures { AreNumbers (LeadsToEdge direction graph.now node.0) result.now }
@@ -148,7 +139,7 @@ fn edges_at(graph: &Graph, direction: Direction, node: ObjNo) -> &[ObjNo]
     }
 }
 
-/// Adds a zone from the object to each of the others that is within the scope.
+// Adds a zone from the object to each of the others that is within the scope.
 fn push_each(
     items: &mut Vec<Item>,
     graph: &Graph,
@@ -166,7 +157,7 @@ fn push_each(
     Ok(())
 }
 
-/// Adds a zone from the object to the other, if that is within the scope.
+// Adds a zone from the object to the other, if that is within the scope.
 fn push_step(
     items: &mut Vec<Item>,
     graph: &Graph,
@@ -184,7 +175,7 @@ fn push_step(
     Ok(())
 }
 
-/// Whether an object that stands is within the scope.
+// Whether an object that stands is within the scope.
 fn is_within(graph: &Graph, scope: &Scope, object: ObjNo) -> bool
     requires { Stands graph.now object.0 }
     ensures { IsTrue result ↔ IsWithin scope.now graph.now object.0 }

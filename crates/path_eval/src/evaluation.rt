@@ -3,6 +3,7 @@
 //! A path is worked out between two scopes, and each part of it between those that its place leaves: the first part of a
 //! sequence ends where the second starts. So each relation that is made on the way is that of a worked member.
 ghost use Rattle.std.specs.Prelude.{◌≡◌, IsSome, IsTrue, IfOk, IsErrOf};
+ghost use Rattle.itpg_base.specs.Graphs.{Good};
 ghost use Rattle.relation_rows.specs.Rows.{NormalRows};
 ghost use Rattle.relation_rows.specs.Relations.{Rise};
 ghost use Rattle.path_ast.specs.Terms.{path_term, test_term, OfTest, Sequence, Choice, Repetition};
@@ -14,67 +15,21 @@ ghost use Rattle.condition_eval.specs.Marking.{AreMarks};
 ghost use Rattle.condition_eval.specs.Tested.{HoldsAt, Stand};
 ghost use Rattle.condition_eval.specs.Within.{AreWithin};
 ghost use Rattle.path_eval.specs.Evaluated.{AllFit, SomeIsWide};
-ghost use Rattle.path_eval.specs.Axes.{axis_of};
-ghost use Rattle.path_eval.specs.Working.{evaluated_as, IsGround, IsLeaf, WorksOut, MarksOut, axis_members, test_members, sequence_members, choice_members, repeated_members, members_between};
+ghost use Rattle.path_eval.specs.Working.{WorksOut, MarksOut, test_members, sequence_members, choice_members, repeated_members, members_between};
 
 use crate::axes::{Direction, along_edges, in_time};
+use crate::basis::Ground;
 use crate::middle::{middle, passed};
 use crate::powers::Powers;
-use condition_eval::{
-    Marks, before, by_kind, by_label, by_value, exists, objects_within, starts_of,
-};
-use interval_set::Span;
+use condition_eval::{Marks, leaf_marks, objects_within, starts_of};
 use itpg_base::ObjNo;
-use itpg_graph::{Graph, Kind};
+use itpg_graph::Graph;
 use label_scope::{Scope, narrow};
 use path_ast::{Path, Test};
 use relation_rows::{RelFault, Relation};
-use std::alloc::{AllocError, Global};
+use std::alloc::Global;
 
-/// Why a path isn't worked out.
-#[derive(Clone, Copy, Debug, PartialEq, Eq, Drop)]
-pub enum EvalFault {
-    /// Memory is wanting.
-    Memory,
-    /// Some member that is worked out on the way has more normal rows than the limit.
-    Wide,
-}
-
-impl From<AllocError> for EvalFault {
-    ghost use Rattle.std.specs.Prelude.{◌≡◌};
-    ghost use Rattle.path_eval.specs.declared.evaluation.EvalFault.TheVariants.{Memory};
-
-    ghost from_gives = { λ _ e. e ≡ Memory };
-
-    fn from(_error: AllocError) -> EvalFault {
-        EvalFault::Memory
-    }
-}
-
-impl From<RelFault> for EvalFault {
-    ghost use Rattle.std.specs.Prelude.{◌≡◌};
-    ghost use Rattle.path_eval.specs.Working.{fault_of};
-
-    ghost from_gives = { λ fault e. e ≡ fault_of fault };
-
-    fn from(fault: RelFault) -> EvalFault {
-        match fault {
-            RelFault::Memory => EvalFault::Memory,
-            RelFault::Wide => EvalFault::Wide,
-        }
-    }
-}
-
-/// What paths are worked out on: a begun graph with its horizon, and the limit of rows.
-#[derive(Clone, Copy)]
-struct Ground<'a> {
-    alloc: Global,
-    graph: &'a Graph,
-    horizon: Span,
-    max_rows: u32,
-}
-
-/// How often a path is repeated: at least `least` times and, if there is a `most`, at most that.
+// How often a path is repeated: at least `least` times and, if there is a `most`, at most that.
 #[derive(Clone, Copy)]
 struct Times {
     least: u64,
@@ -96,12 +51,12 @@ pub fn relation_of(
     a: &Scope,
     b: &Scope,
     max_rows: u32,
-) -> Result<Relation, EvalFault>
+) -> Result<Relation, RelFault>
     requires begun { IsSome graph.now.begun }
     requires in_range { IsPathInRange (path_term path.now) }
     ensures rows { IfOk result (λ rows. NormalRows (Cut graph.now (path_term path.now) a.now b.now) rows) }
     ensures fits { IfOk result (λ rows. AllFit graph.now max_rows (worked (path_term path.now) a.now b.now)) }
-    ensures wide { IsErrOf result EvalFault.Wide → SomeIsWide graph.now max_rows (worked (path_term path.now) a.now b.now) }
+    ensures wide { IsErrOf result RelFault.Wide → SomeIsWide graph.now max_rows (worked (path_term path.now) a.now b.now) }
 {
     let ground = Ground {
         alloc,
@@ -112,17 +67,10 @@ pub fn relation_of(
     worked_out(&ground, path, a, b)
 }
 
-// A relation, or why it isn't given, as one of evaluation.
-fn evaluated(given: Result<Relation, RelFault>) -> Result<Relation, EvalFault>
-    ensures { result ≡ evaluated_as given }
-{
-    Ok(given?)
-}
-
 // The relation of a path between two scopes.
 #[cycle(evaluation)]
-fn worked_out(ground: &Ground<'_>, path: &Path, a: &Scope, b: &Scope) -> Result<Relation, EvalFault>
-    requires ground { IsGround ground.now }
+fn worked_out(ground: &Ground<'_>, path: &Path, a: &Scope, b: &Scope) -> Result<Relation, RelFault>
+    requires good { Good ground.now.graph.now }
     requires in_range { IsPathInRange (path_term path.now) }
     ensures { WorksOut ground.now result (path_term path.now) a.now b.now (worked (path_term path.now) a.now b.now) }
 {
@@ -132,18 +80,18 @@ fn worked_out(ground: &Ground<'_>, path: &Path, a: &Scope, b: &Scope) -> Result<
 
 // The relation of a path between two scopes that are narrowed.
 #[cycle(evaluation)]
-fn between(ground: &Ground<'_>, path: &Path, a: &Scope, b: &Scope) -> Result<Relation, EvalFault>
-    requires ground { IsGround ground.now }
+fn between(ground: &Ground<'_>, path: &Path, a: &Scope, b: &Scope) -> Result<Relation, RelFault>
+    requires good { Good ground.now.graph.now }
     requires in_range { IsPathInRange (path_term path.now) }
     requires kept { IsTrue (keeps_object (path_term path.now)) → a.now ≡ b.now }
     ensures { WorksOut ground.now result (path_term path.now) a.now b.now (members_between (path_term path.now) a.now b.now) }
 {
     match path {
         Path::Test(test) => test_relation(ground, test, a),
-        Path::F => axis(ground, Direction::Forward, a, b),
-        Path::B => axis(ground, Direction::Backward, a, b),
-        Path::N => evaluated(in_time(ground.alloc, ground.graph, &1, a, ground.max_rows)),
-        Path::P => evaluated(in_time(ground.alloc, ground.graph, &-1, a, ground.max_rows)),
+        Path::F => along_edges(ground, Direction::Forward, a, b),
+        Path::B => along_edges(ground, Direction::Backward, a, b),
+        Path::N => in_time(ground, 1, a),
+        Path::P => in_time(ground, -1, a),
         Path::Seq(first, second) => sequence(ground, first, second, a, b),
         Path::Alt(one, other) => choice(ground, one, other, a, b),
         Path::Repeat { body, least, most } => repetition(
@@ -160,44 +108,30 @@ fn between(ground: &Ground<'_>, path: &Path, a: &Scope, b: &Scope) -> Result<Rel
 }
 
 // The relation of a body from a least to a most number of times, from its own within the scope of all that it passes.
-fn repeated(
-    ground: &Ground<'_>,
-    body: &Path,
+fn repeated<'g, 'a>(
+    ground: &'a Ground<'g>,
+    body: &'a Path,
     times: &Times,
-    once: &Relation,
-    within: &Scope,
+    once: &'a Relation,
+    within: &'a Scope,
     a: &Scope,
     b: &Scope,
-) -> Result<Relation, EvalFault>
-    requires ground { IsGround ground.now }
+) -> Result<Relation, RelFault>
+    requires good { Good ground.now.graph.now }
     requires times { AreInRange times.now.least times.now.most }
     requires within { within.now ≡ passed_scope (path_term body.now) (record { sources = a.now; targets = b.now }) }
     requires once { NormalRows (Cut ground.now.graph.now (path_term body.now) within.now within.now) once.now }
     requires fits { AllFit ground.now.graph.now ground.now.max_rows (worked (path_term body.now) within.now within.now) }
-    ensures { WorksOut ground.now result (Repetition (path_term body.now) times.now.least times.now.most) a.now b.now (repeated_members (path_term body.now) times.now.least times.now.most a.now b.now) }
+    ensures { let r = path_term body.now in let n = times.now.least in let m = times.now.most in
+        WorksOut ground.now result (Repetition r n m) a.now b.now (repeated_members r n m a.now b.now) }
 {
     let powers = Powers {
-        alloc: ground.alloc,
-        graph: ground.graph,
+        ground,
         body,
         relation: once,
         passed: within,
-        max_rows: ground.max_rows,
     };
-    evaluated(powers.between(a, b, times.least, times.most))
-}
-
-// The relation of an axis along edges.
-fn axis(
-    ground: &Ground<'_>,
-    direction: Direction,
-    a: &Scope,
-    b: &Scope,
-) -> Result<Relation, EvalFault>
-    requires { IsGround ground.now }
-    ensures { WorksOut ground.now result (axis_of direction) a.now b.now (axis_members (axis_of direction) a.now b.now) }
-{
-    evaluated(along_edges(ground.alloc, ground.graph, direction, a, b, ground.max_rows))
+    powers.between(a, b, times.least, times.most)
 }
 
 // The relation of the first path and then the second.
@@ -208,16 +142,17 @@ fn sequence(
     second: &Path,
     a: &Scope,
     b: &Scope,
-) -> Result<Relation, EvalFault>
-    requires ground { IsGround ground.now }
+) -> Result<Relation, RelFault>
+    requires good { Good ground.now.graph.now }
     requires first_in_range { IsPathInRange (path_term first.now) }
     requires second_in_range { IsPathInRange (path_term second.now) }
-    ensures { WorksOut ground.now result (Sequence (path_term first.now) (path_term second.now)) a.now b.now (sequence_members (path_term first.now) (path_term second.now) a.now b.now) }
+    ensures { let p = path_term first.now in let q = path_term second.now in
+        WorksOut ground.now result (Sequence p q) a.now b.now (sequence_members p q a.now b.now) }
 {
-    let meeting = middle(ground.alloc, first, second, a, b)?;
+    let meeting = middle(ground, first, second, a, b)?;
     let before = worked_out(ground, first, a, &meeting)?;
     let after = worked_out(ground, second, &meeting, b)?;
-    evaluated(before.compose(&after, ground.max_rows))
+    before.compose(&after, ground.max_rows)
 }
 
 // The relation of one path or the other.
@@ -228,15 +163,16 @@ fn choice(
     other: &Path,
     a: &Scope,
     b: &Scope,
-) -> Result<Relation, EvalFault>
-    requires ground { IsGround ground.now }
+) -> Result<Relation, RelFault>
+    requires good { Good ground.now.graph.now }
     requires one_in_range { IsPathInRange (path_term one.now) }
     requires other_in_range { IsPathInRange (path_term other.now) }
-    ensures { WorksOut ground.now result (Choice (path_term one.now) (path_term other.now)) a.now b.now (choice_members (path_term one.now) (path_term other.now) a.now b.now) }
+    ensures { let p = path_term one.now in let q = path_term other.now in
+        WorksOut ground.now result (Choice p q) a.now b.now (choice_members p q a.now b.now) }
 {
     let by_one = worked_out(ground, one, a, b)?;
     let by_other = worked_out(ground, other, a, b)?;
-    evaluated(by_one.union(&by_other, ground.max_rows))
+    by_one.union(&by_other, ground.max_rows)
 }
 
 // The relation of a body from a least to a most number of times.
@@ -249,27 +185,28 @@ fn repetition(
     times: &Times,
     a: &Scope,
     b: &Scope,
-) -> Result<Relation, EvalFault>
-    requires ground { IsGround ground.now }
+) -> Result<Relation, RelFault>
+    requires good { Good ground.now.graph.now }
     requires in_range { IsPathInRange (path_term body.now) }
     requires times { AreInRange times.now.least times.now.most }
-    ensures { WorksOut ground.now result (Repetition (path_term body.now) times.now.least times.now.most) a.now b.now (repeated_members (path_term body.now) times.now.least times.now.most a.now b.now) }
+    ensures { let r = path_term body.now in let n = times.now.least in let m = times.now.most in
+        WorksOut ground.now result (Repetition r n m) a.now b.now (repeated_members r n m a.now b.now) }
 {
-    let within = passed(ground.alloc, body, a, b)?;
+    let within = passed(ground, body, a, b)?;
     let once = worked_out(ground, body, &within, &within)?;
-    repeated(ground, body, times, &once, &within, a, b)
+    repeated(&*ground, &*body, times, &once, &within, a, b)
 }
 
 // The relation of a test: each point of the scope at which it holds leads to itself.
 #[cycle(evaluation)]
-fn test_relation(ground: &Ground<'_>, test: &Test, scope: &Scope) -> Result<Relation, EvalFault>
-    requires ground { IsGround ground.now }
+fn test_relation(ground: &Ground<'_>, test: &Test, scope: &Scope) -> Result<Relation, RelFault>
+    requires good { Good ground.now.graph.now }
     requires in_range { IsTestInRange (test_term test.now) }
     ensures { WorksOut ground.now result (OfTest (test_term test.now)) scope.now scope.now (test_members (test_term test.now) scope.now) }
 {
     let objects = objects_within(ground.alloc, ground.graph, scope)?;
     let marks = marks_of(ground, test, scope, &objects)?;
-    evaluated(marks.as_relation(ground.max_rows))
+    marks.as_relation(ground.max_rows)
 }
 
 // The points of the scope's objects at which the test holds.
@@ -279,8 +216,8 @@ fn marks_of(
     test: &Test,
     scope: &Scope,
     objects: &[ObjNo],
-) -> Result<Marks, EvalFault>
-    requires ground { IsGround ground.now }
+) -> Result<Marks, RelFault>
+    requires good { Good ground.now.graph.now }
     requires in_range { IsTestInRange (test_term test.now) }
     requires within { AreWithin scope.now ground.now.graph.now objects.now }
     ensures { MarksOut ground.now result (test_term test.now) objects.now (worked_conditions (test_term test.now) scope.now) }
@@ -304,26 +241,6 @@ fn marks_of(
             let own = marks_of(ground, negated, scope, objects)?;
             Ok(own.not(ground.horizon)?)
         }
-        _ => Ok(leaf_marks(ground, test, objects)?),
-    }
-}
-
-// The points of the objects at which a test holds that asks only for one object at one moment.
-fn leaf_marks(ground: &Ground<'_>, test: &Test, objects: &[ObjNo]) -> Result<Marks, AllocError>
-    requires ground { IsGround ground.now }
-    requires leaf { IsLeaf (test_term test.now) }
-    requires rise { Rise objects.now }
-    requires stand { Stand ground.now.graph.now objects.now }
-    ensures { IfOk result (λ marks. AreMarks objects.now (HoldsAt (test_term test.now) ground.now.graph.now) marks) }
-{
-    let (alloc, graph) = (ground.alloc, ground.graph);
-    match test {
-        Test::Node => by_kind(alloc, graph, objects, Kind::Node),
-        Test::Edge => by_kind(alloc, graph, objects, Kind::Edge),
-        Test::Label(label) => by_label(alloc, graph, objects, *label),
-        Test::Value { prop, value } => by_value(alloc, graph, objects, *prop, *value),
-        Test::Before(k) => before(alloc, graph, objects, *k),
-        Test::Exists => exists(alloc, graph, objects),
-        _ => unreachable!(),
+        Test::Leaf(leaf) => Ok(leaf_marks(ground.alloc, ground.graph, objects, leaf)?),
     }
 }

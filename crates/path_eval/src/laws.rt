@@ -1,5 +1,5 @@
 //! The laws by which each question has one answer. Each is the contract of a function that does nothing.
-ghost use Rattle.std.specs.Prelude.{◌≡◌, ◌⊎◌, ℕ, List};
+ghost use Rattle.std.specs.Prelude.{◌≡◌, ◌⊎◌, ℕ, Bool, List};
 ghost use Rattle.itpg_base.specs.Graphs.{Graph};
 ghost use Rattle.relation_rows.specs.declared.rows.Row.{Row};
 ghost use Rattle.relation_rows.specs.declared.times.OneRow.{OneRow};
@@ -10,13 +10,21 @@ ghost use Rattle.path_ast.specs.Meaning.{Rel};
 ghost use Rattle.label_scope.specs.declared.scope.Scope.{Scope};
 ghost use Rattle.label_scope.specs.Narrowing.{Cut};
 ghost use Rattle.label_scope.specs.Members.{Member};
-ghost use Rattle.path_eval.specs.Evaluated.{AllFit, SomeIsWide};
+ghost use Rattle.path_eval.specs.Evaluated.{AllFit, SomeIsWide, CutToPicked};
 ghost use Rattle.path_eval.specs.Answering.{DepartsAt, ArrivesAt};
 
 /// On every graph the relation of a path, repetitions among them, between two scopes has exactly one normal list of rows.
 pub fn law_of_cuts()
     ensures some { (g : Graph) (p : PathTerm) (a b : Scope) → (rows : List Row) × NormalRows (Cut g p a b) rows }
     ensures one { (g : Graph) (p : PathTerm) (a b : Scope) (xs ys : List Row) → NormalRows (Cut g p a b) xs → NormalRows (Cut g p a b) ys → xs ≡ ys }
+{}
+
+/// On every graph the relation of a path, repetitions among them, has exactly one normal list of rows where it is cut to any
+/// objects, whatever they have in common.
+pub fn law_of_picked_objects()
+    ensures some { (g : Graph) (p : PathTerm) (sources targets : ℕ → Bool) → (rows : List Row) × NormalRows (CutToPicked g p sources targets) rows }
+    ensures one { (g : Graph) (p : PathTerm) (sources targets : ℕ → Bool) (xs ys : List Row) →
+        NormalRows (CutToPicked g p sources targets) xs → NormalRows (CutToPicked g p sources targets) ys → xs ≡ ys }
 {}
 
 /// Of members of a path each has at most so many normal rows, or some has more, and never both.

@@ -8,6 +8,7 @@
 
 mod answering;
 mod axes;
+mod basis;
 mod evaluation;
 mod laws;
 mod middle;
@@ -16,6 +17,8 @@ mod powers;
 mod repeated;
 
 pub use answering::answer;
-pub use evaluation::{EvalFault, relation_of};
-pub use laws::{law_of_cuts, law_of_members, law_of_times};
+pub use evaluation::relation_of;
+pub use laws::{law_of_cuts, law_of_members, law_of_picked_objects, law_of_times};
 pub use passing::{law_of_many_times, law_of_passing};
+/// Why a path isn't worked out: memory is wanting, or some member that is worked out on the way is too wide.
+pub use relation_rows::RelFault as EvalFault;

@@ -9,32 +9,30 @@ ghost use Rattle.label_scope.specs.Members.{powers_within, unions_within, double
 ghost use Rattle.path_eval.specs.Powers.{SamePoint, HeldBetween, GivesPairs};
 ghost use Rattle.path_eval.specs.Ready.{IsReady};
 
+use crate::basis::Ground;
 use condition_eval::objects_within;
-use itpg_graph::Graph;
 use label_scope::Scope;
 use path_ast::Path;
 use relation_rows::{RelFault, Relation};
 use repeat_engine::{Composed, closure, power, up_to};
-use std::alloc::{AllocError, Global};
+use std::alloc::AllocError;
 
 /// A path that is repeated, on a graph, and its relation between the objects within the scope of all that a repetition of it
 /// passes.
 ///
 /// Relations between these objects are composed and united; those fit that have at most `max_rows` normal rows.
 #[derive(Drop)]
-pub(crate) struct Powers<'a> {
-    pub(crate) alloc: Global,
-    pub(crate) graph: &'a Graph,
+pub(crate) struct Powers<'g, 'a> {
+    pub(crate) ground: &'a Ground<'g>,
     /// The path that is repeated.
     pub(crate) body: &'a Path,
     /// Its relation between the objects within `passed`.
     pub(crate) relation: &'a Relation,
     /// The scope of every object that a repetition passes.
     pub(crate) passed: &'a Scope,
-    pub(crate) max_rows: u32,
 }
 
-impl Composed for Powers<'_> {
+impl Composed for Powers<'_, '_> {
     ghost use Rattle.std.specs.Prelude.{◌≡◌};
     ghost use Rattle.relation_rows.specs.declared.rows.RelFault.TheVariants.{Memory};
     ghost use Rattle.repeat_engine.specs.Relations.{Given, relations};
@@ -49,11 +47,11 @@ impl Composed for Powers<'_> {
 
     ghost means = { λ rows. Given rows };
 
-    ghost alike = { λ c w v. LeadAlike c.graph.now c.passed.now w v };
+    ghost alike = { λ c w v. LeadAlike c.ground.now.graph.now c.passed.now w v };
 
-    ghost own = { λ c w. StaysInside c.graph.now c.passed.now w };
+    ghost own = { λ c w. StaysInside c.ground.now.graph.now c.passed.now w };
 
-    ghost fits = { λ c w. FitsInside c.graph.now c.passed.now c.max_rows w };
+    ghost fits = { λ c w. FitsInside c.ground.now.graph.now c.passed.now c.ground.now.max_rows w };
 
     ghost wants_memory = { λ fault. fault ≡ Memory };
 
@@ -64,17 +62,17 @@ impl Composed for Powers<'_> {
     }
 
     fn compose(&self, x: &Relation, y: &Relation) -> Result<Relation, RelFault> {
-        x.compose(y, self.max_rows)
+        x.compose(y, self.ground.max_rows)
     }
 
     fn union(&self, x: &Relation, y: &Relation) -> Result<Relation, RelFault> {
-        x.union(y, self.max_rows)
+        x.union(y, self.ground.max_rows)
     }
 
     fn beyond(&self, x: &Relation, y: &Relation) -> Result<Relation, RelFault> {
         let rest = x.minus(y)?;
         let count = rest.row_count();
-        if count <= self.max_rows as u64 {
+        if count <= self.ground.max_rows as u64 {
             Ok(rest)
         } else {
             Err(RelFault::Wide)
@@ -91,37 +89,33 @@ impl Composed for Powers<'_> {
         own == other && x.same(y)
     }
 
-    ghost lawful = { λ c. powers_lawful c.graph.now c.passed.now c.max_rows };
+    ghost lawful = { λ c. powers_lawful c.ground.now.graph.now c.passed.now c.ground.now.max_rows };
 }
 
 /// The pairs of a relation from objects within the scope `a` to objects within the scope `b`. There are no more rows.
 pub(crate) fn cut(
-    alloc: Global,
-    graph: &Graph,
+    ground: &Ground<'_>,
     whole: &Relation,
     a: &Scope,
     b: &Scope,
 ) -> Result<Relation, AllocError>
-    ensures rows { IfOk result (λ rows. NormalRows (HeldBetween graph.now whole.now a.now b.now) rows) }
+    ensures rows { IfOk result (λ rows. NormalRows (HeldBetween ground.now.graph.now whole.now a.now b.now) rows) }
     ensures few { IfOk result (λ rows. (limit : ℕ) → Fits (RowsHold whole.now) limit → length rows ≤ limit) }
 {
-    let sources = objects_within(alloc, graph, a)?;
-    let targets = objects_within(alloc, graph, b)?;
+    let sources = objects_within(ground.alloc, ground.graph, a)?;
+    let targets = objects_within(ground.alloc, ground.graph, b)?;
     whole.restrict(&sources, &targets)
 }
 
-impl Powers<'_> {
+impl Powers<'_, '_> {
     /// Each point of the graph whose object is within the scope, to itself. `Wide` exactly where its normal rows, one for each
     /// such object, are more than `max_rows`.
     pub(crate) fn identity_within(&self, scope: &Scope) -> Result<Relation, RelFault>
-        ensures { Gives result (SamePoint self.now.graph.now scope.now) self.now.max_rows }
+        ensures { Gives result (SamePoint self.now.ground.now.graph.now scope.now) self.now.ground.now.max_rows }
     {
-        let objects = objects_within(self.alloc, self.graph, scope)?;
-        match self.graph.horizon() {
-            Some(horizon) => Relation::identity(self.alloc, &objects, horizon, self.max_rows),
-            // A graph that isn't begun has no point.
-            None => Ok(Relation::empty(self.alloc)),
-        }
+        let ground = self.ground;
+        let objects = objects_within(ground.alloc, ground.graph, scope)?;
+        Relation::identity(ground.alloc, &objects, ground.horizon, ground.max_rows)
     }
 
     /// The path n times. n is from 1 to 10^12. `Wide` exactly where some power in the chain of n is.
@@ -129,8 +123,8 @@ impl Powers<'_> {
         requires some { 1 ≤ n }
         requires small { n ≤ 1000000000000 }
         requires ready { IsReady self.now }
-        ensures { let r = path_term self.now.body.now in let u = self.now.passed.now in
-            GivesPairs self.now.graph.now self.now.max_rows (Cut self.now.graph.now (Repetition r n (Some n)) u u) (powers_within r u (chain n)) result }
+        ensures { let on = self.now.ground.now in let r = path_term self.now.body.now in let u = self.now.passed.now in
+            GivesPairs on.graph.now on.max_rows (Cut on.graph.now (Repetition r n (Some n)) u u) (powers_within r u (chain n)) result }
     {
         power(self, self.relation, n)
     }
@@ -140,8 +134,8 @@ impl Powers<'_> {
         requires some { 1 ≤ n }
         requires small { n ≤ 1000000000000 }
         requires ready { IsReady self.now }
-        ensures { let r = path_term self.now.body.now in let u = self.now.passed.now in
-            GivesPairs self.now.graph.now self.now.max_rows (Cut self.now.graph.now (Repetition r 0 (Some n)) u u) (unions_within r u (chain n)) result }
+        ensures { let on = self.now.ground.now in let r = path_term self.now.body.now in let u = self.now.passed.now in
+            GivesPairs on.graph.now on.max_rows (Cut on.graph.now (Repetition r 0 (Some n)) u u) (unions_within r u (chain n)) result }
     {
         up_to(self, self.relation, n)
     }
@@ -149,8 +143,8 @@ impl Powers<'_> {
     /// The path any number of times. `Wide` exactly where for some j from 0 to 60 the path 0 to 2^j times is.
     pub(crate) fn any_number(&self) -> Result<Relation, RelFault>
         requires ready { IsReady self.now }
-        ensures { let r = path_term self.now.body.now in let u = self.now.passed.now in
-            GivesPairs self.now.graph.now self.now.max_rows (Cut self.now.graph.now (Repetition r 0 None) u u) (unions_within r u (doubles 60)) result }
+        ensures { let on = self.now.ground.now in let r = path_term self.now.body.now in let u = self.now.passed.now in
+            GivesPairs on.graph.now on.max_rows (Cut on.graph.now (Repetition r 0 None) u u) (unions_within r u (doubles 60)) result }
     {
         closure(self, self.relation)
     }

@@ -25,7 +25,7 @@ use crate::powers::{Powers, cut};
 use label_scope::Scope;
 use relation_rows::{RelFault, Relation};
 
-impl Powers<'_> {
+impl Powers<'_, '_> {
     /// The path from `least` to `most` times, or any greater number of times, between two scopes.
     ///
     /// # Errors
@@ -42,8 +42,8 @@ impl Powers<'_> {
         requires ready { IsReady self.now }
         requires in_range { AreInRange least most }
         requires passed { self.now.passed.now ≡ passed_scope (path_term self.now.body.now) (record { sources = a.now; targets = b.now }) }
-        ensures { let r = path_term self.now.body.now in
-            GivesMember self.now.graph.now self.now.max_rows (repetition_member r least most a.now b.now) (repetition_members r self.now.passed.now least most) result }
+        ensures { let on = self.now.ground.now in let r = path_term self.now.body.now in
+            GivesMember on.graph.now on.max_rows (repetition_member r least most a.now b.now) (repetition_members r self.now.passed.now least most) result }
     {
         if most == Some(least) {
             self.exactly_between(a, b, least)
@@ -53,30 +53,30 @@ impl Powers<'_> {
         }
     }
 
-    /// The path n times between two scopes.
+    // The path n times between two scopes.
     fn exactly_between(&self, a: &Scope, b: &Scope, n: u64) -> Result<Relation, RelFault>
         requires ready { IsReady self.now }
         requires small { n ≤ 1000000000000 }
         requires passed { self.now.passed.now ≡ passed_scope (path_term self.now.body.now) (record { sources = a.now; targets = b.now }) }
-        ensures { let r = path_term self.now.body.now in
-            GivesMember self.now.graph.now self.now.max_rows (repetition_member r n (Some n) a.now b.now) (repetition_members r self.now.passed.now n (Some n)) result }
+        ensures { let on = self.now.ground.now in let r = path_term self.now.body.now in
+            GivesMember on.graph.now on.max_rows (repetition_member r n (Some n) a.now b.now) (repetition_members r self.now.passed.now n (Some n)) result }
     {
         if n == 0 {
-            let both = a.meet(self.alloc, b)?;
+            let both = a.meet(self.ground.alloc, b)?;
             return self.identity_within(&both);
         }
         let power = self.exactly(n)?;
-        let rows = cut(self.alloc, self.graph, &power, a, b)?;
+        let rows = cut(self.ground, &power, a, b)?;
         Ok(rows)
     }
 
-    /// What may follow after `least` times: as many times as are left up to `most`, or any number.
+    // What may follow after `least` times: as many times as are left up to `most`, or any number.
     fn rest(&self, least: u64, most: Option<u64>) -> Result<Relation, RelFault>
         requires ready { IsReady self.now }
         requires in_range { AreInRange least most }
         requires more { IsRest least most }
-        ensures { let r = path_term self.now.body.now in let u = self.now.passed.now in
-            GivesPairs self.now.graph.now self.now.max_rows (Cut self.now.graph.now (Repetition r 0 (left_over least most)) u u) (unions_within r u (further least most)) result }
+        ensures { let on = self.now.ground.now in let r = path_term self.now.body.now in let u = self.now.passed.now in
+            GivesPairs on.graph.now on.max_rows (Cut on.graph.now (Repetition r 0 (left_over least most)) u u) (unions_within r u (further least most)) result }
     {
         match most {
             Some(most) => self.at_most(most - least),
@@ -84,7 +84,7 @@ impl Powers<'_> {
         }
     }
 
-    /// The path `least` times, and then what may follow, between two scopes.
+    // The path `least` times, and then what may follow, between two scopes.
     fn with_rest(
         &self,
         a: &Scope,
@@ -96,19 +96,19 @@ impl Powers<'_> {
         requires ready { IsReady self.now }
         requires in_range { AreInRange least most }
         requires passed { self.now.passed.now ≡ passed_scope (path_term self.now.body.now) (record { sources = a.now; targets = b.now }) }
-        requires rest { let r = path_term self.now.body.now in let u = self.now.passed.now in
-            HoldsFitting (Cut self.now.graph.now (Repetition r 0 (left_over least most)) u u) self.now.max_rows rest.now }
-        requires fits { AllFit self.now.graph.now self.now.max_rows (unions_within (path_term self.now.body.now) self.now.passed.now (further least most)) }
-        ensures { let r = path_term self.now.body.now in
-            GivesMember self.now.graph.now self.now.max_rows (repetition_member r least most a.now b.now) (repetition_members r self.now.passed.now least most) result }
+        requires rest { let on = self.now.ground.now in let r = path_term self.now.body.now in let u = self.now.passed.now in
+            HoldsFitting (Cut on.graph.now (Repetition r 0 (left_over least most)) u u) on.max_rows rest.now }
+        requires fits { AllFit self.now.ground.now.graph.now self.now.ground.now.max_rows (unions_within (path_term self.now.body.now) self.now.passed.now (further least most)) }
+        ensures { let on = self.now.ground.now in let r = path_term self.now.body.now in
+            GivesMember on.graph.now on.max_rows (repetition_member r least most a.now b.now) (repetition_members r self.now.passed.now least most) result }
     {
         if least == 0 {
-            let rows = cut(self.alloc, self.graph, rest, a, b)?;
+            let rows = cut(self.ground, rest, a, b)?;
             return Ok(rows);
         }
         let power = self.exactly(least)?;
-        let first = cut(self.alloc, self.graph, &power, a, self.passed)?;
-        let second = cut(self.alloc, self.graph, rest, self.passed, b)?;
-        first.compose(&second, self.max_rows)
+        let first = cut(self.ground, &power, a, self.passed)?;
+        let second = cut(self.ground, rest, self.passed, b)?;
+        first.compose(&second, self.ground.max_rows)
     }
 }

@@ -1,14 +1,12 @@
 -- How the union of the powers 0 to k grows by what is new in it.
-use Rattle.std.proofs.Common.{◌≡◌, ℕ, zero, suc, ◌+◌, ◌-◌, ◌<◌, ◌≤◌, ◌⊎◌, inl, inr, sym, subst, arith, add-zero}
+use Rattle.std.proofs.Common.{◌≡◌, ℕ, zero, suc, ◌+◌, ◌-◌, ◌<◌, ◌≤◌, inl, inr, sym, subst, arith, add-zero}
+use Rattle.std.proofs.Math.Nat.{le-suc_iff}
 use Rattle.repeat_engine.specs.Powers.{Algebra, nth_power, union_of_powers}
 use Rattle.repeat_engine.specs.Composed.{IsLawful}
 use Rattle.repeat_engine.specs.GrownUnions.{IsNewest}
 use Rattle.repeat_engine.proofs.PowerLaws.{own_power, power_sum, same_at, first_arg, second_arg}
 use Rattle.repeat_engine.proofs.UnionLaws.{own_union, own_first, power_of_first, union_first}
 use Rattle.repeat_engine.proofs.Order.{first_side, second_side, Has, both_ways, through, has_right, has_left, has_both, has_alike, compose_has_left, compose_has_right}
-
-up_to_or_last : (k n : ℕ) → k ≤ suc n → (k ≤ n) ⊎ (k ≡ suc n)
-up_to_or_last k n h = grind arith
 
 module _ {M : Type 0} {Alike : M → M → Type 0} {Own Fits : M → Type 0} {algebra : Algebra M} (laws : IsLawful Alike Own Fits algebra) (x : M) (own : Own x) where
   open algebra use {one, compose, unite}
@@ -34,7 +32,7 @@ module _ {M : Type 0} {Alike : M → M → Type 0} {Own Fits : M → Type 0} {al
   to_holds m (suc n) below =
       let next : M = nth_power algebra x (suc n) in
       let own_next : Own next = own_power laws x own (suc n) in
-      elim (up_to_or_last m n below) [
+      elim (le-suc_iff.0 below) [
         | inl before ↦
             through laws (unite (To n) next) (To n) (To m) (laws.own_united _ _ (own_to n) own_next) (own_to n) (own_to m)
             (has_left laws (To n) next (own_to n) own_next) (to_holds m n before)

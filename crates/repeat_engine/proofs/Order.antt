@@ -1,6 +1,6 @@
 -- What holds what, over a lawful union.
 use Rattle.repeat_engine.specs.Powers.{Algebra}
-use Rattle.repeat_engine.specs.Composed.{IsLawful, Holds}
+use Rattle.repeat_engine.specs.Composed.{IsLawful, Includes}
 
 module _ {M : Type 0} {Alike : M → M → Type 0} {Own Fits : M → Type 0} {algebra : Algebra M} (laws : IsLawful Alike Own Fits algebra) where
   open algebra use {one, compose, unite}
@@ -19,7 +19,7 @@ module _ {M : Type 0} {Alike : M → M → Type 0} {Own Fits : M → Type 0} {al
   second_side x p = laws.united_alike _ _ _ _ (laws.same x) p
 
   abbrev pub Has : M → M → Type 0
-  Has a b = Holds Alike algebra a b
+  Has a b = Includes Alike algebra a b
 
   -- each holds the other: they are alike
   pub both_ways : (a b : M) → Own a → Own b → Has a b → Has b a → Alike a b

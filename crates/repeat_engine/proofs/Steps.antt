@@ -5,7 +5,7 @@ use Rattle.std.proofs.lemmas.List.Elements.{All-from_recursion}
 use Rattle.itpg_base.specs.Chains.{chain}
 use Rattle.repeat_engine.specs.declared.grown_union.Grown.{Grown}
 use Rattle.repeat_engine.specs.Powers.{Algebra, union_of_powers}
-use Rattle.repeat_engine.specs.Composed.{IsLawful, IsOkWhere}
+use Rattle.repeat_engine.specs.Composed.{IsLawful}
 use Rattle.repeat_engine.specs.GrownUnions.{newest_or, newest_part, IsLatestStep, IsNewest, IsSound, Grows, GrowsOn}
 use Rattle.repeat_engine.proofs.ChainLaws.{chain_one, chain_first, chain_split, chain_join}
 use Rattle.repeat_engine.proofs.UnionLaws.{union_first}
@@ -20,14 +20,6 @@ pick P None all some whole = whole
 pub kept : {T E : Type 0} (P Q : T → Type 0) → ((v : T) → P v → Q v) → (r : Result T E) (o : Option T) → o ≡ result_ok r → IfOk r P → IfSome o Q
 kept P Q f (Ok v) o e h = subst (λ (w : Option _). IfSome w Q) (sym e) (f v h)
 kept P Q f (Err fault) o e h = subst (λ (w : Option _). IfSome w Q) (sym e) tt
-
-pub kept_twice : {T E : Type 0} (P Q S : T → Type 0) → ((v : T) → P v → Q v → S v) → (r : Result T E) (o : Option T) → o ≡ result_ok r → IfOk r P → IfOk r Q → IfSome o S
-kept_twice P Q S f (Ok v) o e h k = subst (λ (w : Option _). IfSome w S) (sym e) (f v h k)
-kept_twice P Q S f (Err fault) o e h k = subst (λ (w : Option _). IfSome w S) (sym e) tt
-
-pub fits_where : {T E : Type 0} (WantsMemory : E → Type 0) (r : Result T E) (A : Type 0) → IsOkWhere WantsMemory r A → IfOk r (λ v. A)
-fits_where WantsMemory (Ok v) A h = h
-fits_where WantsMemory (Err fault) A h = tt
 
 pub no_truth : {A : Type 0} → IsTrue false → A
 no_truth t = absurd (grind (arith, t))
@@ -52,9 +44,6 @@ module _ {M : Type 0} {Alike : M → M → Type 0} {Own Fits : M → Type 0} {al
   -- the part that is new
   pub own_part : (g : Grown V) (part : V) → part ≡ newest_part g → Sound g → Own (means part)
   own_part g part e s = subst (λ (v : V). Own (means v)) (sym e) (pick (λ v. Own (means v)) g.newest g.all s.own_newest s.own_all)
-
-  pub own_made : (g : Grown V) (part : V) (y made : M) → part ≡ newest_part g → Sound g → Own y → Alike made (compose (means part) y) → Own made
-  own_made g part y made e s own_y value = laws.own_alike _ _ (back value) (laws.own_composed _ _ (own_part g part e s) own_y)
 
   module _ (x : M) (own : Own x) where
     abbrev To : ℕ → M

@@ -1,11 +1,9 @@
 -- The union of the powers 0 to n is the n-th power of `one` united with x, and holds each of them.
-use Rattle.std.proofs.Common.{◌≡◌, ℕ, zero, suc, ◌^◌, ◌≤◌, ◌⊎◌, inl, inr, sym, subst, arith}
+use Rattle.std.proofs.Common.{ℕ, zero, suc, ◌^◌, ◌≤◌, ◌⊎◌, inl, inr, sym, subst, arith}
+use Rattle.std.proofs.Math.Nat.{le-suc_iff}
 use Rattle.repeat_engine.specs.Powers.{Algebra, nth_power, union_of_powers}
-use Rattle.repeat_engine.specs.Composed.{IsLawful, Holds, HoldsPowers}
+use Rattle.repeat_engine.specs.Composed.{IsLawful, Includes, IncludesPowers}
 use Rattle.repeat_engine.proofs.PowerLaws.{own_power, power_first, first_arg}
-
-up_to_or_last : (k n : ℕ) → k ≤ suc n → (k ≤ n) ⊎ (k ≡ suc n)
-up_to_or_last k n h = grind arith
 
 within_or_beyond : (n m : ℕ) → (n ≤ m) ⊎ (m ≤ n)
 within_or_beyond n m = grind arith
@@ -74,7 +72,7 @@ module _ {M : Type 0} {Alike : M → M → Type 0} {Own Fits : M → Type 0} {al
   pub union_first : (x : M) → Own x → Alike (unite one x) (To x 1)
   union_first x own = back (power_first laws (unite one x) (own_first x own)) ~ power_of_first x own 1
 
-  union_holds : (x : M) → Own x → (k n : ℕ) → k ≤ n → Holds Alike algebra (To x n) (Pow x k)
+  union_holds : (x : M) → Own x → (k n : ℕ) → k ≤ n → Includes Alike algebra (To x n) (Pow x k)
   unfolding union_of_powers nth_power
   union_holds x own zero zero below = laws.united_twice one laws.own_one
   union_holds x own (suc k) zero below = absurd (omega (arith, below))
@@ -84,25 +82,25 @@ module _ {M : Type 0} {Alike : M → M → Type 0} {Own Fits : M → Type 0} {al
       let own_to : Own to = own_union x own n in
       let own_next : Own next = own_power laws x own (suc n) in
       let own_k : Own (Pow x k) = own_power laws x own k in
-      elim (up_to_or_last k n below) [
+      elim (le-suc_iff.0 below) [
         | inl before ↦
             laws.united_associative to next (Pow x k) own_to own_next own_k
             ~ second_side to (laws.united_commutative next (Pow x k) own_next own_k)
             ~ back (laws.united_associative to (Pow x k) next own_to own_k own_next)
             ~ first_side next (union_holds x own k n before)
         | inr last ↦
-            subst (λ (i : ℕ). Holds Alike algebra (unite to next) (Pow x i)) (sym last)
+            subst (λ (i : ℕ). Includes Alike algebra (unite to next) (Pow x i)) (sym last)
             (laws.united_associative to next next own_to own_next own_next ~ second_side to (laws.united_twice next own_next))
       ]
 
   -- what is alike to the union of the powers to 2 ^ 60 holds every power
-  pub all_held : (x v : M) → Own x → Alike v (To x (2 ^ 60)) → HoldsPowers Alike algebra v x
+  pub all_held : (x v : M) → Own x → Alike v (To x (2 ^ 60)) → IncludesPowers Alike algebra v x
   all_held x v own e n =
-      let held : Holds Alike algebra (To x (2 ^ 60)) (Pow x n) =
+      let held : Includes Alike algebra (To x (2 ^ 60)) (Pow x n) =
       elim (within_or_beyond n (2 ^ 60)) [ inl below ↦ union_holds x own n (2 ^ 60) below | inr above ↦ laws.bounded x n own above ] in
       first_side (Pow x n) e ~ held ~ back e
 
-  union_least : (x w : M) → Own x → Own w → HoldsPowers Alike algebra w x → (n : ℕ) → Holds Alike algebra w (To x n)
+  union_least : (x w : M) → Own x → Own w → IncludesPowers Alike algebra w x → (n : ℕ) → Includes Alike algebra w (To x n)
   unfolding union_of_powers nth_power
   union_least x w own own_w each zero = each 0
   union_least x w own own_w each (suc n) =
@@ -113,5 +111,5 @@ module _ {M : Type 0} {Alike : M → M → Type 0} {Own Fits : M → Type 0} {al
       ~ each (suc n)
 
   -- and whatever holds every power holds it
-  pub least_held : (x v : M) → Own x → Alike v (To x (2 ^ 60)) → (w : M) → Own w → HoldsPowers Alike algebra w x → Holds Alike algebra w v
+  pub least_held : (x v : M) → Own x → Alike v (To x (2 ^ 60)) → (w : M) → Own w → IncludesPowers Alike algebra w x → Includes Alike algebra w v
   least_held x v own e w own_w each = second_side w e ~ union_least x w own own_w each (2 ^ 60)

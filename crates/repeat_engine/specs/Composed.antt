@@ -2,13 +2,13 @@
 use Rattle.std.specs.Prelude.{ℕ, ◌≤◌, ◌^◌, Result, MatchResult}
 use Rattle.repeat_engine.specs.Powers.{Algebra, nth_power, union_of_powers}
 
--- the first holds the second: united with it, it stays what it is
-abbrev pub Holds : {M : Type 0} → (M → M → Type 0) → Algebra M → M → M → Type 0
-Holds Alike algebra x y = Alike (algebra.unite x y) x
+-- the first includes the second: united with it, it stays what it is
+abbrev pub Includes : {M : Type 0} → (M → M → Type 0) → Algebra M → M → M → Type 0
+Includes Alike algebra x y = Alike (algebra.unite x y) x
 
--- it holds every power of x
-abbrev pub HoldsPowers : {M : Type 0} → (M → M → Type 0) → Algebra M → M → M → Type 0
-HoldsPowers Alike algebra v x = (n : ℕ) → Holds Alike algebra v (nth_power algebra x n)
+-- it includes every power of x
+abbrev pub IncludesPowers : {M : Type 0} → (M → M → Type 0) → Algebra M → M → M → Type 0
+IncludesPowers Alike algebra v x = (n : ℕ) → Includes Alike algebra v (nth_power algebra x n)
 
 -- Ok only where the condition holds, and a fault that isn't want of memory only where it fails
 abbrev pub IsOkWhere : {T E : Type 0} → (E → Type 0) → Result T E → Type 0 → Type 0
@@ -44,5 +44,5 @@ module _ {M : Type 0} (Alike : M → M → Type 0) (Own Fits : M → Type 0) (al
     pub united_associative : (x y z : M) → Own x → Own y → Own z → Alike (unite (unite x y) z) (unite x (unite y z))
     pub united_commutative : (x y : M) → Own x → Own y → Alike (unite x y) (unite y x)
     pub united_twice : (x : M) → Own x → Alike (unite x x) x
-    -- the union of the powers 0 to 2 ^ 60 holds every further power
-    pub bounded : (x : M) (n : ℕ) → Own x → 2 ^ 60 ≤ n → Holds Alike algebra (union_of_powers algebra x (2 ^ 60)) (nth_power algebra x n)
+    -- the union of the powers 0 to 2 ^ 60 includes every further power
+    pub bounded : (x : M) (n : ℕ) → Own x → 2 ^ 60 ≤ n → Includes Alike algebra (union_of_powers algebra x (2 ^ 60)) (nth_power algebra x n)

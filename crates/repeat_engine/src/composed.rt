@@ -17,7 +17,7 @@ ghost use Rattle.repeat_engine.specs.Composed.{IsOkWhere, IsLawful};
 ///
 /// The laws are those of `IsLawful`, over c's own meanings: composition is associative, with `one` neutral, and
 /// distributes over union; union is associative, commutative and idempotent; and the union of the powers 0 to 2^60
-/// holds every further power.
+/// includes every further power.
 ///
 /// The calls use the allocator that the value itself keeps. Each may answer want of memory.
 pub trait Composed {

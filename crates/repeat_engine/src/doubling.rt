@@ -5,6 +5,7 @@ ghost use Rattle.repeat_engine.specs.Composed.{IsOkWhere};
 ghost use Rattle.repeat_engine.specs.GrownUnions.{OfEach, IsNewest, IsSound, Grows, GrowsOn};
 
 use crate::Composed;
+use crate::calls::{compose, union};
 use crate::grown_union::{Grown, grown_to, newest_of};
 use crate::single_steps::walked;
 
@@ -43,9 +44,9 @@ fn squared<C: Composed>(c: &C, half: &Grown<C::Value>) -> Result<Grown<C::Value>
     if c.size(newest_of(half)) > c.size(&half.all) / 4 {
         return squared_whole(c, half);
     }
-    match c.compose(newest_of(half), &half.all) {
+    match compose(c, newest_of(half), &half.all) {
         Ok(made) => {
-            let all = c.union(&half.all, &made)?;
+            let all = union(c, &half.all, &made)?;
             let newest = newest_squared(c, half, made);
             Ok(grown_to(c, half, all, Some(newest)))
         }
@@ -62,7 +63,7 @@ fn squared_whole<C: Composed>(c: &C, half: &Grown<C::Value>) -> Result<Grown<C::
     ensures exact { let Each = OfEach (C.alike c.now) (C.own c.now) (C.algebra c.now) C.means half.now in
         Each (λ x k. IsOkWhere C.wants_memory result (C.fits c.now (union_of_powers (C.algebra c.now) x (k + k)))) }
 {
-    let all = c.compose(&half.all, &half.all)?;
+    let all = compose(c, &half.all, &half.all)?;
     let newest = short_squared(c, half);
     Ok(grown_to(c, half, all, newest))
 }
@@ -80,7 +81,7 @@ fn short_squared<C: Composed>(c: &C, half: &Grown<C::Value>) -> Option<C::Value>
             if c.size(newest) > c.size(&half.all) / 2 {
                 return None;
             }
-            c.compose(newest, newest).ok()
+            compose(c, newest, newest).ok()
         }
         None => None,
     }
@@ -98,7 +99,7 @@ fn newest_squared<C: Composed>(c: &C, half: &Grown<C::Value>, made: C::Value) ->
         New (C.means made) → New (C.means result)) }
 {
     match &half.newest {
-        Some(newest) => match c.compose(newest, newest) {
+        Some(newest) => match compose(c, newest, newest) {
             Ok(square) => {
                 if c.size(&square) <= c.size(&made) {
                     square

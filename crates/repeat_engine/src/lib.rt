@@ -6,6 +6,7 @@
 //! comment names.
 #![tactic(auto)]
 
+mod calls;
 mod composed;
 mod doubling;
 mod grown_union;

@@ -7,6 +7,7 @@ ghost use Rattle.repeat_engine.specs.Composed.{IsOkWhere};
 ghost use Rattle.repeat_engine.specs.RaisedPowers.{IsTurned, IsNext};
 
 use crate::Composed;
+use crate::calls::{compose, union};
 
 /// The n-th power, for some n from 1 on.
 #[derive(Drop)]
@@ -36,14 +37,14 @@ pub(crate) fn raised_to<C: Composed>(
 {
     if n == 1 {
         // No call copies a value, but the union of x with itself is x.
-        let value = c.union(x, x)?;
+        let value = union(c, x, x)?;
         return Ok(Raised { value, next: None });
     }
     let half = raised_to(c, x, n / 2)?;
     if half.next.is_some() {
         return Ok(turned(half, n - n / 2));
     }
-    let double = c.compose(&half.value, &half.value)?;
+    let double = compose(c, &half.value, &half.value)?;
     if n % 2 == 0 {
         let next = next_of(c, x, &double);
         return Ok(Raised {
@@ -51,7 +52,7 @@ pub(crate) fn raised_to<C: Composed>(
             next,
         });
     }
-    let value = c.compose(&double, x)?;
+    let value = compose(c, &double, x)?;
     let next = next_of(c, x, &value);
     Ok(Raised { value, next })
 }
@@ -90,13 +91,13 @@ fn next_of<C: Composed>(c: &C, x: &C::Value, power: &C::Value) -> Option<C::Valu
     if c.size(x) > c.size(power) / 4 {
         return None;
     }
-    let Ok(next) = c.compose(power, x) else {
+    let Ok(next) = compose(c, power, x) else {
         return None;
     };
     if c.same(&next, power) {
         return Some(next);
     }
-    let Ok(second) = c.compose(&next, x) else {
+    let Ok(second) = compose(c, &next, x) else {
         return None;
     };
     if c.same(&second, power) {

@@ -4,13 +4,13 @@
 ghost use Rattle.std.specs.Prelude.{◌≡◌, ◌≤◌, ◌^◌, ℕ, All, IfOk};
 ghost use Rattle.itpg_base.specs.Chains.{chain};
 ghost use Rattle.repeat_engine.specs.Powers.{nth_power, union_of_powers};
-ghost use Rattle.repeat_engine.specs.Composed.{IsOkWhere, Holds, HoldsPowers};
+ghost use Rattle.repeat_engine.specs.Composed.{IsOkWhere, Includes, IncludesPowers};
 
 use crate::Composed;
 use crate::power_chain::raised_to;
-use crate::union_chain::united;
+use crate::union_chain::united_from_one;
 
-/// The union of the powers up to this one holds all powers (`IsLawful`).
+// The union of the powers up to this one includes all powers (`IsLawful`).
 const ENOUGH: u64 = 1 << 60;
 
 /// The n-th power of x: `one` for n = 0, and else x composed with itself, n of them in all. n is at most 10^12.
@@ -67,12 +67,11 @@ pub fn up_to<C: Composed>(c: &C, x: &C::Value, n: u64) -> Result<C::Value, C::Fa
         IsOkWhere C.wants_memory result
         (C.fits c.now (C.algebra c.now).one × All (λ k. C.fits c.now (union k)) (chain n)) }
 {
-    let one = c.one()?;
     if n == 0 {
+        let one = c.one()?;
         return Ok(one);
     }
-    let first = c.union(&one, x)?;
-    let grown = united(c, x, &first, n)?;
+    let grown = united_from_one(c, x, n)?;
     Ok(grown.all)
 }
 
@@ -90,12 +89,12 @@ pub fn closure<C: Composed>(c: &C, x: &C::Value) -> Result<C::Value, C::Fault>
     requires fits_x { C.fits c.now (C.means x.now) }
     ensures value { let union = union_of_powers (C.algebra c.now) (C.means x.now) in
         IfOk result (λ v. C.alike c.now (C.means v) (union (2 ^ 60))) }
-    ensures holds_powers { let HoldsEach = HoldsPowers (C.alike c.now) (C.algebra c.now) in
-        IfOk result (λ v. HoldsEach (C.means v) (C.means x.now)) }
-    // Whatever holds every power holds the closure.
-    ensures least { let HoldsEach = HoldsPowers (C.alike c.now) (C.algebra c.now) in
-        IfOk result (λ v. (w : C.Meaning) → C.own c.now w → HoldsEach w (C.means x.now) →
-        Holds (C.alike c.now) (C.algebra c.now) w (C.means v)) }
+    ensures includes_powers { let IncludesEach = IncludesPowers (C.alike c.now) (C.algebra c.now) in
+        IfOk result (λ v. IncludesEach (C.means v) (C.means x.now)) }
+    // Whatever includes every power includes the closure.
+    ensures least { let IncludesEach = IncludesPowers (C.alike c.now) (C.algebra c.now) in
+        IfOk result (λ v. (w : C.Meaning) → C.own c.now w → IncludesEach w (C.means x.now) →
+        Includes (C.alike c.now) (C.algebra c.now) w (C.means v)) }
     ensures own { IfOk result (λ v. C.own c.now (C.means v)) }
     ensures fits { IfOk result (λ v. C.fits c.now (C.means v)) }
     ensures exact { let union = union_of_powers (C.algebra c.now) (C.means x.now) in
@@ -105,8 +104,6 @@ pub fn closure<C: Composed>(c: &C, x: &C::Value) -> Result<C::Value, C::Fault>
     // The unions to 1, 2, 4 and so on to 2^60 are the chain of 2^60. It is seldom walked to its end: where a union adds nothing to
     // the one before, no further one does. Only what is new is composed on, since the whole union squared makes each walk again
     // for each place where it can be cut in two.
-    let one = c.one()?;
-    let first = c.union(&one, x)?;
-    let grown = united(c, x, &first, ENOUGH)?;
+    let grown = united_from_one(c, x, ENOUGH)?;
     Ok(grown.all)
 }

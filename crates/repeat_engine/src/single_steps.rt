@@ -5,6 +5,7 @@ ghost use Rattle.repeat_engine.specs.Composed.{IsOkWhere};
 ghost use Rattle.repeat_engine.specs.GrownUnions.{newest_or, OfEach, IsNewest, IsSound, Grows, GrowsOn};
 
 use crate::Composed;
+use crate::calls::{compose, union};
 use crate::grown_union::{Grown, grown_to, newest_of};
 
 /// Twice as far by single steps, while these look much cheaper than what is new composed with the union. None where they
@@ -69,10 +70,10 @@ fn step_from<C: Composed>(c: &C, x: &C::Value, half: &Grown<C::Value>) -> Option
         let At = Grows (C.alike c.now) (C.algebra c.now) (C.means x.now) C.means in
         (k : ℕ) → On k half.now → IfSome result (At (k + 1)) }
 {
-    let Ok(made) = c.compose(newest_of(half), x) else {
+    let Ok(made) = compose(c, newest_of(half), x) else {
         return None;
     };
-    let Ok(all) = c.union(&half.all, &made) else {
+    let Ok(all) = union(c, &half.all, &made) else {
         return None;
     };
     let newest = trimmed(c, half, &all, made);
@@ -103,7 +104,7 @@ pub(crate) fn stepped<C: Composed>(
     if let Some(next) = step_from(c, x, half) {
         return Ok(next);
     }
-    let all = c.compose(&half.all, first)?;
+    let all = compose(c, &half.all, first)?;
     Ok(grown_to(c, half, all, None))
 }
 

@@ -6,12 +6,35 @@ ghost use Rattle.repeat_engine.specs.Composed.{IsOkWhere};
 ghost use Rattle.repeat_engine.specs.GrownUnions.{IsSound, Grows};
 
 use crate::Composed;
+use crate::calls::union;
 use crate::doubling::doubled;
 use crate::grown_union::Grown;
 use crate::single_steps::stepped;
 
-/// The union of the powers 0 to n, where `first` is that of 0 and 1.
-pub(crate) fn united<C: Composed>(
+/// The union of the powers 0 to n. The first union, of `one` and x, is that of the powers 0 and 1.
+pub(crate) fn united_from_one<C: Composed>(
+    c: &C,
+    x: &C::Value,
+    n: u64,
+) -> Result<Grown<C::Value>, C::Fault>
+    requires some { 1 ≤ n }
+    requires own_x { C.own c.now (C.means x.now) }
+    requires fits_x { C.fits c.now (C.means x.now) }
+    ensures sound { IfOk result (IsSound (C.own c.now) (C.fits c.now) C.means) }
+    ensures grows { let At = Grows (C.alike c.now) (C.algebra c.now) (C.means x.now) C.means in
+        IfOk result (At n) }
+    ensures exact { let union = union_of_powers (C.algebra c.now) (C.means x.now) in
+        IsOkWhere C.wants_memory result
+        (C.fits c.now (C.algebra c.now).one × All (λ k. C.fits c.now (union k)) (chain n)) }
+{
+    let one = c.one()?;
+    let first = union(c, &one, x)?;
+    let grown = united(c, x, &first, n)?;
+    Ok(grown)
+}
+
+// The union of the powers 0 to n, where `first` is that of 0 and 1.
+fn united<C: Composed>(
     c: &C,
     x: &C::Value,
     first: &C::Value,
@@ -46,6 +69,7 @@ pub(crate) fn united<C: Composed>(
     stepped(c, x, first, &double)
 }
 
+// The union of the powers 0 and 1.
 fn grown_first<C: Composed>(
     c: &C,
     x: &C::Value,
@@ -63,8 +87,8 @@ fn grown_first<C: Composed>(
         IsOkWhere C.wants_memory result (C.fits c.now (union 1)) }
 {
     // No call copies a value, but the union of a value with itself is that value.
-    let all = c.union(first, first)?;
-    let newest = c.union(x, x).ok();
+    let all = union(c, first, first)?;
+    let newest = union(c, x, x).ok();
     Ok(Grown {
         all,
         newest,

@@ -1,5 +1,6 @@
 -- Relations between fewer than 2 ^ 60 points are lawful.
 use Rattle.std.proofs.Common.{◌≡◌, ℕ, zero, suc, ◌≤◌, ◌^◌, List, [], ◌∷◌, ◌++◌, length, ◌⊎◌, inl, inr, refl, sym, ap, subst, ◌∙◌, arith}
+use Rattle.std.proofs.Math.Nat.{le-suc_iff}
 use Rattle.itpg_base.specs.Walks.{IsWalk}
 use Rattle.itpg_base.proofs.ShortWalks.{short_walk}
 use Rattle.repeat_engine.specs.Powers.{nth_power, union_of_powers}
@@ -35,9 +36,6 @@ length_more (v ∷ zs) z = ap suc (length_more zs z)
 walk_more : {P : Type 0} (R : P → P → Type 0) (zs : List P) (u v y : P) → IsWalk R u zs v → R v y → IsWalk R u (zs ++ y ∷ []) y
 walk_more {P} R [] u v y walk step = (subst (λ (p : P). R p y) (sym walk) step, refl)
 walk_more R (z ∷ zs) u v y walk step = (walk.0, walk_more R zs z v y walk.1 step)
-
-up_to_or_last : (k n : ℕ) → k ≤ suc n → (k ≤ n) ⊎ (k ≡ suc n)
-up_to_or_last k n h = grind arith
 
 module _ {P G : Type 0} (Inside : P → Type 0) (Leads : G → P → P → Type 0) where
   abbrev Rel : RelationTerm G → P → P → Type 0
@@ -81,7 +79,7 @@ module _ {P G : Type 0} (Inside : P → Type 0) (Leads : G → P → P → Type 
   power_in_union a zero zero x y below h = h
   power_in_union a (suc k) zero x y below h = absurd (omega (arith, below))
   power_in_union a k (suc n) x y below h =
-      elim (up_to_or_last k n below) [
+      elim (le-suc_iff.0 below) [
         | inl before ↦ inl (power_in_union a k n x y before h)
         | inr last ↦ inr (subst (λ (m : ℕ). Rel (Pow a m) x y) last h)
       ]

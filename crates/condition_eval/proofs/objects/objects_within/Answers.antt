@@ -18,6 +18,6 @@ loop-number-preserved c =
           (not_within c.args.scope.now c.args.graph.now c.loop-number.number c.loop-number.objects.items c.loop-number.invariant (λ h. true≢false (sym (c.is_within.ensures.1 h) ∙ w.if-is_within.false)))
     ]
 
-pub returns : goal.returns
-returns c = all_found c.args.scope.now c.args.graph.now c.loop-number.number c.loop-number.objects.items
+pub returns-clause-within : goal.returns-clause-within
+returns-clause-within c = all_found c.args.scope.now c.args.graph.now c.loop-number.number c.loop-number.objects.items
     (let e = c.declared-number-end.ensures.count in let le = c.loop-number-test.false in omega arith) c.loop-number.invariant

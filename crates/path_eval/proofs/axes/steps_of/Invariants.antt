@@ -4,4 +4,4 @@ use Rattle.path_eval.proofs.Adding.{Added}
 use Rattle.path_eval.proofs.axes.steps_of.Given as goal
 
 abbrev pub invariant-loop-object : goal.invariant-loop-object
-invariant-loop-object l = Added (StepsFrom l.fn.direction l.fn.targets l.fn.graph l.fn.zone) [] (take l.object-index l.objects) l.items.items
+invariant-loop-object l = Added (StepsFrom l.fn.direction l.fn.targets l.fn.ground.graph.now l.fn.zone) [] (take l.object-index l.objects) l.items.items

@@ -1,18 +1,24 @@
 use Rattle.std.proofs.Common.{◌++◌, refl, sym}
 use Rattle.itpg_base.specs.Chains.{chain}
 use Rattle.std.proofs.lemmas.Result.{err_from_is_err_and}
-use Rattle.path_ast.specs.Terms.{path_term, test_term, Next, Previous, Sequence, Choice, Repetition, Conjunction, Disjunction}
+use Rattle.path_ast.specs.Terms.{path_term, test_term, Forward, Backward, Next, Previous, Sequence, Choice, Repetition, Conjunction, Disjunction}
 use Rattle.label_scope.specs.Narrowing.{Cut}
 use Rattle.label_scope.specs.Members.{worked, worked_conditions, middle, passed, powers_within, unions_within, further}
 use Rattle.path_eval.specs.Working.{member}
-use Rattle.path_eval.proofs.Working.{unnarrowed, time_out, test_out, sequence_out, choice_out, first_fault, second_fault, first_marks, second_marks, both_marked, either_marked, condition_marked, negation_marked}
+use Rattle.path_eval.proofs.Working.{unnarrowed, axis_out, time_out, test_out, sequence_out, choice_out, first_fault, second_fault, first_marks, second_marks, both_marked, either_marked, condition_marked, negation_marked}
 use Rattle.path_eval.proofs.evaluation.+evaluation.Goals as goal
 
+pub between-returns-in-F : goal.between-returns-in-F
+between-returns-in-F t c = rw c.in-F.is (axis_out c.args.ground.now.graph.now c.args.ground.now.max_rows c.requires.good Forward c.args.a.now c.args.b.now c.along_edges.result c.along_edges.ensures)
+
+pub between-returns-in-B : goal.between-returns-in-B
+between-returns-in-B t c = rw c.in-B.is (axis_out c.args.ground.now.graph.now c.args.ground.now.max_rows c.requires.good Backward c.args.a.now c.args.b.now c.along_edges-in-B.result c.along_edges-in-B.ensures)
+
 pub between-returns-in-N : goal.between-returns-in-N
-between-returns-in-N t c = rw (c.in-N.is, c.evaluated.ensures) (time_out c.args.ground.now.graph.now c.args.ground.now.max_rows c.requires.ground.good Next c.args.a.now c.args.b.now ((rw c.in-N.is at c.requires.kept) refl) c.in_time.result c.in_time.ensures)
+between-returns-in-N t c = rw c.in-N.is (time_out c.args.ground.now.graph.now c.args.ground.now.max_rows c.requires.good Next c.args.a.now c.args.b.now ((rw c.in-N.is at c.requires.kept) refl) c.in_time.result c.in_time.ensures)
 
 pub between-returns-in-P : goal.between-returns-in-P
-between-returns-in-P t c = rw (c.in-P.is, c.evaluated-in-P.ensures) (time_out c.args.ground.now.graph.now c.args.ground.now.max_rows c.requires.ground.good Previous c.args.a.now c.args.b.now ((rw c.in-P.is at c.requires.kept) refl) c.in_time-in-P.result c.in_time-in-P.ensures)
+between-returns-in-P t c = rw c.in-P.is (time_out c.args.ground.now.graph.now c.args.ground.now.max_rows c.requires.good Previous c.args.a.now c.args.b.now ((rw c.in-P.is at c.requires.kept) refl) c.in_time-in-P.result c.in_time-in-P.ensures)
 
 pub sequence-returns-in_err-before : goal.sequence-returns-in_err-before
 sequence-returns-in_err-before t c =
@@ -25,7 +31,7 @@ sequence-returns-in_err-after t c =
     rw (p.1, p.2) (second_fault c.args.ground.now.graph.now c.args.ground.now.max_rows (Cut c.args.ground.now.graph.now (path_term c.args.second.now) (middle (path_term c.args.first.now) (path_term c.args.second.now) (record { sources = c.args.a.now; targets = c.args.b.now })) c.args.b.now) (Cut c.args.ground.now.graph.now (Sequence (path_term c.args.first.now) (path_term c.args.second.now)) c.args.a.now c.args.b.now) (member (Sequence (path_term c.args.first.now) (path_term c.args.second.now)) c.args.a.now c.args.b.now) (worked (path_term c.args.first.now) c.args.a.now (middle (path_term c.args.first.now) (path_term c.args.second.now) (record { sources = c.args.a.now; targets = c.args.b.now }))) (worked (path_term c.args.second.now) (middle (path_term c.args.first.now) (path_term c.args.second.now) (record { sources = c.args.a.now; targets = c.args.b.now })) c.args.b.now) c.in_err-after.field-0.0 (rw c.in_ok-meeting.ensures at c.in_err-after.ensures))
 
 pub sequence-returns : goal.sequence-returns
-sequence-returns t c = rw c.evaluated.ensures (sequence_out c.args.ground.now.graph.now c.args.ground.now.max_rows c.requires.ground.good (path_term c.args.first.now) (path_term c.args.second.now) c.args.a.now c.args.b.now c.in_ok-meeting.meeting c.in_ok-meeting.ensures c.in_ok-before.before c.in_ok-after.after c.in_ok-before.ensures c.in_ok-after.ensures c.compose.result c.compose.ensures)
+sequence-returns t c = (sequence_out c.args.ground.now.graph.now c.args.ground.now.max_rows c.requires.good (path_term c.args.first.now) (path_term c.args.second.now) c.args.a.now c.args.b.now c.in_ok-meeting.meeting c.in_ok-meeting.ensures c.in_ok-before.before c.in_ok-after.after c.in_ok-before.ensures c.in_ok-after.ensures c.compose.result c.compose.ensures)
 
 pub choice-returns-in_err-by_one : goal.choice-returns-in_err-by_one
 choice-returns-in_err-by_one t c =
@@ -38,10 +44,10 @@ choice-returns-in_err-by_other t c =
     rw (p.1, p.2) (second_fault c.args.ground.now.graph.now c.args.ground.now.max_rows (Cut c.args.ground.now.graph.now (path_term c.args.other.now) c.args.a.now c.args.b.now) (Cut c.args.ground.now.graph.now (Choice (path_term c.args.one.now) (path_term c.args.other.now)) c.args.a.now c.args.b.now) (member (Choice (path_term c.args.one.now) (path_term c.args.other.now)) c.args.a.now c.args.b.now) (worked (path_term c.args.one.now) c.args.a.now c.args.b.now) (worked (path_term c.args.other.now) c.args.a.now c.args.b.now) c.in_err-by_other.field-0.0 c.in_err-by_other.ensures)
 
 pub choice-returns : goal.choice-returns
-choice-returns t c = rw c.evaluated.ensures (choice_out c.args.ground.now.graph.now c.args.ground.now.max_rows c.requires.ground.good (path_term c.args.one.now) (path_term c.args.other.now) c.args.a.now c.args.b.now c.in_ok-by_one.by_one c.in_ok-by_other.by_other c.in_ok-by_one.ensures c.in_ok-by_other.ensures c.union.result c.union.ensures)
+choice-returns t c = (choice_out c.args.ground.now.graph.now c.args.ground.now.max_rows c.requires.good (path_term c.args.one.now) (path_term c.args.other.now) c.args.a.now c.args.b.now c.in_ok-by_one.by_one c.in_ok-by_other.by_other c.in_ok-by_one.ensures c.in_ok-by_other.ensures c.union.result c.union.ensures)
 
 pub test_relation-returns : goal.test_relation-returns
-test_relation-returns t c = rw c.evaluated.ensures (test_out c.args.ground.now.graph.now c.args.ground.now.max_rows c.requires.ground.good (test_term c.args.test.now) c.args.scope.now c.deref.result.now (rw (sym c.deref.ensures.value) at c.in_ok-objects.ensures) c.in_ok-marks.marks c.in_ok-marks.ensures.0 c.in_ok-marks.ensures.1 c.as_relation.result c.as_relation.ensures)
+test_relation-returns t c = (test_out c.args.ground.now.graph.now c.args.ground.now.max_rows c.requires.good (test_term c.args.test.now) c.args.scope.now c.deref.result.now (rw (sym c.deref.ensures.value) at c.in_ok-objects.ensures.within) c.in_ok-marks.marks c.in_ok-marks.ensures.0 c.in_ok-marks.ensures.1 c.as_relation.result c.as_relation.ensures)
 
 pub marks_of-returns-in_err-own-in-And : goal.marks_of-returns-in_err-own-in-And
 marks_of-returns-in_err-own-in-And t c =
@@ -79,10 +85,10 @@ pub marks_of-returns-in_ok-starts_of-in-Cond : goal.marks_of-returns-in_ok-start
 marks_of-returns-in_ok-starts_of-in-Cond t c = rw c.in-Cond.is (condition_marked c.args.ground.now.graph.now c.args.ground.now.max_rows c.args.objects.now c.args.scope.now c.requires.within (path_term c.in-Cond.path.value) c.in_ok-leading-in-Cond.leading c.in_ok-starts_of-in-Cond.field-0 (rw c.deref.ensures at c.in_ok-leading-in-Cond.ensures) c.in_ok-starts_of-in-Cond.ensures)
 
 pub marks_of-returns-in_ok-not-in-Not : goal.marks_of-returns-in_ok-not-in-Not
-marks_of-returns-in_ok-not-in-Not t c = rw c.in-Not.is (negation_marked c.args.ground.now.graph.now c.args.ground.now.max_rows c.args.objects.now (test_term c.in-Not.negated.value) c.args.scope.now c.args.ground.now.horizon c.requires.ground.horizon c.requires.within.stand c.in_ok-own-in-Not.own c.in_ok-not-in-Not.field-0 (rw c.deref-in-Not.ensures at c.in_ok-own-in-Not.ensures) c.in_ok-not-in-Not.ensures)
+marks_of-returns-in_ok-not-in-Not t c = rw c.in-Not.is (negation_marked c.args.ground.now.graph.now c.args.ground.now.max_rows c.args.objects.now (test_term c.in-Not.negated.value) c.args.scope.now c.args.ground.now.horizon c.args.ground.now.begun c.requires.within.stand c.in_ok-own-in-Not.own c.in_ok-not-in-Not.field-0 (rw c.deref-in-Not.ensures at c.in_ok-own-in-Not.ensures) c.in_ok-not-in-Not.ensures)
 
 pub worked_out-returns : goal.worked_out-returns
-worked_out-returns t c = unnarrowed c.args.ground.now.graph.now c.args.ground.now.max_rows c.requires.ground.good (path_term c.args.path.now) c.args.a.now c.args.b.now c.in_ok-sources.sources c.in_ok-sources.targets c.in_ok-sources.ensures.sources c.in_ok-sources.ensures.targets c.between.result c.between.ensures
+worked_out-returns t c = unnarrowed c.args.ground.now.graph.now c.args.ground.now.max_rows c.requires.good (path_term c.args.path.now) c.args.a.now c.args.b.now c.in_ok-sources.sources c.in_ok-sources.targets c.in_ok-sources.ensures.sources c.in_ok-sources.ensures.targets c.between.result c.between.ensures
 
 pub repetition-returns-in_err-once : goal.repetition-returns-in_err-once
 repetition-returns-in_err-once t c =

@@ -1,22 +1,6 @@
 use Rattle.std.proofs.Common.{subst, IfSome, Option}
-use Rattle.repeat_engine.proofs.Results.{own_from, fits_from}
 use Rattle.repeat_engine.proofs.Steps.{square_is_new}
 use Rattle.repeat_engine.proofs.doubling.newest_squared.Goals as goal
-
-pub returns-then-size-clause-own : goal.returns-then-size-clause-own
-returns-then-size-clause-own g c =
-    let m = g.C.Composed in
-    let laws = g.met.C.Composed.lawful c.args.c.now in
-    let d = m.means c.in-Some.newest in
-    let own = subst (λ (o : Option _). IfSome o (λ v. m.own c.args.c.now (m.means v))) c.in-Some.is c.requires.sound.own_newest in
-    own_from laws (m.means c.in-Ok.square) ((m.algebra c.args.c.now).compose d d) c.in-Ok.ensures.value (laws.own_composed d d own own)
-
-pub returns-then-size-clause-fits : goal.returns-then-size-clause-fits
-returns-then-size-clause-fits g c =
-    let m = g.C.Composed in
-    let laws = g.met.C.Composed.lawful c.args.c.now in
-    let d = m.means c.in-Some.newest in
-    fits_from laws (m.means c.in-Ok.square) ((m.algebra c.args.c.now).compose d d) c.in-Ok.ensures.value c.in-Ok.ensures.exact
 
 pub returns-then-size-clause-new : goal.returns-then-size-clause-new
 returns-then-size-clause-new g c x own k on made =

@@ -1,24 +1,12 @@
 use Rattle.std.proofs.Common.{subst, IfSome, Option}
-use Rattle.repeat_engine.proofs.Results.{own_from, fits_from}
-use Rattle.repeat_engine.proofs.Steps.{kept, kept_twice, fits_where, square_is_new}
+use Rattle.repeat_engine.proofs.Steps.{kept, square_is_new}
 use Rattle.repeat_engine.proofs.doubling.short_squared.Goals as goal
 
 pub returns-else-size-clause-own : goal.returns-else-size-clause-own
-returns-else-size-clause-own g c =
-    let m = g.C.Composed in
-    let laws = g.met.C.Composed.lawful c.args.c.now in
-    let d = m.means c.in-Some.newest in
-    let own = subst (λ (o : Option _). IfSome o (λ v. m.own c.args.c.now (m.means v))) c.in-Some.is c.requires.sound.own_newest in
-    kept _ _ (λ v h. own_from laws (m.means v) ((m.algebra c.args.c.now).compose d d) h (laws.own_composed d d own own))
-    c.compose.result c.ok.result c.ok.ensures.value c.compose.ensures.value
+returns-else-size-clause-own g c = kept _ _ (λ v h. h) c.compose.result c.ok.result c.ok.ensures.value c.compose.ensures.own
 
 pub returns-else-size-clause-fits : goal.returns-else-size-clause-fits
-returns-else-size-clause-fits g c =
-    let m = g.C.Composed in
-    let laws = g.met.C.Composed.lawful c.args.c.now in
-    let d = m.means c.in-Some.newest in
-    kept_twice _ _ _ (λ v h k. fits_from laws (m.means v) ((m.algebra c.args.c.now).compose d d) h k)
-    c.compose.result c.ok.result c.ok.ensures.value c.compose.ensures.value (fits_where m.wants_memory c.compose.result _ c.compose.ensures.exact)
+returns-else-size-clause-fits g c = kept _ _ (λ v h. h) c.compose.result c.ok.result c.ok.ensures.value c.compose.ensures.fits
 
 pub returns-else-size-clause-new : goal.returns-else-size-clause-new
 returns-else-size-clause-new g c x own k on =

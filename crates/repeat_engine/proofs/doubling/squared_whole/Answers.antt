@@ -1,6 +1,5 @@
 use Rattle.std.proofs.Common.{◌+◌}
 use Rattle.std.proofs.lemmas.Result.{err_from_is_err_and}
-use Rattle.repeat_engine.proofs.Results.{own_from, fits_from}
 use Rattle.repeat_engine.proofs.Steps.{on_below, is_whole_double, whole_double_fits, whole_double_must_fit}
 use Rattle.repeat_engine.proofs.doubling.squared_whole.Goals as goal
 
@@ -11,19 +10,6 @@ returns-in_err-all-clause-exact g c x own k on =
     let p = err_from_is_err_and c.from_residual.result c.from_residual.ensures.1 in
     rw (p.1, p.2)
     (λ other fit. c.in_err-all.ensures.exact other (whole_double_must_fit laws m.means x own k c.args.half.now on fit))
-
-pub grown_to-requires-clause-own_all : goal.grown_to-requires-clause-own_all
-grown_to-requires-clause-own_all g c =
-    let m = g.C.Composed in
-    let laws = g.met.C.Composed.lawful c.args.c.now in
-    own_from laws (m.means c.in_ok-all.all) ((m.algebra c.args.c.now).compose (m.means c.args.half.now.all) (m.means c.args.half.now.all)) c.in_ok-all.ensures.value
-    (laws.own_composed _ _ c.requires.sound.own_all c.requires.sound.own_all)
-
-pub grown_to-requires-clause-fits_all : goal.grown_to-requires-clause-fits_all
-grown_to-requires-clause-fits_all g c =
-    let m = g.C.Composed in
-    let laws = g.met.C.Composed.lawful c.args.c.now in
-    fits_from laws (m.means c.in_ok-all.all) ((m.algebra c.args.c.now).compose (m.means c.args.half.now.all) (m.means c.args.half.now.all)) c.in_ok-all.ensures.value c.in_ok-all.ensures.exact
 
 pub returns-clause-grows : goal.returns-clause-grows
 returns-clause-grows g c x own k on =

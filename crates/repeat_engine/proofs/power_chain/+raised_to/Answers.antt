@@ -1,7 +1,6 @@
 use Rattle.std.proofs.Common.{◌≡◌, ◌≤◌, ◌/◌, true, is_some, arith}
 use Rattle.std.proofs.lemmas.Result.{err_from_is_err_and}
 use Rattle.repeat_engine.specs.Powers.{nth_power}
-use Rattle.repeat_engine.proofs.Results.{own_from, fits_from}
 use Rattle.repeat_engine.proofs.Squaring.{first_is, first_fits, first_must_fit, half_must_fit, double_must_fit, even_is, even_fits, odd_is, odd_fits, odd_must_fit}
 use Rattle.repeat_engine.proofs.LastPowers.{IsRaised, turned_raised, done_fits, next_some}
 use Rattle.repeat_engine.proofs.power_chain.+raised_to.Goals as goal
@@ -21,20 +20,6 @@ returns-then-n-eq1-clause-value g t c =
     let laws = g.met.C.Composed.lawful c.args.c.now in
     let x = m.means c.args.x.now in
     laws.joined (m.means c.in_ok-value.value) ((m.algebra c.args.c.now).unite x x) (nth_power (m.algebra c.args.c.now) x c.args.n) c.in_ok-value.ensures.value (first_is laws x c.requires.own_x c.args.n c.if-n-eq1.true)
-
-pub returns-then-n-eq1-clause-own : goal.returns-then-n-eq1-clause-own
-returns-then-n-eq1-clause-own g t c =
-    let m = g.C.Composed in
-    let laws = g.met.C.Composed.lawful c.args.c.now in
-    let x = m.means c.args.x.now in
-    own_from laws (m.means c.in_ok-value.value) ((m.algebra c.args.c.now).unite x x) c.in_ok-value.ensures.value (laws.own_united _ _ c.requires.own_x c.requires.own_x)
-
-pub returns-then-n-eq1-clause-fits : goal.returns-then-n-eq1-clause-fits
-returns-then-n-eq1-clause-fits g t c =
-    let m = g.C.Composed in
-    let laws = g.met.C.Composed.lawful c.args.c.now in
-    let x = m.means c.args.x.now in
-    fits_from laws (m.means c.in_ok-value.value) ((m.algebra c.args.c.now).unite x x) c.in_ok-value.ensures.value c.in_ok-value.ensures.exact
 
 pub returns-then-n-eq1-clause-exact : goal.returns-then-n-eq1-clause-exact
 returns-then-n-eq1-clause-exact g t c =
@@ -73,23 +58,6 @@ returns-then-n-eq0-clause-value g t c =
     let double = m.means c.in_ok-double.double in
     even_is laws x c.requires.own_x c.args.n half double c.in_ok-half.ensures.value c.if-n-eq0.true c.in_ok-double.ensures.value
 
-pub returns-then-n-eq0-clause-own : goal.returns-then-n-eq0-clause-own
-returns-then-n-eq0-clause-own g t c =
-    let m = g.C.Composed in
-    let laws = g.met.C.Composed.lawful c.args.c.now in
-    let half = m.means c.in_ok-half.half.value in
-    let double = m.means c.in_ok-double.double in
-    own_from laws double ((m.algebra c.args.c.now).compose half half) c.in_ok-double.ensures.value
-    (laws.own_composed half half c.in_ok-half.ensures.own c.in_ok-half.ensures.own)
-
-pub returns-then-n-eq0-clause-fits : goal.returns-then-n-eq0-clause-fits
-returns-then-n-eq0-clause-fits g t c =
-    let m = g.C.Composed in
-    let laws = g.met.C.Composed.lawful c.args.c.now in
-    let half = m.means c.in_ok-half.half.value in
-    let double = m.means c.in_ok-double.double in
-    fits_from laws double ((m.algebra c.args.c.now).compose half half) c.in_ok-double.ensures.value c.in_ok-double.ensures.exact
-
 pub returns-then-n-eq0-clause-exact : goal.returns-then-n-eq0-clause-exact
 returns-then-n-eq0-clause-exact g t c =
     let m = g.C.Composed in
@@ -99,23 +67,6 @@ returns-then-n-eq0-clause-exact g t c =
     let double = m.means c.in_ok-double.double in
     let two : 2 ≤ c.args.n = omega arith in
     even_fits laws x c.requires.own_x c.args.n half double c.in_ok-half.ensures.value two c.if-n-eq0.true c.in_ok-half.ensures.exact c.in_ok-double.ensures.exact
-
-pub compose-requires-2-clause-own_x : goal.compose-requires-2-clause-own_x
-compose-requires-2-clause-own_x g t c =
-    let m = g.C.Composed in
-    let laws = g.met.C.Composed.lawful c.args.c.now in
-    let half = m.means c.in_ok-half.half.value in
-    let double = m.means c.in_ok-double.double in
-    own_from laws double ((m.algebra c.args.c.now).compose half half) c.in_ok-double.ensures.value
-    (laws.own_composed half half c.in_ok-half.ensures.own c.in_ok-half.ensures.own)
-
-pub compose-requires-2-clause-fits_x : goal.compose-requires-2-clause-fits_x
-compose-requires-2-clause-fits_x g t c =
-    let m = g.C.Composed in
-    let laws = g.met.C.Composed.lawful c.args.c.now in
-    let half = m.means c.in_ok-half.half.value in
-    let double = m.means c.in_ok-double.double in
-    fits_from laws double ((m.algebra c.args.c.now).compose half half) c.in_ok-double.ensures.value c.in_ok-double.ensures.exact
 
 pub returns-in_err-value-2-clause-exact : goal.returns-in_err-value-2-clause-exact
 returns-in_err-value-2-clause-exact g t c =
@@ -137,25 +88,6 @@ returns-clause-value g t c =
     let half = m.means c.in_ok-half.half.value in
     let double = m.means c.in_ok-double.double in
     laws.joined (m.means c.in_ok-value-2.value) ((m.algebra c.args.c.now).compose double x) (nth_power (m.algebra c.args.c.now) x c.args.n) c.in_ok-value-2.ensures.value (odd_is laws x c.requires.own_x c.args.n half double c.in_ok-half.ensures.value c.if-n-eq0.false c.in_ok-double.ensures.value)
-
-pub returns-clause-own : goal.returns-clause-own
-returns-clause-own g t c =
-    let m = g.C.Composed in
-    let laws = g.met.C.Composed.lawful c.args.c.now in
-    let x = m.means c.args.x.now in
-    let half = m.means c.in_ok-half.half.value in
-    let double = m.means c.in_ok-double.double in
-    let own_double =
-    own_from laws double ((m.algebra c.args.c.now).compose half half) c.in_ok-double.ensures.value (laws.own_composed half half c.in_ok-half.ensures.own c.in_ok-half.ensures.own) in
-    own_from laws (m.means c.in_ok-value-2.value) ((m.algebra c.args.c.now).compose double x) c.in_ok-value-2.ensures.value (laws.own_composed _ _ own_double c.requires.own_x)
-
-pub returns-clause-fits : goal.returns-clause-fits
-returns-clause-fits g t c =
-    let m = g.C.Composed in
-    let laws = g.met.C.Composed.lawful c.args.c.now in
-    let x = m.means c.args.x.now in
-    let double = m.means c.in_ok-double.double in
-    fits_from laws (m.means c.in_ok-value-2.value) ((m.algebra c.args.c.now).compose double x) c.in_ok-value-2.ensures.value c.in_ok-value-2.ensures.exact
 
 pub returns-clause-exact : goal.returns-clause-exact
 returns-clause-exact g t c =
@@ -202,23 +134,6 @@ returns-then-is_some-clause-exact g t c =
     let two : 2 ≤ c.args.n = omega arith in
     done_fits laws x c.requires.own_x m.means c.args.n c.in_ok-half.half two at some c.in_ok-half.ensures.exact
 
-pub next_of-next-requires-clause-own_power : goal.next_of-next-requires-clause-own_power
-next_of-next-requires-clause-own_power g t c =
-    let m = g.C.Composed in
-    let laws = g.met.C.Composed.lawful c.args.c.now in
-    let half = m.means c.in_ok-half.half.value in
-    let double = m.means c.in_ok-double.double in
-    own_from laws double ((m.algebra c.args.c.now).compose half half) c.in_ok-double.ensures.value
-    (laws.own_composed half half c.in_ok-half.ensures.own c.in_ok-half.ensures.own)
-
-pub next_of-next-requires-clause-fits_power : goal.next_of-next-requires-clause-fits_power
-next_of-next-requires-clause-fits_power g t c =
-    let m = g.C.Composed in
-    let laws = g.met.C.Composed.lawful c.args.c.now in
-    let half = m.means c.in_ok-half.half.value in
-    let double = m.means c.in_ok-double.double in
-    fits_from laws double ((m.algebra c.args.c.now).compose half half) c.in_ok-double.ensures.value c.in_ok-double.ensures.exact
-
 pub returns-then-n-eq0-clause-next : goal.returns-then-n-eq0-clause-next
 returns-then-n-eq0-clause-next g t c =
     let m = g.C.Composed in
@@ -229,26 +144,6 @@ returns-then-n-eq0-clause-next g t c =
     next_some laws x c.requires.own_x m.means c.args.n double c.next_of-next.result
     (even_is laws x c.requires.own_x c.args.n half double c.in_ok-half.ensures.value c.if-n-eq0.true c.in_ok-double.ensures.value)
     c.next_of-next.ensures.own c.next_of-next.ensures.fits c.next_of-next.ensures.step c.next_of-next.ensures.back
-
-pub next_of-next-requires-2-clause-own_power : goal.next_of-next-requires-2-clause-own_power
-next_of-next-requires-2-clause-own_power g t c =
-    let m = g.C.Composed in
-    let laws = g.met.C.Composed.lawful c.args.c.now in
-    let x = m.means c.args.x.now in
-    let half = m.means c.in_ok-half.half.value in
-    let double = m.means c.in_ok-double.double in
-    let own_double =
-    own_from laws double ((m.algebra c.args.c.now).compose half half) c.in_ok-double.ensures.value (laws.own_composed half half c.in_ok-half.ensures.own c.in_ok-half.ensures.own) in
-    own_from laws (m.means c.in_ok-value-2.value) ((m.algebra c.args.c.now).compose double x) c.in_ok-value-2.ensures.value (laws.own_composed _ _ own_double c.requires.own_x)
-
-pub next_of-next-requires-2-clause-fits_power : goal.next_of-next-requires-2-clause-fits_power
-next_of-next-requires-2-clause-fits_power g t c =
-    let m = g.C.Composed in
-    let laws = g.met.C.Composed.lawful c.args.c.now in
-    let x = m.means c.args.x.now in
-    let half = m.means c.in_ok-half.half.value in
-    let double = m.means c.in_ok-double.double in
-    fits_from laws (m.means c.in_ok-value-2.value) ((m.algebra c.args.c.now).compose double x) c.in_ok-value-2.ensures.value c.in_ok-value-2.ensures.exact
 
 pub returns-clause-next : goal.returns-clause-next
 returns-clause-next g t c =

@@ -1,18 +1,4 @@
-use Rattle.repeat_engine.proofs.Results.{own_from, fits_from}
 use Rattle.repeat_engine.proofs.power_chain.next_of.Goals as goal
-
-pub returns-then-same-clause-own : goal.returns-then-same-clause-own
-returns-then-same-clause-own g c =
-    let m = g.C.Composed in
-    let laws = g.met.C.Composed.lawful c.args.c.now in
-    own_from laws (m.means c.in-Ok.next) ((m.algebra c.args.c.now).compose (m.means c.args.power.now) (m.means c.args.x.now)) c.in-Ok.ensures.value
-    (laws.own_composed _ _ c.requires.own_power c.requires.own_x)
-
-pub returns-then-same-clause-fits : goal.returns-then-same-clause-fits
-returns-then-same-clause-fits g c =
-    let m = g.C.Composed in
-    let laws = g.met.C.Composed.lawful c.args.c.now in
-    fits_from laws (m.means c.in-Ok.next) ((m.algebra c.args.c.now).compose (m.means c.args.power.now) (m.means c.args.x.now)) c.in-Ok.ensures.value c.in-Ok.ensures.exact
 
 pub returns-then-same-clause-back : goal.returns-then-same-clause-back
 returns-then-same-clause-back g c =
@@ -25,32 +11,6 @@ returns-then-same-clause-back g c =
     laws.joined ((m.algebra c.args.c.now).compose next x) ((m.algebra c.args.c.now).compose power x) power
     (laws.composed_alike next x power x same (laws.same x))
     (laws.joined ((m.algebra c.args.c.now).compose power x) next power (laws.turned next ((m.algebra c.args.c.now).compose power x) c.in-Ok.ensures.value) same)
-
-pub compose-requires-2-clause-own_x : goal.compose-requires-2-clause-own_x
-compose-requires-2-clause-own_x g c =
-    let m = g.C.Composed in
-    let laws = g.met.C.Composed.lawful c.args.c.now in
-    own_from laws (m.means c.in-Ok.next) ((m.algebra c.args.c.now).compose (m.means c.args.power.now) (m.means c.args.x.now)) c.in-Ok.ensures.value
-    (laws.own_composed _ _ c.requires.own_power c.requires.own_x)
-
-pub compose-requires-2-clause-fits_x : goal.compose-requires-2-clause-fits_x
-compose-requires-2-clause-fits_x g c =
-    let m = g.C.Composed in
-    let laws = g.met.C.Composed.lawful c.args.c.now in
-    fits_from laws (m.means c.in-Ok.next) ((m.algebra c.args.c.now).compose (m.means c.args.power.now) (m.means c.args.x.now)) c.in-Ok.ensures.value c.in-Ok.ensures.exact
-
-pub returns-then-same-2-clause-own : goal.returns-then-same-2-clause-own
-returns-then-same-2-clause-own g c =
-    let m = g.C.Composed in
-    let laws = g.met.C.Composed.lawful c.args.c.now in
-    own_from laws (m.means c.in-Ok.next) ((m.algebra c.args.c.now).compose (m.means c.args.power.now) (m.means c.args.x.now)) c.in-Ok.ensures.value
-    (laws.own_composed _ _ c.requires.own_power c.requires.own_x)
-
-pub returns-then-same-2-clause-fits : goal.returns-then-same-2-clause-fits
-returns-then-same-2-clause-fits g c =
-    let m = g.C.Composed in
-    let laws = g.met.C.Composed.lawful c.args.c.now in
-    fits_from laws (m.means c.in-Ok.next) ((m.algebra c.args.c.now).compose (m.means c.args.power.now) (m.means c.args.x.now)) c.in-Ok.ensures.value c.in-Ok.ensures.exact
 
 pub returns-then-same-2-clause-back : goal.returns-then-same-2-clause-back
 returns-then-same-2-clause-back g c =

@@ -1,6 +1,5 @@
 use Rattle.std.proofs.lemmas.Result.{err_from_is_err_and}
-use Rattle.repeat_engine.proofs.Results.{own_from, fits_from}
-use Rattle.repeat_engine.proofs.Steps.{kept, kept_twice, fits_where, no_truth, first_is, first_must_fit, first_new}
+use Rattle.repeat_engine.proofs.Steps.{kept, no_truth, first_is, first_must_fit, first_new}
 use Rattle.repeat_engine.proofs.union_chain.grown_first.Goals as goal
 
 pub returns-in_err-all-clause-exact : goal.returns-in_err-all-clause-exact
@@ -13,19 +12,12 @@ returns-in_err-all-clause-exact g c =
     (λ other fit. c.in_err-all.ensures.exact other (first_must_fit laws m.means x c.requires.own_x (m.means c.args.first.now) c.requires.own_first c.requires.first fit))
 
 pub returns-clause-sound : goal.returns-clause-sound
-returns-clause-sound g c =
-    let m = g.C.Composed in
-    let laws = g.met.C.Composed.lawful c.args.c.now in
-    let x = m.means c.args.x.now in
-    let all = m.means c.in_ok-all.all in
-    record {
-      own_all = own_from laws all ((m.algebra c.args.c.now).unite (m.means c.args.first.now) (m.means c.args.first.now)) c.in_ok-all.ensures.value (laws.own_united _ _ c.requires.own_first c.requires.own_first);
-      fits_all = fits_from laws all ((m.algebra c.args.c.now).unite (m.means c.args.first.now) (m.means c.args.first.now)) c.in_ok-all.ensures.value c.in_ok-all.ensures.exact;
-      own_newest = kept _ _ (λ v h. own_from laws (m.means v) ((m.algebra c.args.c.now).unite x x) h (laws.own_united _ _ c.requires.own_x c.requires.own_x))
-          c.union-2.result c.ok-newest.result c.ok-newest.ensures.value c.union-2.ensures.value;
-      fits_newest = kept_twice _ _ _ (λ v h k. fits_from laws (m.means v) ((m.algebra c.args.c.now).unite x x) h k)
-          c.union-2.result c.ok-newest.result c.ok-newest.ensures.value c.union-2.ensures.value (fits_where m.wants_memory c.union-2.result _ c.union-2.ensures.exact);
-    }
+returns-clause-sound g c = record {
+  own_all = c.in_ok-all.ensures.own;
+  fits_all = c.in_ok-all.ensures.fits;
+  own_newest = kept _ _ (λ v h. h) c.union-2.result c.ok-newest.result c.ok-newest.ensures.value c.union-2.ensures.own;
+  fits_newest = kept _ _ (λ v h. h) c.union-2.result c.ok-newest.result c.ok-newest.ensures.value c.union-2.ensures.fits;
+}
 
 pub returns-clause-grows : goal.returns-clause-grows
 returns-clause-grows g c =

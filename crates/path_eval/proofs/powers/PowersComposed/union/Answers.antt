@@ -5,9 +5,9 @@ use Rattle.path_eval.proofs.powers.PowersComposed.union.Goals as goal
 pub returns-clause-value : goal.returns-clause-value
 returns-clause-value c =
     let s = c.args.self.now in
-    value_of s.graph.now s.passed.now (Union (Given c.args.x.now) (Given c.args.y.now)) s.max_rows c.union.result c.union.ensures
+    value_of s.ground.now.graph.now s.passed.now (Union (Given c.args.x.now) (Given c.args.y.now)) s.ground.now.max_rows c.union.result c.union.ensures
 
 pub returns-clause-exact : goal.returns-clause-exact
 returns-clause-exact c =
     let s = c.args.self.now in
-    exact_of s.graph.now s.passed.now (Union (Given c.args.x.now) (Given c.args.y.now)) s.max_rows c.union.result c.union.ensures
+    exact_of s.ground.now.graph.now s.passed.now (Union (Given c.args.x.now) (Given c.args.y.now)) s.ground.now.max_rows c.union.result c.union.ensures
