@@ -19,6 +19,7 @@ use crate::relations::Relation;
 use crate::rows::{RelFault, Row};
 use crate::timetable::Stop;
 use crate::ways::{FEW, MANY, with_ways};
+use itpg_base::count_leading;
 use std::alloc::{AllocError, Global};
 
 // How many of the rows, from the first on, have its source.
@@ -30,7 +31,7 @@ fn source_count(rows: &[Row], first: &Row) -> usize
     ensures same { (r : PlainRow) → Among (take result rows.now) r → r.source.0 ≡ first.now.source.0 }
     ensures later { (r : PlainRow) → Among (drop result rows.now) r → first.now.source.0 < r.source.0 }
 {
-    rows.partition_point(|row| row.source.0 == first.source.0)
+    count_leading(rows, |row| row.source.0 == first.source.0)
 }
 
 /// The rows from the objects from which there are many.
