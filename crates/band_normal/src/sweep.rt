@@ -4,6 +4,10 @@
 //! begins are merged to runs, which go as far as no band begins or ends and no two ends pass each
 //! other. The runs of each stretch are joined to the rows that reach it.
 //!
+//! Where a row begins and ends is settled by the departures before its own, so one pass from the left completes each row in turn,
+//! and looks at no row that ended before. A stretch costs as much as there are active bands: a sweep over few of them is the fastest
+//! way there is, and one over a crowd may take the square of the bands, so it can be given up.
+//!
 //! In contracts `held` is the list of all bands: its pairs are the relation whose runs are meant.
 
 ghost use Rattle.std.specs.Prelude.{◌≡◌, ◌↔◌, ◌++◌, [], ℤ, pos, ◌+ℤ◌, ◌≤ℤ◌, List, IfOk, OnOk, IfSome, IfNone, IsSome, false};

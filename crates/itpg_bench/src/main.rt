@@ -19,7 +19,7 @@ const MOST: u32 = 1_000_000;
 const FEW: u32 = 1_000;
 
 // All workloads.
-const NAMES: [&str; 13] = [
+const NAMES: [&str; 14] = [
     "ingest",
     "zones",
     "close_zones",
@@ -33,6 +33,7 @@ const NAMES: [&str; 13] = [
     "chain",
     "middle",
     "lasting",
+    "lives",
 ];
 
 fn main(rt: HostRuntime) -> Result<()> {
@@ -65,6 +66,7 @@ fn measure(rt: &HostRuntime, name: &str, size: u32) -> Result<()> {
         "chain" => Workload::Chain.measure(rt, size),
         "middle" => Workload::Middle.measure(rt, size),
         "lasting" => Workload::Lasting.measure(rt, size),
+        "lives" => Workload::Lives.measure(rt, size),
         _ => bail!("no workload has the name {name}"),
     }
 }

@@ -1,13 +1,13 @@
 //! Measures `union` and `compose` over made-up relations, whose answers have a number of rows that is known beforehand.
 
-use crate::zones::whole;
+use crate::zones::{ANY, whole};
 use anyhow::{Result, bail, ensure};
 use itpg_base::ObjNo;
 use relation_rows::{RelFault, Relation};
 use std::alloc::Global;
 use std::time::Instant;
 use zone_compose::diagonal;
-use zone_core::Zone;
+use zone_core::{Bounds, Zone, tight};
 
 const MOST_ROWS: u32 = 2_000_000;
 
@@ -27,6 +27,9 @@ pub(crate) enum Workload {
     /// The composition of two relations with all rows each, all to one object and all from it. Each leads there at a span
     /// of its own, and one leads on then.
     Middle,
+    /// The composition of an object's lives of one moment with free moments between them, each leading to all moments from its own
+    /// on, and of each life to itself: so each life leads to each that comes no sooner.
+    Lives,
     /// As [`Workload::Middle`], with one more row in the second relation, from the one object to itself, that lasts as long
     /// as all others together.
     Lasting,
@@ -55,6 +58,7 @@ impl Workload {
             Workload::Chain => "chain",
             Workload::Middle => "middle",
             Workload::Lasting => "lasting",
+            Workload::Lives => "lives",
         }
     }
 
@@ -69,6 +73,7 @@ impl Workload {
                     MIDDLE,
                     begin(index),
                 )?,
+                Workload::Lives => add_life(&mut items, index, begin(count))?,
             }
         }
         given(Relation::from_zones(alloc, items, MOST_ROWS))
@@ -84,6 +89,7 @@ impl Workload {
                     let begin = begin(index).saturating_add(5);
                     add(&mut items, MIDDLE, count.saturating_sub(index), begin)?;
                 }
+                Workload::Lives => add_life(&mut items, index, begin(index))?,
             }
         }
         if let Workload::Lasting = self
@@ -97,9 +103,9 @@ impl Workload {
     fn answer(self, first: &Relation, second: &Relation) -> Result<Relation, RelFault> {
         match self {
             Workload::Union => first.union(second, MOST_ROWS),
-            Workload::Chain | Workload::Middle | Workload::Lasting => first.compose(
-                second, MOST_ROWS,
-            ),
+            Workload::Chain | Workload::Middle | Workload::Lasting | Workload::Lives => {
+                first.compose(second, MOST_ROWS)
+            }
         }
     }
 
@@ -107,7 +113,7 @@ impl Workload {
     fn each(self, count: u32) -> u32 {
         match self {
             Workload::Union => count / 2,
-            Workload::Chain | Workload::Middle | Workload::Lasting => count,
+            Workload::Chain | Workload::Middle | Workload::Lasting | Workload::Lives => count,
         }
     }
 
@@ -118,6 +124,7 @@ impl Workload {
             Workload::Union => count / 2 + count / 2 / 3,
             Workload::Chain | Workload::Middle => count,
             Workload::Lasting => count.saturating_mul(2),
+            Workload::Lives => count.saturating_mul(count.saturating_add(1)) / 2,
         }
     }
 }
@@ -127,6 +134,23 @@ fn add(items: &mut Vec<Item>, source: u32, target: u32, begin: u32) -> Result<()
     let end = begin.saturating_add(9);
     if let Some(zone) = diagonal(whole(begin), whole(end)) {
         items.push((ObjNo(source), ObjNo(target), zone))?;
+    }
+    Ok(())
+}
+
+// A row from the object's life at a moment to all moments from then on, up to the last one.
+fn add_life(items: &mut Vec<Item>, index: u32, last: u32) -> Result<()> {
+    let moment = whole(begin(index));
+    let zone = tight(Bounds {
+        a: moment,
+        b: moment,
+        c: moment,
+        d: whole(last),
+        e: -ANY,
+        f: ANY,
+    });
+    if let Some(zone) = zone {
+        items.push((ObjNo(MIDDLE), ObjNo(MIDDLE), zone))?;
     }
     Ok(())
 }

@@ -9,7 +9,7 @@ use std::time::Instant;
 use zone_core::{Bounds, Zone, tight};
 
 // A difference that all moments have.
-const ANY: i64 = 8_000_000_000_000;
+pub(crate) const ANY: i64 = 8_000_000_000_000;
 
 /// How made-up zones lie.
 #[derive(Clone, Copy)]

@@ -1,4 +1,5 @@
-// The zone of a band, by hand.
+//! The zone of a band, by hand.
+
 use band_normal::{Band, End, zone_of};
 use zone_core::Bounds;
 

@@ -1,4 +1,5 @@
-// Runs over devices that fail.
+//! Runs over devices that fail.
+
 use itpg_base::{MemSink, MemSource};
 use itpg_run::{Status, serve};
 use std::alloc::Global;

@@ -1,4 +1,5 @@
-// Scopes of a path, and scopes met and joined, with labels by hand.
+//! Scopes of a path, and scopes met and joined, with labels by hand.
+
 use itpg_base::Name;
 use label_scope::{Scope, narrow};
 use match_parser::read_query;

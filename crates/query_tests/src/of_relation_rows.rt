@@ -1,4 +1,5 @@
-// Copies of answers, which no program makes.
+//! Copies of answers, which no program makes.
+
 use interval_set::Span;
 use itpg_base::ObjNo;
 use relation_rows::{Answer, OneRow, Relation};

@@ -1,4 +1,5 @@
-// Zones composed, turned round and made, by hand.
+//! Zones composed, turned round and made, by hand.
+
 use zone_compose::{arrivals, compose, departures, diagonal, flip, shift};
 use zone_core::{Bounds, tight};
 

@@ -1,4 +1,5 @@
-// Zones and what is left of them, by hand.
+//! Zones and what is left of them, by hand.
+
 use zone_core::{Bounds, tight};
 
 #[test]

@@ -1,5 +1,5 @@
 -- The moments at which bands and rows depart and arrive.
-use Rattle.std.proofs.Common.{◌≡◌, ◌↔◌, ◌⊎◌, inl, inr, ⊎_elim, ℕ, ◌+◌, ◌<◌, ◌≤◌, ℤ, ◌-ℤ◌, ◌≤ℤ◌, List, [], ◌∷◌, ◌++◌, length, slice_index_or, take, refl, sym, subst, arith, length-append}
+use Rattle.std.proofs.Common.{◌≡◌, ◌↔◌, ◌⊎◌, inl, inr, ⊎_elim, ℕ, ◌+◌, ◌<◌, ◌≤◌, ℤ, ◌-ℤ◌, ◌≤ℤ◌, List, [], ◌∷◌, ◌++◌, length, slice_index_or, take, Result, Ok, Err, IfOk, refl, sym, subst, arith, length-append}
 use Rattle.std.proofs.lemmas.Int.{ints, by_lt_z}
 use Rattle.std.proofs.lemmas.List.{take_all}
 use Rattle.itpg_base.specs.Spans.{Span, Within, IsSpan}
@@ -12,10 +12,14 @@ use Rattle.band_normal.specs.Bands.{IsWellFormed, end_at}
 use Rattle.itpg_base.proofs.Lists.{among_append, among_at}
 use Rattle.relation_rows.specs.declared.rows.Row.{Row}
 use Rattle.relation_rows.specs.declared.times.OneRow.{OneRow}
+use Rattle.relation_rows.specs.declared.times.Side.{Side}
+use Rattle.relation_rows.specs.declared.times.Side.TheVariants.{Departure, Arrival}
 use Rattle.relation_rows.specs.Rows.{InRow}
-use Rattle.relation_rows.specs.Times.{InTime, TimesHold, Departs, Arrives, DepartsIn, ArrivesIn}
+use Rattle.relation_rows.specs.Times.{InTime, TimesHold, AreTimes, Departs, Arrives, DepartsIn, ArrivesIn}
+use Rattle.relation_rows.specs.Sides.{HasTime, HaveTime}
 use Rattle.relation_rows.proofs.Pushing.{rows_more}
 use Rattle.relation_rows.proofs.Coalescing.{hold_more}
+use Rattle.relation_rows.proofs.Runs.{times_alike}
 
 -- an end doesn't go down
 pub end_up : (e : End) (s t : ℤ) → s ≤ℤ t → end_at e s ≤ℤ end_at e t
@@ -95,61 +99,49 @@ arrive_more rows k d lt o t = (
       h,
 )
 
+-- one more row
+have_more : (side : Side) (rows : List Row) (k : ℕ) (d : Row) → k < length rows → (o : ℕ) (t : ℤ) → HaveTime side (take (k + 1) rows) o t ↔ (HaveTime side (take k rows) o t ⊎ HasTime side (slice_index_or rows k d) o t)
+have_more Departure rows k d lt o t = depart_more rows k d lt o t
+have_more Arrival rows k d lt o t = arrive_more rows k d lt o t
+
+none_have : (side : Side) (rows : List Row) (o : ℕ) (t : ℤ) → HaveTime side (take 0 rows) o t → ⊥
+none_have Departure [] o t h = h.1.1
+none_have Departure (x ∷ xs) o t h = h.1.1
+none_have Arrival [] o t h = h.1.1
+none_have Arrival (x ∷ xs) o t h = h.1.1
+
 -- one time row each for the rows that were read
-pub record TimesSoFar (S : List Row → ℕ → ℤ → Type 0) (rows : List Row) (i : ℕ) (times : List OneRow) : Type 0 where
+pub record TimesSoFar (side : Side) (rows : List Row) (i : ℕ) (times : List OneRow) : Type 0 where
   pub spans : (r : OneRow) → Among times r → IsSpan r.span
-  pub holds : (o : ℕ) (t : ℤ) → TimesHold times o t ↔ S (take i rows) o t
+  pub holds : (o : ℕ) (t : ℤ) → TimesHold times o t ↔ HaveTime side (take i rows) o t
   pub count : length times ≡ i
 
-push_time : (S : List Row → ℕ → ℤ → Type 0) (rows : List Row) (i : ℕ) (times : List OneRow) → TimesSoFar S rows i times → (x : OneRow) → IsSpan x.span
-    → ((o : ℕ) (t : ℤ) → S (take (i + 1) rows) o t ↔ (S (take i rows) o t ⊎ InTime x o t)) → (next : List OneRow) → next ≡ times ++ x ∷ [] → TimesSoFar S rows (i + 1) next
-push_time S rows i times so x span more next e = subst (λ (v : List OneRow). TimesSoFar S rows (i + 1) v) (sym e) (record {
+pub no_times : (side : Side) (rows : List Row) (times : List OneRow) → times ≡ [] → TimesSoFar side rows 0 times
+no_times side rows times e = subst (λ (v : List OneRow). TimesSoFar side rows 0 v) (sym e) (record { spans = λ r a. absurd a; holds = λ o t. (λ h. absurd h.1, λ h. absurd (none_have side rows o t h)); count = refl })
+
+pub push_time : (side : Side) (rows : List Row) (i : ℕ) (d : Row) → i < length rows → (times : List OneRow) → TimesSoFar side rows i times → (x : OneRow) → ((o : ℕ) (t : ℤ) → InTime x o t ↔ HasTime side (slice_index_or rows i d) o t) → IsSpan x.span
+    → (next : List OneRow) → next ≡ times ++ x ∷ [] → TimesSoFar side rows (i + 1) next
+push_time side rows i d lt times so x same span next e = subst (λ (v : List OneRow). TimesSoFar side rows (i + 1) v) (sym e) (record {
   spans = λ r a. ⊎_elim (λ b. so.spans r b) (λ b. ⊎_elim (λ (g : x ≡ r). subst (λ (v : OneRow). IsSpan v.span) g span) (λ k. absurd k) b) (among_append times (x ∷ []) r a);
-  holds = λ o t. (
-    λ h. (more o t).1 (⊎_elim (λ a. inl ((so.holds o t).0 a)) (λ a. inr a) ((hold_more times x o t).0 h)),
-    λ h. (hold_more times x o t).1 (⊎_elim (λ a. inl ((so.holds o t).1 a)) (λ a. inr a) ((more o t).0 h)),
-  );
+  holds = λ o t.
+      let more = have_more side rows i d lt o t in (
+        λ h. more.1 (⊎_elim (λ a. inl ((so.holds o t).0 a)) (λ a. inr ((same o t).0 a)) ((hold_more times x o t).0 h)),
+        λ h. (hold_more times x o t).1 (⊎_elim (λ a. inl ((so.holds o t).1 a)) (λ a. inr ((same o t).1 a)) (more.0 h)),
+      );
   count = let c = so.count in omega (arith, length-append {A = OneRow} times (x ∷ []));
 })
 
-pub no_departures : (rows : List Row) (times : List OneRow) → times ≡ [] → TimesSoFar Departs rows 0 times
-no_departures rows times e = subst (λ (v : List OneRow). TimesSoFar Departs rows 0 v) (sym e) (record { spans = λ r a. absurd a; holds = λ o t. (λ h. absurd h.1, λ h. absurd (none rows h.1.0 h.1.1)); count = refl })
-  where
-    none : (xs : List Row) (r : Row) → Among (take 0 xs) r → ⊥
-    none [] r a = a
-    none (x ∷ xs) r a = a
-
-pub no_arrivals : (rows : List Row) (times : List OneRow) → times ≡ [] → TimesSoFar Arrives rows 0 times
-no_arrivals rows times e = subst (λ (v : List OneRow). TimesSoFar Arrives rows 0 v) (sym e) (record { spans = λ r a. absurd a; holds = λ o t. (λ h. absurd h.1, λ h. absurd (none rows h.1.0 h.1.1)); count = refl })
-  where
-    none : (xs : List Row) (r : Row) → Among (take 0 xs) r → ⊥
-    none [] r a = a
-    none (x ∷ xs) r a = a
-
-pub push_departure : (rows : List Row) (i : ℕ) (d : Row) → i < length rows → (times : List OneRow) → TimesSoFar Departs rows i times
-    → (s : Span) → ((t : ℤ) → Within t s ↔ DepartsIn (slice_index_or rows i d).band t) → IsSpan s
-    → (next : List OneRow) → next ≡ times ++ (record { object = (slice_index_or rows i d).source; span = s }) ∷ [] → TimesSoFar Departs rows (i + 1) next
-push_departure rows i d lt times so s moments span next e =
-    push_time Departs rows i times so (record { object = (slice_index_or rows i d).source; span = s }) span
-    (λ o t. (
-      λ h. ⊎_elim (λ a. inl a) (λ a. inr (record { object = a.0; moment = (moments t).1 a.1 })) ((depart_more rows i d lt o t).0 h),
-      λ h. ⊎_elim (λ a. (depart_more rows i d lt o t).1 (inl a)) (λ a. (depart_more rows i d lt o t).1 (inr (a.object, (moments t).0 a.moment))) h,
-    ))
-    next e
-
-pub push_arrival : (rows : List Row) (i : ℕ) (d : Row) → i < length rows → (times : List OneRow) → TimesSoFar Arrives rows i times
-    → (s : Span) → ((t : ℤ) → Within t s ↔ ArrivesIn (slice_index_or rows i d).band t) → IsSpan s
-    → (next : List OneRow) → next ≡ times ++ (record { object = (slice_index_or rows i d).target; span = s }) ∷ [] → TimesSoFar Arrives rows (i + 1) next
-push_arrival rows i d lt times so s moments span next e =
-    push_time Arrives rows i times so (record { object = (slice_index_or rows i d).target; span = s }) span
-    (λ o t. (
-      λ h. ⊎_elim (λ a. inl a) (λ a. inr (record { object = a.0; moment = (moments t).1 a.1 })) ((arrive_more rows i d lt o t).0 h),
-      λ h. ⊎_elim (λ a. (arrive_more rows i d lt o t).1 (inl a)) (λ a. (arrive_more rows i d lt o t).1 (inr (a.object, (moments t).0 a.moment))) h,
-    ))
-    next e
-
-pub all_holds : (S : List Row → ℕ → ℤ → Type 0) (rows : List Row) (i : ℕ) (times : List OneRow) → length rows ≤ i → TimesSoFar S rows i times → (o : ℕ) (t : ℤ) → TimesHold times o t ↔ S rows o t
-all_holds S rows i times le so o t = subst (λ (v : List Row). TimesHold times o t ↔ S v o t) (take_all i rows le) (so.holds o t)
+pub all_holds : (side : Side) (rows : List Row) (i : ℕ) (times : List OneRow) → length rows ≤ i → TimesSoFar side rows i times → (o : ℕ) (t : ℤ) → TimesHold times o t ↔ HaveTime side rows o t
+all_holds side rows i times le so o t = subst (λ (v : List Row). TimesHold times o t ↔ HaveTime side v o t) (take_all i rows le) (so.holds o t)
 
 pub formed_row : (rows : List Row) (k : ℕ) (d : Row) → k < length rows → ((r : Row) → Among rows r → IsWellFormed r.band) → IsWellFormed (slice_index_or rows k d).band
 formed_row rows k d lt formed = formed (slice_index_or rows k d) (among_at rows k d lt)
+
+module _ {E : Type 0} (side : Side) (rows : List Row) (i : ℕ) (times : List OneRow) where
+  pub all_times : length rows ≤ i → TimesSoFar side rows i times → (result : Result (List OneRow) E) → IfOk result (λ runs. AreTimes (TimesHold times) runs) → IfOk result (λ runs. AreTimes (HaveTime side rows) runs)
+  all_times le so (Ok runs) a = times_alike (TimesHold times) (HaveTime side rows) (λ o t h. (all_holds side rows i times le so o t).0 h) (λ o t h. (all_holds side rows i times le so o t).1 h) runs a
+  all_times le so (Err e) a = tt
+
+  pub few_times : i ≤ length rows → TimesSoFar side rows i times → (result : Result (List OneRow) E) → IfOk result (λ runs. length runs ≤ length times) → IfOk result (λ runs. length runs ≤ length rows)
+  few_times le so (Ok runs) few = let c = so.count in omega (arith, few, c, le)
+  few_times le so (Err e) few = tt

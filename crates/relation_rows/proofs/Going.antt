@@ -11,10 +11,10 @@ use Rattle.itpg_base.specs.Lists.{Among, Ordered}
 use Rattle.band_normal.specs.Bands.{InBand, IsWellFormed}
 use Rattle.itpg_base.proofs.Lists.{among_append, append_first, append_second, among_at}
 use Rattle.relation_rows.specs.declared.rows.Row.{Row}
-use Rattle.relation_rows.specs.declared.timetable.Stop.{Stop}
+use Rattle.relation_rows.specs.declared.timetable.Leg.{Leg}
 use Rattle.relation_rows.specs.Rows.{InRow, RowsHold, RowBefore}
 use Rattle.relation_rows.specs.Relations.{Item, ItemsHold, HasMiddlePoint}
-use Rattle.relation_rows.specs.Timetables.{DepartsWithin}
+use Rattle.relation_rows.specs.Timetables.{DepartsWithin, HasZone}
 use Rattle.relation_rows.specs.Ways.{ItemThere, GoesOn, GoesOnBy, AreComposed}
 use Rattle.relation_rows.proofs.Pushing.{items_more, rows_more}
 
@@ -77,48 +77,48 @@ module _ (row : Row) (zone : Bounds) (is : (t u : ℤ) → Meets zone t u ↔ In
             h,
       )
 
-  -- one more stop
-  pub stop_more : (items now next : List Item) (stops : List Stop) (k : ℕ) (d : Stop) → k < length stops
-      → (second : Bounds) → ((t u : ℤ) → Meets second t u ↔ InBand (slice_index_or stops k d).row.band t u) → (slice_index_or stops k d).row.source.0 ≡ row.target.0 → (way : Option Bounds) → IsZoneOf (HasMiddle zone second) way
-      → ((x y : Point) → ItemsHold next x y ↔ (ItemsHold now x y ⊎ ItemThere row.source (slice_index_or stops k d).row.target way x y))
-      → ((x y : Point) → ItemsHold now x y ↔ (ItemsHold items x y ⊎ GoesOnBy row (take k stops) x y))
-      → (x y : Point) → ItemsHold next x y ↔ (ItemsHold items x y ⊎ GoesOnBy row (take (k + 1) stops) x y)
-  stop_more items now next stops k d lt second its same way of pushed old x y =
-      let s : Stop = slice_index_or stops k d in
-      let e = take_more stops k d lt in
-      let one = one_way (slice_index_or stops k d).row second its same way of x y in (
+  -- one more leg
+  pub leg_more : (items now next : List Item) (legs : List Leg) (k : ℕ) (d : Leg) → k < length legs
+      → (second : Bounds) → ((t u : ℤ) → Meets second t u ↔ InBand (slice_index_or legs k d).row.band t u) → (slice_index_or legs k d).row.source.0 ≡ row.target.0 → (way : Option Bounds) → IsZoneOf (HasMiddle zone second) way
+      → ((x y : Point) → ItemsHold next x y ↔ (ItemsHold now x y ⊎ ItemThere row.source (slice_index_or legs k d).row.target way x y))
+      → ((x y : Point) → ItemsHold now x y ↔ (ItemsHold items x y ⊎ GoesOnBy row (take k legs) x y))
+      → (x y : Point) → ItemsHold next x y ↔ (ItemsHold items x y ⊎ GoesOnBy row (take (k + 1) legs) x y)
+  leg_more items now next legs k d lt second its same way of pushed old x y =
+      let s : Leg = slice_index_or legs k d in
+      let e = take_more legs k d lt in
+      let one = one_way (slice_index_or legs k d).row second its same way of x y in (
         λ h. ⊎_elim
             (λ a. ⊎_elim
             (λ b. inl b)
-            (λ (b : GoesOnBy row (take k stops) x y). let g = b.2 in inr (b.0, b.1, (g.0, subst (λ (v : List Stop). Among v g.0) (sym e) (append_first (take k stops) (s ∷ []) g.0 g.1), g.2)))
+            (λ (b : GoesOnBy row (take k legs) x y). let g = b.2 in inr (b.0, b.1, (g.0, subst (λ (v : List Leg). Among v g.0) (sym e) (append_first (take k legs) (s ∷ []) g.0 g.1), g.2)))
             ((old x y).0 a))
-            (λ a. let w = one.0 a in inr (w.0, w.1, (s, subst (λ (v : List Stop). Among v s) (sym e) (append_second (take k stops) (s ∷ []) s (inl refl)), w.2)))
+            (λ a. let w = one.0 a in inr (w.0, w.1, (s, subst (λ (v : List Leg). Among v s) (sym e) (append_second (take k legs) (s ∷ []) s (inl refl)), w.2)))
             ((pushed x y).0 h),
         λ h. ⊎_elim
             (λ a. (pushed x y).1 (inl ((old x y).1 (inl a))))
-            (λ (b : GoesOnBy row (take (k + 1) stops) x y).
+            (λ (b : GoesOnBy row (take (k + 1) legs) x y).
             let g = b.2 in
             ⊎_elim
             (λ c. (pushed x y).1 (inl ((old x y).1 (inr (b.0, b.1, (g.0, c, g.2))))))
-            (λ c. ⊎_elim (λ (f : slice_index_or stops k d ≡ g.0). (pushed x y).1 (inr (one.1 (b.0, b.1, subst (λ (v : Stop). InRow v.row b.0 y) (sym f) g.2)))) (λ j. absurd j) c)
-            (among_append (take k stops) (s ∷ []) g.0 (subst (λ (v : List Stop). Among v g.0) e g.1)))
+            (λ c. ⊎_elim (λ (f : slice_index_or legs k d ≡ g.0). (pushed x y).1 (inr (one.1 (b.0, b.1, subst (λ (v : Leg). InRow v.row b.0 y) (sym f) g.2)))) (λ j. absurd j) c)
+            (among_append (take k legs) (s ∷ []) g.0 (subst (λ (v : List Leg). Among v g.0) e g.1)))
             h,
       )
 
-  -- the stops found are all by which the row goes on
-  module _ (stops found : List Stop) (first last : ℤ) (span : AreArrivals zone first last)
-      (are : (s : Stop) → Among found s ↔ (Among stops s × DepartsWithin s row.target.0 first last)) where
+  -- the legs found are all by which the row goes on
+  module _ (legs found : List Leg) (first last : ℤ) (span : AreArrivals zone first last)
+      (are : (s : Leg) → Among found s ↔ (Among legs s × DepartsWithin s row.target.0 first last)) where
     pub all_ways : (items now : List Item) (k : ℕ) → length found ≤ k → ((x y : Point) → ItemsHold now x y ↔ (ItemsHold items x y ⊎ GoesOnBy row (take k found) x y))
-        → (x y : Point) → ItemsHold now x y ↔ (ItemsHold items x y ⊎ GoesOnBy row stops x y)
+        → (x y : Point) → ItemsHold now x y ↔ (ItemsHold items x y ⊎ GoesOnBy row legs x y)
     all_ways items now k le old x y =
         let e = take_all k found le in (
           λ h. ⊎_elim
               (λ a. inl a)
-              (λ (b : GoesOnBy row (take k found) x y). let g = b.2 in inr (b.0, b.1, (g.0, ((are g.0).0 (subst (λ (v : List Stop). Among v g.0) e g.1)).0, g.2)))
+              (λ (b : GoesOnBy row (take k found) x y). let g = b.2 in inr (b.0, b.1, (g.0, ((are g.0).0 (subst (λ (v : List Leg). Among v g.0) e g.1)).0, g.2)))
               ((old x y).0 h),
           λ h. ⊎_elim
               (λ a. (old x y).1 (inl a))
-              (λ (b : GoesOnBy row stops x y).
+              (λ (b : GoesOnBy row legs x y).
               let g = b.2 in
               let i = b.1 in
               let j = g.2 in
@@ -128,7 +128,7 @@ module _ (row : Row) (zone : Bounds) (is : (t u : ℤ) → Meets zone t u ↔ In
               let high = span.greatest x.moment (b.0).moment arrives in
               let begins = q.from in
               let ends = q.to in
-              (old x y).1 (inr (b.0, b.1, (g.0, subst (λ (v : List Stop). Among v g.0) (sym e) ((are g.0).1 (g.1, record { source = j.source ∙ sym i.target; begins = omega (arith, ints); ends = omega (arith, ints) })), g.2))))
+              (old x y).1 (inr (b.0, b.1, (g.0, subst (λ (v : List Leg). Among v g.0) (sym e) ((are g.0).1 (g.1, record { source = j.source ∙ sym i.target; begins = omega (arith, ints); ends = omega (arith, ints) })), g.2))))
               h,
         )
 
@@ -158,8 +158,8 @@ module _ (row : Row) (second here : List Row) (are : (r : Row) → Among here r 
       from_target : (m : Point) → InRow row x m → RowsHold second m y → RowsHold here m y
       from_target m i g = let j = g.2 in (g.0, (are g.0).1 (g.1, j.source ∙ sym i.target), g.2)
 
-  -- and so are their stops, where there are many
-  pub by_busy : (busy : List Stop) → AreComposed second busy → Ordered RowBefore here → 8 < length here → ((x y : Point) → ItemsHold next x y ↔ (ItemsHold items x y ⊎ GoesOnBy row busy x y))
+  -- and so are their legs, where there are many
+  pub by_busy : (busy : List Leg) → AreComposed second busy → Ordered RowBefore here → 8 < length here → ((x y : Point) → ItemsHold next x y ↔ (ItemsHold items x y ⊎ GoesOnBy row busy x y))
       → (x y : Point) → ItemsHold next x y ↔ (ItemsHold items x y ⊎ GoesOn row second x y)
   by_busy busy is order many pushed x y = (
     λ h. ⊎_elim (λ a. inl a) (λ (b : GoesOnBy row busy x y). inr (b.0, b.1, is.there b.0 y b.2)) ((pushed x y).0 h),
@@ -200,11 +200,11 @@ pub every_row : (base items : List Item) (rows : List Row) (second : List Row) (
     → (x y : Point) → ItemsHold items x y ↔ (ItemsHold base x y ⊎ HasMiddlePoint rows second x y)
 every_row base items rows second k le = subst (λ (v : List Row). (x y : Point) → ItemsHold items x y ↔ (ItemsHold base x y ⊎ HasMiddlePoint v second x y)) (take_all k rows le)
 
-pub stop_formed : (stops found : List Stop) (k : ℕ) (d : Stop) → k < length found → ((s : Stop) → Among found s → Among stops s) → ((s : Stop) → Among stops s → IsWellFormed s.row.band) → IsWellFormed (slice_index_or found k d).row.band
-stop_formed stops found k d lt there formed = formed (slice_index_or found k d) (there (slice_index_or found k d) (among_at found k d lt))
+pub leg_zone : (legs found : List Leg) (k : ℕ) (d : Leg) → k < length found → ((s : Leg) → Among found s → Among legs s) → ((s : Leg) → Among legs s → HasZone s) → HasZone (slice_index_or found k d)
+leg_zone legs found k d lt there zones = zones (slice_index_or found k d) (there (slice_index_or found k d) (among_at found k d lt))
 
-pub stop_source : (found : List Stop) (o k : ℕ) (d : Stop) → k < length found → ((s : Stop) → Among found s → s.row.source.0 ≡ o) → (slice_index_or found k d).row.source.0 ≡ o
-stop_source found o k d lt same = same (slice_index_or found k d) (among_at found k d lt)
+pub leg_source : (found : List Leg) (o k : ℕ) (d : Leg) → k < length found → ((s : Leg) → Among found s → s.row.source.0 ≡ o) → (slice_index_or found k d).row.source.0 ≡ o
+leg_source found o k d lt same = same (slice_index_or found k d) (among_at found k d lt)
 
 pub row_formed : (rows : List Row) (k : ℕ) (d : Row) → k < length rows → ((r : Row) → Among rows r → IsWellFormed r.band) → IsWellFormed (slice_index_or rows k d).band
 row_formed rows k d lt formed = formed (slice_index_or rows k d) (among_at rows k d lt)

@@ -17,7 +17,7 @@ pub mod Identity
 pub mod Uniting
 pub mod Sources
 pub mod Departing
-pub mod Stops
+pub mod Legs
 pub mod Reaching
 pub mod Going
 pub mod Splitting
@@ -27,7 +27,7 @@ pub mod Coalescing
 pub mod Runs
 pub mod Arriving
 pub mod Meeting
-pub mod Cutting
+pub mod TimesMinus
 pub mod Leaving
 pub mod Subtracting
 pub mod TimeLaws

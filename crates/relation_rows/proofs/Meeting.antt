@@ -1,6 +1,6 @@
 -- The one-time rows that a search finds.
 use Rattle.std.proofs.Common.{◌≡◌, ◌⊎◌, inl, inr, ⊎_elim, ℕ, ◌-◌, ◌<◌, ◌≤◌, ℤ, ◌≤ℤ◌, ◌<ℤ◌, List, [], ◌∷◌, length, get_or, take, drop, refl, sym, ◌∙◌, subst, arith, true, false, true≢false}
-use Rattle.std.proofs.lemmas.Int.{ints}
+use Rattle.std.proofs.lemmas.Int.{ints, by_lt_z}
 use Rattle.std.proofs.lemmas.List.{take_all, length-drop, take-append-drop}
 use Rattle.std.proofs.lemmas.Bool.Decides.{eqb_tells, Decides-ltb}
 use Rattle.std.specs.List.Sorted.{IsPartitionedBy, IsPartitionPoint}
@@ -8,8 +8,8 @@ use Rattle.itpg_base.specs.Lists.{Among, Ordered}
 use Rattle.itpg_base.proofs.Lists.{ordered_by_place, ordered_first}
 use Rattle.relation_rows.specs.declared.times.OneRow.{OneRow}
 use Rattle.itpg_base.specs.Spans.{IsSpan}
-use Rattle.relation_rows.specs.Times.{TimeBefore, IsOneTime, begins_by, ends_before}
-use Rattle.relation_rows.proofs.Partitions.{among_before, among_behind, among_either, front_among, rest_among}
+use Rattle.relation_rows.specs.Times.{TimeBefore, IsOneTime, MeetsTime, begins_by, ends_before}
+use Rattle.relation_rows.proofs.Partitions.{among_before, among_behind, among_either, front_among, rest_among, rest_ordered}
 
 -- by object, and within it both ends rise
 abbrev pub Rises : OneRow → OneRow → Type 0
@@ -98,3 +98,21 @@ module _ (rows : List OneRow) (table : IsOneTime rows) (o : ℕ) (from to : ℤ)
           (among_either (take n rows) m s t))
           (λ d. absurd (true≢false (sym (is_departed s o to (inr (e, begins))) ∙ among_behind (λ (u : OneRow). begins_by u o to ≡ false) rows n bound point.1 s d)))
           (among_either rows n s a))
+
+      pub found_meets : (row : OneRow) → row.object.0 ≡ o → row.span.from ≡ from → row.span.to ≡ to → (s : OneRow) → Among (take (length (take n rows) - m) (drop m (take n rows))) s → MeetsTime row s
+      found_meets row e f g s a =
+          let begun = departs_is s o to (among_before (λ (t : OneRow). begins_by t o to ≡ true) rows n bound point.0 s (rest_among (take n rows) m s (in_rest s a))) in
+          let stays = among_behind (λ (t : OneRow). ends_before t o from ≡ false) (take n rows) m within split.1 s (in_rest s a) in
+          let same = found_object s a in
+          record {
+            object = same ∙ sym e;
+            begins = ⊎_elim (λ l. absurd (omega arith)) (λ k. let b = k.1 in omega (arith, ints)) begun;
+            ends = by_lt_z s.span.to from (λ lt. absurd (true≢false (sym (is_left s o from (inr (same, lt))) ∙ stays))) (λ le. omega (arith, ints));
+          }
+
+      pub found_order : IsOneTime (take (length (take n rows) - m) (drop m (take n rows)))
+      found_order = record {
+        spans = λ r a. table.spans r (found_there r a);
+        order = subst (λ (v : List OneRow). Ordered TimeBefore v) (sym rest_is)
+            (rest_ordered TimeBefore (take n rows) m (ordered_first TimeBefore (take n rows) (drop n rows) (subst (λ (v : List OneRow). Ordered TimeBefore v) (sym (take-append-drop n rows)) table.order)));
+      }

@@ -227,6 +227,15 @@ pushed_there key here there old new pt none e = (
   e ∙ ap (λ (v : List Row). old ++ v) (sym (rows_are there key.source.0 key.target.0 pt.keyed)),
 )
 
+-- rows that both have are taken once
+pub pushed_same : (key : Row) (here there old new : List Row) → IsPart key here → here ≡ there → new ≡ old ++ here → HasPushed key here there old new
+pushed_same key here there old new ph same e = (
+  map band_of here,
+  normal_like (SomeHasBand here) (EitherHas here there) (map band_of here) (λ t u. (λ h. inl h, λ h. ⊎_elim (λ a. a) (λ a. subst (λ (v : List Row). SomeHasBand v t u) (sym same) a) h)) ph.normal,
+  λ b a. let r = among_band here b a in subst IsWellFormed r.2 (ph.formed r.0 r.1),
+  e ∙ ap (λ (v : List Row). old ++ v) (sym (rows_are here key.source.0 key.target.0 ph.keyed)),
+)
+
 -- ---- the walk
 
 -- the key comes before those of what is left

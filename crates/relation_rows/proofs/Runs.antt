@@ -11,7 +11,7 @@ use Rattle.itpg_base.proofs.Lists.{ordered_at, ordered_from_neighbours, permutat
 use Rattle.relation_rows.specs.declared.times.OneRow.{OneRow}
 use Rattle.relation_rows.specs.Times.{TimesHold, TimeUpTo, AreTimes, IsOneTime, Joins}
 use Rattle.relation_rows.proofs.Partitions.{front_among}
-use Rattle.relation_rows.proofs.Stops.{up_to}
+use Rattle.relation_rows.proofs.Legs.{up_to}
 use Rattle.relation_rows.proofs.Coalescing.{Coalesced, coalesced_first, coalesced_joined, coalesced_pushed, time_trans}
 
 pub take_one : (times : List OneRow) (first : OneRow) → Some first ≡ slice_get times 0 → take (0 + 1) times ≡ first ∷ []

@@ -11,9 +11,9 @@ use Rattle.itpg_base.specs.Lists.{Among, Ordered}
 use Rattle.band_normal.specs.Bands.{IsWellFormed}
 use Rattle.itpg_base.proofs.Lists.{among_at, among_append, append_first, append_second, ordered_by_place, ordered_first, ordered_unique}
 use Rattle.relation_rows.specs.declared.rows.Row.{Row}
-use Rattle.relation_rows.specs.declared.timetable.Stop.{Stop}
+use Rattle.relation_rows.specs.declared.timetable.Leg.{Leg}
 use Rattle.relation_rows.specs.Rows.{RowBefore, RowsHold}
-use Rattle.relation_rows.specs.Timetables.{StopsHold, IsTimetable}
+use Rattle.relation_rows.specs.Timetables.{LegsHold, IsTimetable}
 use Rattle.relation_rows.specs.Ways.{AreFrom, HasBusy, AreComposed}
 use Rattle.relation_rows.proofs.Listed.{row_apart}
 use Rattle.relation_rows.proofs.Partitions.{among_before, among_behind, among_either, front_among, rest_among, rest_ordered, first_before}
@@ -221,9 +221,9 @@ all_passed rows left busy none g = λ o group are many. g.all o group are many (
     nothing (x ∷ xs) e s a = let no : ⊥ = cc in no
 
 -- rows in order, and the timetable of the busy ones among them
-pub composed_of : (second busy : List Row) (stops : List Stop) → Ordered RowBefore second → ((r : Row) → Among second r → IsWellFormed r.band) → ((r : Row) → Among busy r → Among second r) → HasBusy second busy → IsTimetable stops
-    → ((x y : Point) → StopsHold stops x y ↔ RowsHold busy x y) → AreComposed second stops
-composed_of second busy stops order formed there all table holds = record {
+pub composed_of : (second busy : List Row) (legs : List Leg) → Ordered RowBefore second → ((r : Row) → Among second r → IsWellFormed r.band) → ((r : Row) → Among busy r → Among second r) → HasBusy second busy → IsTimetable legs
+    → ((x y : Point) → LegsHold legs x y ↔ RowsHold busy x y) → AreComposed second legs
+composed_of second busy legs order formed there all table holds = record {
   order = order;
   formed = formed;
   table = table;

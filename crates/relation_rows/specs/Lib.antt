@@ -6,6 +6,7 @@ pub mod Searching
 pub mod Timetables
 pub mod Ways
 pub mod Times
+pub mod Sides
 pub mod Answered
 pub mod Uniting
 pub mod Minus

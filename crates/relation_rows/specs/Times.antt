@@ -1,5 +1,6 @@
 -- One-time rows, and the moments at which a relation departs and arrives.
-use Rattle.std.specs.Prelude.{◌≡◌, ◌⊎◌, ◌==◌, ◌&&◌, ◌||◌, nat_lt, int_le, int_lt, Bool, IsTrue, ℕ, ◌<◌, ℤ, pos, ◌+ℤ◌, ◌≤ℤ◌, ◌<ℤ◌, List}
+use Rattle.std.specs.Prelude.{◌≡◌, ◌⊎◌, ◌==◌, ◌&&◌, ◌||◌, nat_lt, int_le, int_lt, if◌then◌else◌, Bool, IsTrue, ℕ, ◌<◌, ℤ, pos, ◌+ℤ◌, ◌-ℤ◌, ◌≤ℤ◌, ◌<ℤ◌, List, [], ◌∷◌, ◌++◌}
+use Rattle.itpg_base.specs.declared.object_number.ObjNo.{ObjNo}
 use Rattle.itpg_base.specs.Spans.{Within, IsSpan}
 use Rattle.itpg_base.specs.Points.{Point}
 use Rattle.zone_core.specs.Zone.{Between}
@@ -78,3 +79,17 @@ ends_before r o t = nat_lt r.object.0 o || ((r.object.0 == o) && int_lt r.span.t
 -- the test is true of objects of numbers below `objects` alone, at moments from `low` to `high`
 abbrev pub AreFewTimes : ℕ → ℤ → ℤ → (ℕ → ℤ → Bool) → Type 0
 AreFewTimes objects low high test = (o : ℕ) (t : ℤ) → IsTrue (test o t) → (o < objects) × Between low high t
+
+-- the row is of the other's object, and shares a moment with it
+pub record MeetsTime (r s : OneRow) : Type 0 where
+  pub object : s.object.0 ≡ r.object.0
+  pub begins : s.span.from ≤ℤ r.span.to
+  pub ends : r.span.from ≤ℤ s.span.to
+
+-- a row of the object from the one moment up to the last before the other, if there is any
+abbrev pub gap : ObjNo → ℤ → ℤ → List OneRow
+gap object from before = if int_lt from before then record { object = object; span = record { from = from; to = before -ℤ pos 1 } } ∷ [] else []
+
+-- what the row has and no cut has was added, as runs
+abbrev pub HasUncut : OneRow → List OneRow → List OneRow → List OneRow → Type 0
+HasUncut row cuts old new = (pieces : List OneRow) × (new ≡ old ++ pieces) × AreTimes (λ o t. InTime row o t × (¬ SomeHas cuts t)) pieces

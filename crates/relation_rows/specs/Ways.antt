@@ -1,4 +1,4 @@
--- Ways: a row, and then a stop's row from where it arrives.
+-- Ways: a row, and then a leg's row from where it arrives.
 use Rattle.std.specs.Prelude.{◌≡◌, ◌↔◌, ℕ, ◌<◌, pos, ◌+ℤ◌, ◌≤ℤ◌, ◌<ℤ◌, Option, Some, None, List, length}
 use Rattle.itpg_base.specs.declared.object_number.ObjNo.{ObjNo}
 use Rattle.itpg_base.specs.Points.{Point, Relation}
@@ -6,10 +6,10 @@ use Rattle.zone_core.specs.declared.Bounds.{Bounds}
 use Rattle.itpg_base.specs.Lists.{Among, Ordered}
 use Rattle.band_normal.specs.Bands.{IsWellFormed}
 use Rattle.relation_rows.specs.declared.rows.Row.{Row}
-use Rattle.relation_rows.specs.declared.timetable.Stop.{Stop}
+use Rattle.relation_rows.specs.declared.timetable.Leg.{Leg}
 use Rattle.relation_rows.specs.Rows.{InRow, RowsHold, RowBefore}
 use Rattle.relation_rows.specs.Relations.{InItem}
-use Rattle.relation_rows.specs.Timetables.{StopsHold, IsTimetable}
+use Rattle.relation_rows.specs.Timetables.{LegsHold, IsTimetable}
 
 -- the zone is there, and has the pair, from the source to the target
 abbrev pub ItemThere : ObjNo → ObjNo → Option Bounds → Relation
@@ -20,9 +20,9 @@ ItemThere source target (Some zone) x y = InItem (source, target, zone) x y
 abbrev pub GoesOn : Row → List Row → Relation
 GoesOn row second x y = (m : Point) × InRow row x m × RowsHold second m y
 
--- the row leads to a point from which some stop's row does
-abbrev pub GoesOnBy : Row → List Stop → Relation
-GoesOnBy row stops x y = (m : Point) × InRow row x m × StopsHold stops m y
+-- the row leads to a point from which some leg's row does
+abbrev pub GoesOnBy : Row → List Leg → Relation
+GoesOnBy row legs x y = (m : Point) × InRow row x m × LegsHold legs m y
 
 -- the group is in order, and has the rows from the object and no others
 abbrev pub AreFrom : List Row → ℕ → List Row → Type 0
@@ -33,12 +33,12 @@ abbrev pub HasBusy : List Row → List Row → Type 0
 HasBusy rows busy = (o : ℕ) (group : List Row) → AreFrom rows o group → 8 < length group → (r : Row) → Among group r → Among busy r
 
 -- rows in order, and a timetable of those from busy objects
-pub record AreComposed (second : List Row) (busy : List Stop) : Type 0 where
+pub record AreComposed (second : List Row) (busy : List Leg) : Type 0 where
   pub order : Ordered RowBefore second
   pub formed : (r : Row) → Among second r → IsWellFormed r.band
   pub table : IsTimetable busy
-  pub there : (x y : Point) → StopsHold busy x y → RowsHold second x y
-  pub all : (o : ℕ) (group : List Row) → AreFrom second o group → 8 < length group → (x y : Point) → RowsHold group x y → StopsHold busy x y
+  pub there : (x y : Point) → LegsHold busy x y → RowsHold second x y
+  pub all : (o : ℕ) (group : List Row) → AreFrom second o group → 8 < length group → (x y : Point) → RowsHold group x y → LegsHold busy x y
 
 -- by the first departure
 abbrev pub DepartsNoLater : Row → Row → Type 0

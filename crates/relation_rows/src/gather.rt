@@ -19,6 +19,7 @@ ghost use Rattle.relation_rows.specs.Answers.{Gives};
 ghost use Rattle.relation_rows.specs.Relations.{Item, ItemsHold, Rise};
 ghost use Rattle.relation_rows.specs.Gathering.{ItemUpTo, HaveOneKey, IsCounted, have_one_key};
 
+use crate::known::Known;
 use crate::relations::Relation;
 use crate::rows::{RelFault, Row};
 use band_normal::{Band, bands_of, normal, push_present, zone_of};
@@ -74,7 +75,7 @@ pub(crate) fn zones_of(alloc: Global, items: &[Item]) -> Result<Vec<Zone>, Alloc
 }
 
 // Fills the list with the normal bands of the items' zones. What it held is gone.
-fn find_bands(bands: &mut Vec<Band>, items: &[Item]) -> Result<(), AllocError>
+fn find_bands(bands: &mut Vec<Band>, known: &mut Known, items: &[Item]) -> Result<(), AllocError>
     ensures normal { OnOk result (Normal (SomeMeets (map (λ (i : Item). i.2) items.now)) bands.new.items) }
     ensures formed { OnOk result ((b : Band) → Among bands.new.items b → IsWellFormed b) }
 {
@@ -83,8 +84,9 @@ fn find_bands(bands: &mut Vec<Band>, items: &[Item]) -> Result<(), AllocError>
         push_present(bands, bands_of(&item.2))?;
         return Ok(());
     }
-    let alloc = *bands.allocator();
-    *bands = normal(alloc, zones_of(alloc, items)?)?;
+    known.learn(items)?;
+    bands.clear();
+    bands.extend_from_slice(known.bands())?;
     Ok(())
 }
 
@@ -108,17 +110,17 @@ pub(crate) fn push_bands(
 }
 
 /// The relation of the items, which stand by source and target.
-pub(crate) fn gathered(alloc: Global, items: &[Item], room: usize) -> Result<Relation, RelFault>
+pub(crate) fn gathered(known: &mut Known, items: &[Item], room: usize) -> Result<Relation, RelFault>
     requires { Ordered ItemUpTo items.now }
     ensures gives { Gives result (ItemsHold items.now) room }
     ensures counted { IsCounted result room }
 {
-    let mut rows = Vec::new(alloc);
-    let mut bands = Vec::new(alloc);
+    let mut rows = Vec::new(known.allocator());
+    let mut bands = Vec::new(known.allocator());
     let mut left = items;
     while let Some(first) = left.first() {
         let (group, later) = left.split_at(first_count(left, first));
-        find_bands(&mut bands, group)?;
+        find_bands(&mut bands, known, group)?;
         push_bands(&mut rows, first.0, first.1, &bands)?;
         if rows.len() > room {
             return Err(RelFault::Wide);
@@ -130,7 +132,7 @@ pub(crate) fn gathered(alloc: Global, items: &[Item], room: usize) -> Result<Rel
 
 /// The relation of the items, in whatever order they stand.
 pub(crate) fn gathered_of(
-    alloc: Global,
+    known: &mut Known,
     mut items: Vec<Item>,
     room: usize,
 ) -> Result<Relation, RelFault>
@@ -138,14 +140,14 @@ pub(crate) fn gathered_of(
     ensures counted { IsCounted result room }
 {
     items.sort_unstable_by_key(|item| (item.0, item.1));
-    gathered(alloc, &items, room)
+    gathered(known, &items, room)
 }
 
 /// The relation of the items, whatever number of rows it has.
 pub(crate) fn gathered_all(alloc: Global, items: Vec<Item>) -> Result<Relation, AllocError>
     ensures { IfOk result (λ rows. NormalRows (ItemsHold items.items) rows) }
 {
-    match gathered_of(alloc, items, usize::MAX) {
+    match gathered_of(&mut Known::new(alloc), items, usize::MAX) {
         Ok(relation) => Ok(relation),
         Err(RelFault::Memory) => Err(AllocError),
         Err(RelFault::Wide) => unreachable!(),

@@ -18,6 +18,7 @@ pub mod rows;
 mod search;
 mod strike;
 pub mod times;
+mod times_minus;
 mod timetable;
 mod union;
 mod ways;

@@ -13,11 +13,12 @@ ghost use Rattle.relation_rows.specs.Relations.{ItemsHold, Rise, IsItself, Eithe
 
 use crate::compose::{busy_rows, composed};
 use crate::gather::{each_to_itself, gathered_all, gathered_of};
+use crate::known::Known;
 use crate::minus::only_in_first;
 use crate::rows::{RelFault, Row};
 use crate::search::{is_in_band, rows_between, rows_of_key};
 use crate::strike::struck;
-use crate::times::{OneTime, arrivals, departures, runs_of};
+use crate::times::{OneTime, Side, times_of};
 use crate::timetable::timetable;
 use crate::union::united;
 use interval_set::Span;
@@ -128,7 +129,7 @@ impl Relation {
     ) -> Result<Relation, RelFault>
         ensures { Gives result (ItemsHold items.items) max_rows }
     {
-        gathered_of(alloc, items, max_rows as usize)
+        gathered_of(&mut Known::new(alloc), items, max_rows as usize)
     }
 
     /// The pairs of either relation. `Wide` exactly where its normal rows are more than `max_rows`.
@@ -184,10 +185,7 @@ impl Relation {
         ensures times { IfOk result (λ times. AreTimes (Departs self.now) times) }
         ensures few { IfOk result (λ times. length times ≤ length self.now) }
     {
-        let alloc = *self.rows.allocator();
-        let times = departures(alloc, &self.rows)?;
-        let runs = runs_of(alloc, times)?;
-        Ok(runs)
+        times_of(*self.rows.allocator(), &self.rows, Side::Departure)
     }
 
     /// The objects at the moments at which some pair arrives. There are no more rows than here.
@@ -195,9 +193,6 @@ impl Relation {
         ensures times { IfOk result (λ times. AreTimes (Arrives self.now) times) }
         ensures few { IfOk result (λ times. length times ≤ length self.now) }
     {
-        let alloc = *self.rows.allocator();
-        let times = arrivals(alloc, &self.rows)?;
-        let runs = runs_of(alloc, times)?;
-        Ok(runs)
+        times_of(*self.rows.allocator(), &self.rows, Side::Arrival)
     }
 }

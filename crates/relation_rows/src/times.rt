@@ -7,11 +7,12 @@ ghost use Rattle.itpg_base.specs.Lists.{Among, Ordered};
 ghost use Rattle.band_normal.specs.Bands.{IsWellFormed};
 ghost use Rattle.relation_rows.specs.declared.rows.Row.{Row as PlainRow};
 ghost use Rattle.relation_rows.specs.declared.times.OneRow.{OneRow as PlainOneRow};
-ghost use Rattle.relation_rows.specs.Times.{TimesHold, IsOneTime, OnlyFirstHas, SomeHas, begins_by, ends_before, TimeUpTo, AreTimes, Departs, Arrives, Joins, DepartsIn, ArrivesIn};
+ghost use Rattle.relation_rows.specs.Times.{InTime, TimesHold, IsOneTime, OnlyFirstHas, SomeHas, begins_by, ends_before, TimeUpTo, AreTimes, Departs, Arrives, Joins, DepartsIn, ArrivesIn};
 
 use crate::rows::Row;
+use crate::times_minus::only_first;
 use band_normal::Band;
-use interval_set::{IntervalSet, Span};
+use interval_set::Span;
 use itpg_base::ObjNo;
 use std::alloc::{AllocError, Global};
 use std::marker::Model;
@@ -29,7 +30,7 @@ pub struct OneRow {
 /// moment, and between two of one object at least one moment is missing.
 #[derive(Drop)]
 pub struct OneTime {
-    rows: Vec<OneRow>,
+    pub(crate) rows: Vec<OneRow>,
 }
 
 impl Model for OneTime {
@@ -66,11 +67,20 @@ impl OneTime {
         ensures { IfOk result (λ rest. AreTimes (OnlyFirstHas self.now other.now) rest) }
     {
         let alloc = *self.rows.allocator();
-        let times = only_first(alloc, &self.rows, &other.rows)?;
-        let runs = runs_of(alloc, times)?;
-        Ok(runs)
+        only_first(alloc, &self.rows, &other.rows)
     }
 }
+
+/// Which end of a pair is meant.
+#[derive(Clone, Copy)]
+pub(crate) enum Side {
+    /// The object and the moment from which it leads.
+    Departure,
+    /// Those to which it leads.
+    Arrival,
+}
+
+ghost use Rattle.relation_rows.specs.Sides.{HasTime, HaveTime};
 
 // Whether the row is of the same object as the last one, and begins by one moment after it ends.
 fn joins(last: &OneRow, row: &OneRow) -> bool
@@ -122,8 +132,8 @@ fn joined_all(alloc: Global, times: &[OneRow]) -> Result<Vec<OneRow>, AllocError
     Ok(rows)
 }
 
-/// The runs of the moments that the rows have.
-pub(crate) fn runs_of(alloc: Global, mut times: Vec<OneRow>) -> Result<OneTime, AllocError>
+// The runs of the moments that the rows have.
+fn runs_of(alloc: Global, mut times: Vec<OneRow>) -> Result<OneTime, AllocError>
     requires { (r : PlainOneRow) → Among times.items r → IsSpan r.span }
     ensures times { IfOk result (λ rows. AreTimes (TimesHold times.items) rows) }
     ensures few { IfOk result (λ rows. length rows ≤ length times.items) }
@@ -151,101 +161,33 @@ fn departure_span(band: &Band) -> Span
     Span::new(band.from, band.to).unwrap()
 }
 
-/// The departures of each row.
-pub(crate) fn departures(alloc: Global, rows: &[Row]) -> Result<Vec<OneRow>, AllocError>
-    requires { (r : PlainRow) → Among rows.now r → IsWellFormed r.band }
-    ensures spans { IfOk result (λ times. (r : PlainOneRow) → Among times.items r → IsSpan r.span) }
-    ensures departs { IfOk result (λ times. (o : ℕ) → (t : ℤ) → TimesHold times.items o t ↔ Departs rows.now o t) }
-    ensures few { IfOk result (λ times. length times.items ≡ length rows.now) }
+// When and where the row departs, or arrives.
+fn time_of(row: &Row, side: Side) -> OneRow
+    requires { IsWellFormed row.now.band }
+    ensures times { (o : ℕ) → (t : ℤ) → InTime result o t ↔ HasTime side row.now o t }
+    ensures span { IsSpan result.span }
 {
-    let mut times = Vec::new(alloc);
-    for row in rows {
-        times.push(OneRow {
+    match side {
+        Side::Departure => OneRow {
             object: row.source,
             span: departure_span(&row.band),
-        })?;
+        },
+        Side::Arrival => OneRow {
+            object: row.target,
+            span: arrival_span(&row.band),
+        },
     }
-    Ok(times)
 }
 
-/// The arrivals of each row.
-pub(crate) fn arrivals(alloc: Global, rows: &[Row]) -> Result<Vec<OneRow>, AllocError>
+/// The objects at the moments at which some pair of the rows departs, or arrives. There are no more rows than those.
+pub(crate) fn times_of(alloc: Global, rows: &[Row], side: Side) -> Result<OneTime, AllocError>
     requires { (r : PlainRow) → Among rows.now r → IsWellFormed r.band }
-    ensures spans { IfOk result (λ times. (r : PlainOneRow) → Among times.items r → IsSpan r.span) }
-    ensures arrives { IfOk result (λ times. (o : ℕ) → (t : ℤ) → TimesHold times.items o t ↔ Arrives rows.now o t) }
-    ensures few { IfOk result (λ times. length times.items ≡ length rows.now) }
+    ensures times { IfOk result (λ times. AreTimes (HaveTime side rows.now) times) }
+    ensures few { IfOk result (λ times. length times ≤ length rows.now) }
 {
     let mut times = Vec::new(alloc);
     for row in rows {
-        times.push(OneRow {
-            object: row.target,
-            span: arrival_span(&row.band),
-        })?;
+        times.push(time_of(row, side))?;
     }
-    Ok(times)
-}
-
-fn begins_in_time(cut: &OneRow, row: &OneRow) -> bool
-    ensures { result ≡ begins_by cut.now row.now.object.0 row.now.span.to }
-{
-    cut.object.0 < row.object.0 || cut.object.0 == row.object.0 && cut.span.from() <= row.span.to()
-}
-
-fn ends_too_soon(cut: &OneRow, row: &OneRow) -> bool
-    ensures { result ≡ ends_before cut.now row.now.object.0 row.now.span.from }
-{
-    cut.object.0 < row.object.0 || cut.object.0 == row.object.0 && cut.span.to() < row.span.from()
-}
-
-// Of the rows those that share an object and a moment with the row.
-fn meeting<'a>(rows: &'a [OneRow], row: &OneRow) -> &'a [OneRow]
-    requires { IsOneTime rows.now }
-    ensures there { (s : PlainOneRow) → Among result.now s → Among rows.now s }
-    ensures object { (s : PlainOneRow) → Among result.now s → s.object.0 ≡ row.now.object.0 }
-    ensures all { (s : PlainOneRow) → Among rows.now s → s.object.0 ≡ row.now.object.0 → s.span.from ≤ℤ row.now.span.to → row.now.span.from ≤ℤ s.span.to → Among result.now s }
-{
-    let count = rows.partition_point(|cut| begins_in_time(cut, row));
-    let begun = &rows[..count];
-    let left = begun.partition_point(|cut| ends_too_soon(cut, row));
-    &begun[left..]
-}
-
-// The moments of the span that no cut has.
-fn uncut(alloc: Global, span: Span, cuts: &[OneRow]) -> Result<IntervalSet, AllocError>
-    ensures { IfOk result (λ spans. (t : ℤ) → Covers spans t ↔ (Within t span × (¬ SomeHas cuts.now t))) }
-{
-    let mut rest = IntervalSet::new(alloc);
-    rest.join_span(span)?;
-    for cut in cuts {
-        rest.cut_span(cut.span)?;
-    }
-    Ok(rest)
-}
-
-fn push_spans(times: &mut Vec<OneRow>, object: ObjNo, spans: &[Span]) -> Result<(), AllocError>
-    requires { IsCoalesced spans.now }
-    ensures holds { OnOk result ((o : ℕ) → (t : ℤ) → TimesHold times.new.items o t ↔ (TimesHold times.old.items o t ⊎ ((object.0 ≡ o) × Covers spans.now t))) }
-    ensures spans { OnOk result (((r : PlainOneRow) → Among times.old.items r → IsSpan r.span) → (r : PlainOneRow) → Among times.new.items r → IsSpan r.span) }
-{
-    for span in spans {
-        times.push(OneRow {
-            object,
-            span: *span,
-        })?;
-    }
-    Ok(())
-}
-
-// What the first rows have and the second haven't, a row of the first after the other.
-fn only_first(alloc: Global, first: &[OneRow], second: &[OneRow]) -> Result<Vec<OneRow>, AllocError>
-    requires { IsOneTime second.now }
-    ensures holds { IfOk result (λ times. (o : ℕ) → (t : ℤ) → TimesHold times.items o t ↔ OnlyFirstHas first.now second.now o t) }
-    ensures spans { IfOk result (λ times. (r : PlainOneRow) → Among times.items r → IsSpan r.span) }
-{
-    let mut times = Vec::new(alloc);
-    for row in first {
-        let rest = uncut(alloc, row.span, meeting(second, row))?;
-        push_spans(&mut times, row.object, rest.spans())?;
-    }
-    Ok(times)
+    runs_of(alloc, times)
 }

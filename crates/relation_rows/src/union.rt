@@ -86,6 +86,10 @@ fn push_both(
         rows.extend_from_slice(there)?;
         return Ok(());
     }
+    if here == there {
+        rows.extend_from_slice(here)?;
+        return Ok(());
+    }
     learn_both(known, here, there)?;
     push_bands(rows, key.source, key.target, known.bands())?;
     Ok(())

@@ -16,7 +16,7 @@ ghost use Rattle.relation_rows.specs.Ways.{ItemThere, GoesOn, GoesOnBy, AreCompo
 use crate::gather::{Item, gathered_all, push_zones};
 use crate::rows::Row;
 use crate::search::rows_from;
-use crate::timetable::{Stop, find_departing};
+use crate::timetable::{Leg, find_departing};
 use band_normal::zone_of;
 use itpg_base::ObjNo;
 use std::alloc::AllocError;
@@ -58,22 +58,22 @@ fn push_scanned(items: &mut Vec<Item>, row: &Row, here: &[Row]) -> Result<(), Al
     Ok(())
 }
 
-// Adds the ways by the row and a stop's row. What is in `found` is for this call alone, in memory that all rows share.
+// Adds the ways by the row and a leg's row. What is in `found` is for this call alone, in memory that all rows share.
 fn push_searched(
     items: &mut Vec<Item>,
-    found: &mut Vec<Stop>,
+    found: &mut Vec<Leg>,
     row: &Row,
-    stops: &[Stop],
+    legs: &[Leg],
 ) -> Result<(), AllocError>
     requires row { IsWellFormed row.now.band }
-    requires stops { IsTimetable stops.now }
-    ensures { OnOk result ((x : Point) → (y : Point) → ItemsHold items.new.items x y ↔ (ItemsHold items.old.items x y ⊎ GoesOnBy row.now stops.now x y)) }
+    requires legs { IsTimetable legs.now }
+    ensures { OnOk result ((x : Point) → (y : Point) → ItemsHold items.new.items x y ↔ (ItemsHold items.old.items x y ⊎ GoesOnBy row.now legs.now x y)) }
 {
     let zone = zone_of(&row.band);
-    find_departing(found, stops, row.target, arrivals(&zone))?;
-    for stop in found.as_slice() {
-        let way = compose(&zone, &zone_of(&stop.row.band));
-        push_there(items, row.source, stop.row.target, way)?;
+    find_departing(found, legs, row.target, arrivals(&zone))?;
+    for leg in found.as_slice() {
+        let way = compose(&zone, &leg.zone);
+        push_there(items, row.source, leg.row.target, way)?;
     }
     Ok(())
 }
@@ -81,10 +81,10 @@ fn push_searched(
 // Adds the ways that begin with the row.
 fn push_ways(
     items: &mut Vec<Item>,
-    found: &mut Vec<Stop>,
+    found: &mut Vec<Leg>,
     row: &Row,
     second: &[Row],
-    busy: &[Stop],
+    busy: &[Leg],
 ) -> Result<(), AllocError>
     requires row { IsWellFormed row.now.band }
     requires second { AreComposed second.now busy.now }
@@ -116,10 +116,10 @@ fn united_beyond(ways: Vec<Item>, most: usize) -> Result<Vec<Item>, AllocError>
 /// The ways that there are, and those that begin with one of the rows.
 pub(crate) fn with_ways(
     ways: Vec<Item>,
-    found: &mut Vec<Stop>,
+    found: &mut Vec<Leg>,
     rows: &[Row],
     second: &[Row],
-    busy: &[Stop],
+    busy: &[Leg],
 ) -> Result<Vec<Item>, AllocError>
     requires rows { (r : PlainRow) → Among rows.now r → IsWellFormed r.band }
     requires second { AreComposed second.now busy.now }

@@ -1,4 +1,4 @@
-use Rattle.std.proofs.Common.{◌≡◌, ◌≤◌, ◌<◌, List, [], ◌∷◌, ◌++◌, length, slice_index_or, map, inl, sym, subst, ap, arith, ⊎_elim}
+use Rattle.std.proofs.Common.{◌≡◌, ◌≤◌, ◌<◌, List, [], ◌∷◌, ◌++◌, length, slice_index_or, map, inl, sym, ◌∙◌, subst, ap, arith, ⊎_elim}
 use Rattle.zone_core.specs.Zone.{Meets}
 use Rattle.band_normal.specs.declared.band.Band.{Band}
 use Rattle.band_normal.specs.Normal.{Normal}
@@ -26,4 +26,5 @@ returns-in-len1-clause-normal c =
 
 pub returns-clause-normal : goal.returns-clause-normal
 returns-clause-normal c =
-    normal_like (SomeMeets c.in_ok-zones_of.field-0.items) (SomeMeets (map zone_of_item c.args.items.now)) c.in_ok-bands.field-0.items c.in_ok-zones_of.ensures c.in_ok-bands.ensures.normal
+    let same = alone_is _ _ _ c.clear-2.ensures.items c.in_ok-extend_from_slice.ensures.items in
+    subst (λ (v : List Band). Normal (SomeMeets (map zone_of_item c.args.items.now)) v) (sym c.bands.ensures ∙ same) c.in_ok-learn.ensures.normal

@@ -1,8 +1,10 @@
 use Rattle.std.proofs.Common.{◌≡◌, ◌++◌, ◌∙◌, List, ap, arith, length}
 use Rattle.std.proofs.lemmas.Bool.Decides.{Decides-eqb}
+use Rattle.std.proofs.lemmas.Slice.Eq.{slice_eq-Decides}
 use Rattle.band_normal.specs.declared.band.Band.{Band}
 use Rattle.relation_rows.specs.Rows.{rows_at}
-use Rattle.relation_rows.proofs.Merged.{pushed_here, pushed_there}
+use Rattle.relation_rows.proofs.Equal.{row_decides}
+use Rattle.relation_rows.proofs.Merged.{pushed_here, pushed_there, pushed_same}
 use Rattle.relation_rows.proofs.union.push_both.Goals as goal
 
 pub returns-then-is_empty : goal.returns-then-is_empty
@@ -16,6 +18,11 @@ returns-then-is_empty-2 c =
     let extended = c.in_ok-extend_from_slice-2.ensures.items in
     let none : length c.args.here.now ≡ 0 = grind (arith, Decides-eqb) in
     pushed_there c.args.key.now c.args.here.now c.args.there.now c.args.rows.now.items c.extend_from_slice-then-is_empty-2.new.self.items c.requires.there none extended
+
+pub returns-then-eq : goal.returns-then-eq
+returns-then-eq c =
+    let same = (slice_eq-Decides row_decides c.args.here.now c.args.there.now c.eq.result c.eq.ensures).0 c.if-eq.true in
+    pushed_same c.args.key.now c.args.here.now c.args.there.now c.args.rows.now.items c.extend_from_slice-then-eq.new.self.items c.requires.here same c.in_ok-extend_from_slice-3.ensures.items
 
 pub returns : goal.returns
 returns c =

@@ -4,5 +4,5 @@ use Rattle.relation_rows.specs.Relations.{ItemsHold}
 use Rattle.relation_rows.specs.Ways.{GoesOnBy}
 use Rattle.relation_rows.proofs.ways.push_searched.Given as goal
 
-abbrev pub invariant-loop-stop : goal.invariant-loop-stop
-invariant-loop-stop l = (x : Point) → (y : Point) → ItemsHold l.items.items x y ↔ (ItemsHold l.initial.items.items x y ⊎ GoesOnBy l.fn.row (take l.stop-index l.stop-items) x y)
+abbrev pub invariant-loop-leg : goal.invariant-loop-leg
+invariant-loop-leg l = (x : Point) → (y : Point) → ItemsHold l.items.items x y ↔ (ItemsHold l.initial.items.items x y ⊎ GoesOnBy l.fn.row (take l.leg-index l.leg-items) x y)

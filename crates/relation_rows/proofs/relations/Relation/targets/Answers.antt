@@ -1,21 +1,15 @@
-use Rattle.std.proofs.Common.{◌≤◌, ◌∙◌, List, length, subst}
+use Rattle.std.proofs.Common.{◌≤◌, ◌∙◌, IfOk, List, length, subst}
 use Rattle.itpg_base.specs.Lists.{Among}
 use Rattle.relation_rows.specs.declared.rows.Row.{Row}
-use Rattle.relation_rows.specs.Times.{TimesHold, Arrives, AreTimes}
-use Rattle.relation_rows.proofs.Runs.{times_alike}
+use Rattle.relation_rows.specs.declared.times.OneRow.{OneRow}
+use Rattle.relation_rows.specs.Times.{Arrives, AreTimes}
 use Rattle.relation_rows.proofs.relations.Relation.targets.Goals as goal
 
-pub arrivals-requires : goal.arrivals-requires
-arrivals-requires c = λ r i. (c.self.invariant).formed r (subst (λ (v : List Row). Among v r) c.deref.ensures.value i)
+pub times_of-requires : goal.times_of-requires
+times_of-requires c = λ r i. (c.self.invariant).formed r (subst (λ (v : List Row). Among v r) c.deref.ensures.value i)
 
 pub returns-clause-times : goal.returns-clause-times
-returns-clause-times c =
-    subst (λ (v : List Row). AreTimes (Arrives v) c.in_ok-runs.runs) (c.deref.ensures.value ∙ c.self.view_is)
-    (times_alike (TimesHold c.in_ok-times.times.items) (Arrives c.deref.result.now)
-    (λ o t h. (c.in_ok-times.ensures.arrives o t).0 h) (λ o t h. (c.in_ok-times.ensures.arrives o t).1 h) c.in_ok-runs.runs c.in_ok-runs.ensures.times)
+returns-clause-times c = subst (λ (v : List Row). IfOk c.times_of.result (λ (runs : List OneRow). AreTimes (Arrives v) runs)) (c.deref.ensures.value ∙ c.self.view_is) c.times_of.ensures.times
 
 pub returns-clause-few : goal.returns-clause-few
-returns-clause-few c =
-    let few = c.in_ok-runs.ensures.few in
-    let count = c.in_ok-times.ensures.few in
-    subst (λ (v : List Row). length c.in_ok-runs.runs ≤ length v) (c.deref.ensures.value ∙ c.self.view_is) (subst (λ n. length c.in_ok-runs.runs ≤ n) count few)
+returns-clause-few c = subst (λ (v : List Row). IfOk c.times_of.result (λ (runs : List OneRow). length runs ≤ length v)) (c.deref.ensures.value ∙ c.self.view_is) c.times_of.ensures.few

@@ -1,4 +1,4 @@
--- Stops that are made of rows in order, one after the other.
+-- Legs that are made of rows in order, one after the other.
 use Rattle.std.proofs.Common.{◌≡◌, ◌↔◌, ◌⊎◌, inl, inr, ℕ, ◌+◌, ◌<◌, ◌≤◌, ℤ, ◌≤ℤ◌, List, [], ◌∷◌, length, map, get_or, refl, sym, ◌∙◌, ap, subst, arith, false, true≢false}
 use Rattle.std.proofs.lemmas.Int.{ints}
 use Rattle.std.specs.Ordering.{nat_cmp, int_cmp, is_lt, ordering_then}
@@ -11,28 +11,28 @@ use Rattle.band_normal.specs.Bands.{IsWellFormed}
 use Rattle.band_normal.proofs.Activity.{not_below}
 use Rattle.itpg_base.proofs.Lists.{ordered_from_neighbours, permutation_among, among_permutation}
 use Rattle.relation_rows.specs.declared.rows.Row.{Row}
-use Rattle.relation_rows.specs.declared.timetable.Stop.{Stop}
+use Rattle.relation_rows.specs.declared.timetable.Leg.{Leg}
 use Rattle.relation_rows.specs.Rows.{InRow, RowsHold}
-use Rattle.relation_rows.specs.Timetables.{DepartsUpTo, StopUpTo, StopsHold, AreReached, IsTimetable}
+use Rattle.relation_rows.specs.Timetables.{DepartsUpTo, LegUpTo, LegsHold, AreReached, HasZone, IsTimetable}
 use Rattle.relation_rows.proofs.Objects.{Compared, compared, less, equal, greater}
 
-abbrev pub row_of : Stop → Row
+abbrev pub row_of : Leg → Row
 row_of s = s.row
 
-pub row_among : (stops : List Stop) (s : Stop) → Among stops s → Among (map row_of stops) s.row
+pub row_among : (legs : List Leg) (s : Leg) → Among legs s → Among (map row_of legs) s.row
 row_among [] s a = absurd a
 row_among (t ∷ ts) s (inl e) = inl (ap row_of e)
 row_among (t ∷ ts) s (inr a) = inr (row_among ts s a)
 
-pub among_row : (stops : List Stop) (r : Row) → Among (map row_of stops) r → (s : Stop) × Among stops s × (s.row ≡ r)
+pub among_row : (legs : List Leg) (r : Row) → Among (map row_of legs) r → (s : Leg) × Among legs s × (s.row ≡ r)
 among_row [] r a = absurd a
 among_row (t ∷ ts) r (inl e) = (t, inl refl, e)
 among_row (t ∷ ts) r (inr a) = let w = among_row ts r a in (w.0, inr w.1, w.2)
 
--- stops are in order as their rows are
-pub stops_ordered : (stops : List Stop) → Ordered DepartsUpTo (map row_of stops) → Ordered StopUpTo stops
-stops_ordered [] o = tt
-stops_ordered (s ∷ ss) o = (λ t a. o.0 t.row (row_among ss t a), stops_ordered ss o.1)
+-- legs are in order as their rows are
+pub legs_ordered : (legs : List Leg) → Ordered DepartsUpTo (map row_of legs) → Ordered LegUpTo legs
+legs_ordered [] o = tt
+legs_ordered (s ∷ ss) o = (λ t a. o.0 t.row (row_among ss t a), legs_ordered ss o.1)
 
 -- rows that are sorted by source and first departure
 pub up_to : (a b : ℕ) (c d : ℤ) → is_lt (ordering_then (nat_cmp a b) (int_cmp c d)) ≡ false → (b < a) ⊎ ((b ≡ a) × (d ≤ℤ c))
@@ -57,17 +57,17 @@ pub sorted_rows : (rows : List Row)
     → Ordered DepartsUpTo rows
 sorted_rows rows up = ordered_from_neighbours DepartsUpTo departs_trans rows (λ k d lt. up_to _ _ _ _ (up k d (omega arith) lt))
 
-module _ (rows sorted : List Row) (p : IsPermutation rows sorted) (stops : List Stop) (are : map row_of stops ≡ sorted) where
-  pub stop_row : (s : Stop) → Among stops s → Among rows s.row
-  stop_row s a = permutation_among rows sorted p s.row (subst (λ (v : List Row). Among v s.row) are (row_among stops s a))
+module _ (rows sorted : List Row) (p : IsPermutation rows sorted) (legs : List Leg) (are : map row_of legs ≡ sorted) where
+  pub leg_row : (s : Leg) → Among legs s → Among rows s.row
+  leg_row s a = permutation_among rows sorted p s.row (subst (λ (v : List Row). Among v s.row) are (row_among legs s a))
 
-  pub stops_hold : (x y : Point) → StopsHold stops x y ↔ RowsHold rows x y
-  stops_hold x y = (
-    λ h. ((h.0).row, stop_row h.0 h.1, h.2),
+  pub legs_hold : (x y : Point) → LegsHold legs x y ↔ RowsHold rows x y
+  legs_hold x y = (
+    λ h. ((h.0).row, leg_row h.0 h.1, h.2),
     λ h.
-        let w = among_row stops h.0 (subst (λ (v : List Row). Among v h.0) (sym are) (among_permutation rows sorted p h.0 h.1)) in
+        let w = among_row legs h.0 (subst (λ (v : List Row). Among v h.0) (sym are) (among_permutation rows sorted p h.0 h.1)) in
         (w.0, w.1, subst (λ (v : Row). InRow v x y) (sym w.2) h.2),
   )
 
-  pub table_of : Ordered StopUpTo stops → ((depth : ℕ) → AreReached depth stops) → ((r : Row) → Among rows r → IsWellFormed r.band) → IsTimetable stops
-  table_of order reach formed = record { order = order; reach = reach; formed = λ s a. formed s.row (stop_row s a) }
+  pub table_of : Ordered LegUpTo legs → ((depth : ℕ) → AreReached depth legs) → ((r : Row) → Among rows r → IsWellFormed r.band) → ((s : Leg) → Among legs s → HasZone s) → IsTimetable legs
+  table_of order reach formed zones = record { order = order; reach = reach; formed = λ s a. formed s.row (leg_row s a); zones = zones }
