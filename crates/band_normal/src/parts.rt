@@ -9,7 +9,7 @@ ghost use Rattle.band_normal.specs.declared.sweep.Effort.{Effort};
 
 use crate::band::Band;
 use crate::cuts::{add_linked, cut_in_two};
-use crate::sweep::{Effort, push_bands, swept};
+use crate::sweep::{Effort, push_present, swept};
 use crate::zones::bands_of;
 use std::alloc::{AllocError, Global};
 use zone_core::Zone;
@@ -140,7 +140,7 @@ pub fn add_parted(
 {
     let mut rows = rows;
     if let [zone] = zones {
-        push_bands(&mut rows, bands_of(zone))?;
+        push_present(&mut rows, bands_of(zone))?;
         return Ok(rows);
     }
     // What one measure leaves together another may part, and each part may then be parted by the first again. Once all three

@@ -50,7 +50,7 @@ pub enum Effort {
 ghost use Rattle.band_normal.specs.declared.sweep.Effort.{Effort};
 
 /// Adds the bands that there are.
-pub fn push_bands(bands: &mut Vec<Band>, more: [Option<Band>; 3]) -> Result<(), AllocError>
+pub fn push_present(bands: &mut Vec<Band>, more: [Option<Band>; 3]) -> Result<(), AllocError>
     ensures { OnOk result (bands.new.items ≡ bands.old.items ++ present more) }
 {
     let [first, second, third] = more;
@@ -66,7 +66,7 @@ fn bands_of_all(alloc: Global, zones: &[Zone]) -> Result<Vec<Band>, AllocError>
 {
     let mut bands = Vec::new(alloc);
     for zone in zones {
-        push_bands(&mut bands, bands_of(zone))?;
+        push_present(&mut bands, bands_of(zone))?;
     }
     Ok(bands)
 }

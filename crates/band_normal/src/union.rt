@@ -11,7 +11,7 @@ ghost use Rattle.band_normal.specs.Zones.{SomeMeets};
 use crate::band::Band;
 use crate::ordering::in_order;
 use crate::parts::{Measure, ROUNDS, add_parted};
-use crate::sweep::push_bands;
+use crate::sweep::push_present;
 use crate::zones::bands_of;
 use std::alloc::{AllocError, Global};
 use zone_core::Zone;
@@ -47,7 +47,7 @@ pub fn normal(alloc: Global, zones: Vec<Zone>) -> Result<Vec<Band>, AllocError>
 {
     let mut rows = Vec::new(alloc);
     if let [zone] = &zones[..] {
-        push_bands(&mut rows, bands_of(zone))?;
+        push_present(&mut rows, bands_of(zone))?;
         return Ok(rows);
     }
     in_order(add_parted(alloc, rows, &zones, Measure::Departure, ROUNDS, 0, CUTS)?)

@@ -1,3 +1,4 @@
+mod Fronts
 pub mod Lists
 pub mod Searches
 pub mod Objects

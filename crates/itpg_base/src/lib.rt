@@ -5,6 +5,7 @@
 #![tactic(auto)]
 
 mod label_set;
+mod leading;
 mod limits;
 mod mem_sink;
 mod mem_source;
@@ -19,6 +20,7 @@ mod text_code;
 mod touch;
 
 pub use label_set::{LabelSet, MAX_LABELS};
+pub use leading::count_leading;
 pub use limits::{Limits, MAX_MOMENT, MAX_OBJECTS, MAX_PROPERTIES, MAX_ROWS, MAX_SPANS};
 pub use mem_sink::MemSink;
 pub use mem_source::{MemSource, SureSource};

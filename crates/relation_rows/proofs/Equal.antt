@@ -8,7 +8,7 @@ use Rattle.band_normal.specs.contracts.band.EndPartialEq.TheImpl as ends
 use Rattle.relation_rows.specs.declared.rows.Row.{Row}
 use Rattle.relation_rows.specs.contracts.rows.RowPartialEq.TheImpl as rows
 
-both_decide : {P Q : Type 0} (a b : Bool) → Decides a P → Decides b Q → Decides (a && b) (P × Q)
+pub both_decide : {P Q : Type 0} (a b : Bool) → Decides a P → Decides b Q → Decides (a && b) (P × Q)
 both_decide true b d e = (λ h. (d.0 refl, e.0 h), λ h. e.1 h.1)
 both_decide false b d e = (λ h. absurd (true≢false (sym h)), λ h. d.1 h.0)
 

@@ -7,6 +7,7 @@ pub mod Finite
 pub mod Partitions
 pub mod Objects
 pub mod Equal
+pub mod EqualZones
 pub mod Keys
 pub mod Pushing
 pub mod Gathering

@@ -15,10 +15,12 @@ ghost use Rattle.relation_rows.specs.Relations.{HasMiddlePoint};
 ghost use Rattle.relation_rows.specs.Ways.{HasBusy, AreComposed, DepartsNoLater, DepartApart};
 
 use crate::gather::{gathered_of, push_zones};
+use crate::known::Known;
 use crate::relations::Relation;
 use crate::rows::{RelFault, Row};
 use crate::timetable::Leg;
 use crate::ways::{FEW, MANY, with_ways};
+use itpg_base::count_leading;
 use std::alloc::{AllocError, Global};
 
 // How many of the rows, from the first on, have its source.
@@ -30,7 +32,7 @@ fn source_count(rows: &[Row], first: &Row) -> usize
     ensures same { (r : PlainRow) → Among (take result rows.now) r → r.source.0 ≡ first.now.source.0 }
     ensures later { (r : PlainRow) → Among (drop result rows.now) r → first.now.source.0 < r.source.0 }
 {
-    rows.partition_point(|row| row.source.0 == first.source.0)
+    count_leading(rows, |row| row.source.0 == first.source.0)
 }
 
 /// The rows from the objects from which there are many.
@@ -98,7 +100,7 @@ fn stretch_len(rows: &[Row]) -> usize
 
 // The relation of the ways that begin with the rows.
 fn of_source(
-    alloc: Global,
+    known: &mut Known,
     rows: &[Row],
     second: &[Row],
     busy: &[Leg],
@@ -108,10 +110,11 @@ fn of_source(
     requires second { AreComposed second.now busy.now }
     ensures { Gives result (HasMiddlePoint rows.now second.now) room }
 {
+    let alloc = known.allocator();
     let mut found = Vec::new(alloc);
     if rows.len() <= FEW {
         let ways = with_ways(Vec::new(alloc), &mut found, rows, second, busy)?;
-        return gathered_of(alloc, ways, room);
+        return gathered_of(known, ways, room);
     }
     let sorted = by_departure(alloc, rows)?;
     let mut kept = Vec::new(alloc);
@@ -122,7 +125,7 @@ fn of_source(
         let (part, later) = left.split_at(stretch_len(left));
         ways = with_ways(ways, &mut found, part, second, busy)?;
         if ways.len() > MANY {
-            let complete = gathered_of(alloc, ways, room - count)?;
+            let complete = gathered_of(known, ways, room - count)?;
             count += complete.rows.len();
             push_zones(&mut kept, &complete.rows)?;
             ways = Vec::new(alloc);
@@ -130,7 +133,7 @@ fn of_source(
         left = later;
     }
     kept.extend_from_slice(&ways)?;
-    gathered_of(alloc, kept, room)
+    gathered_of(known, kept, room)
 }
 
 /// The relation of the ways that begin with the rows and go on in the second. The legs are those of the second's busy objects.
@@ -146,11 +149,12 @@ pub(crate) fn composed(
     requires second { AreComposed second.now busy.now }
     ensures { Gives result (HasMiddlePoint rows.now second.now) max_rows }
 {
+    let mut known = Known::new(alloc);
     let mut done = Vec::new(alloc);
     let mut left = rows;
     while let Some(first) = left.first() {
         let (group, later) = left.split_at(source_count(left, first));
-        let more = of_source(alloc, group, second, busy, max_rows - done.len())?;
+        let more = of_source(&mut known, group, second, busy, max_rows - done.len())?;
         done.extend_from_slice(&more.rows)?;
         left = later;
     }

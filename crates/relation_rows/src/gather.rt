@@ -19,10 +19,11 @@ ghost use Rattle.relation_rows.specs.Answers.{Gives};
 ghost use Rattle.relation_rows.specs.Relations.{Item, ItemsHold, Rise};
 ghost use Rattle.relation_rows.specs.Gathering.{ItemUpTo, HaveOneKey, IsCounted, have_one_key};
 
+use crate::known::Known;
 use crate::relations::Relation;
 use crate::rows::{RelFault, Row};
-use band_normal::{Band, normal, zone_of};
-use itpg_base::ObjNo;
+use band_normal::{Band, bands_of, normal, push_present, zone_of};
+use itpg_base::{ObjNo, count_leading};
 use std::alloc::{AllocError, Global};
 use zone_core::Zone;
 
@@ -44,7 +45,7 @@ fn first_count(items: &[Item], first: &Item) -> usize
     ensures same { (i : Item) → Among (take result items.now) i → HaveOneKey first.now i }
     ensures later { (i : Item) → Among (drop result items.now) i → KeyBefore first.now.0.0 first.now.1.0 i.0.0 i.1.0 }
 {
-    items.partition_point(|item| are_of_one_key(item, first))
+    count_leading(items, |item| are_of_one_key(item, first))
 }
 
 // Adds the zone, if it has a pair that the last one hasn't.
@@ -61,8 +62,8 @@ fn push_zone(zones: &mut Vec<Zone>, zone: &Zone) -> Result<(), AllocError>
     Ok(())
 }
 
-// Zones that have the pairs of the items' zones.
-fn zones_of(alloc: Global, items: &[Item]) -> Result<Vec<Zone>, AllocError>
+/// Zones that have the pairs of the items' zones.
+pub(crate) fn zones_of(alloc: Global, items: &[Item]) -> Result<Vec<Zone>, AllocError>
     ensures { IfOk result (λ zones. (t : ℤ) → (u : ℤ) → SomeMeets zones.items t u ↔ SomeMeets (map (λ (i : Item). i.2) items.now) t u) }
 {
     let mut zones = Vec::new(alloc);
@@ -73,14 +74,20 @@ fn zones_of(alloc: Global, items: &[Item]) -> Result<Vec<Zone>, AllocError>
     Ok(zones)
 }
 
-/// The normal list of the bands of all items.
-pub(crate) fn bands_of_all(alloc: Global, items: &[Item]) -> Result<Vec<Band>, AllocError>
-    ensures normal { IfOk result (λ bands. Normal (SomeMeets (map (λ (i : Item). i.2) items.now)) bands.items) }
-    ensures formed { IfOk result (λ bands. (b : Band) → Among bands.items b → IsWellFormed b) }
+// Fills the list with the normal bands of the items' zones. What it held is gone.
+fn find_bands(bands: &mut Vec<Band>, known: &mut Known, items: &[Item]) -> Result<(), AllocError>
+    ensures normal { OnOk result (Normal (SomeMeets (map (λ (i : Item). i.2) items.now)) bands.new.items) }
+    ensures formed { OnOk result ((b : Band) → Among bands.new.items b → IsWellFormed b) }
 {
-    let zones = zones_of(alloc, items)?;
-    let bands = normal(alloc, zones)?;
-    Ok(bands)
+    if let [item] = items {
+        bands.clear();
+        push_present(bands, bands_of(&item.2))?;
+        return Ok(());
+    }
+    known.learn(items)?;
+    bands.clear();
+    bands.extend_from_slice(known.bands())?;
+    Ok(())
 }
 
 /// The bands as rows of the source and target, behind those that there are.
@@ -103,16 +110,18 @@ pub(crate) fn push_bands(
 }
 
 /// The relation of the items, which stand by source and target.
-pub(crate) fn gathered(alloc: Global, items: &[Item], room: usize) -> Result<Relation, RelFault>
+pub(crate) fn gathered(known: &mut Known, items: &[Item], room: usize) -> Result<Relation, RelFault>
     requires { Ordered ItemUpTo items.now }
     ensures gives { Gives result (ItemsHold items.now) room }
     ensures counted { IsCounted result room }
 {
-    let mut rows = Vec::new(alloc);
+    let mut rows = Vec::new(known.allocator());
+    let mut bands = Vec::new(known.allocator());
     let mut left = items;
     while let Some(first) = left.first() {
         let (group, later) = left.split_at(first_count(left, first));
-        push_bands(&mut rows, first.0, first.1, &bands_of_all(alloc, group)?)?;
+        find_bands(&mut bands, known, group)?;
+        push_bands(&mut rows, first.0, first.1, &bands)?;
         if rows.len() > room {
             return Err(RelFault::Wide);
         }
@@ -123,7 +132,7 @@ pub(crate) fn gathered(alloc: Global, items: &[Item], room: usize) -> Result<Rel
 
 /// The relation of the items, in whatever order they stand.
 pub(crate) fn gathered_of(
-    alloc: Global,
+    known: &mut Known,
     mut items: Vec<Item>,
     room: usize,
 ) -> Result<Relation, RelFault>
@@ -131,14 +140,14 @@ pub(crate) fn gathered_of(
     ensures counted { IsCounted result room }
 {
     items.sort_unstable_by_key(|item| (item.0, item.1));
-    gathered(alloc, &items, room)
+    gathered(known, &items, room)
 }
 
 /// The relation of the items, whatever number of rows it has.
 pub(crate) fn gathered_all(alloc: Global, items: Vec<Item>) -> Result<Relation, AllocError>
     ensures { IfOk result (λ rows. NormalRows (ItemsHold items.items) rows) }
 {
-    match gathered_of(alloc, items, usize::MAX) {
+    match gathered_of(&mut Known::new(alloc), items, usize::MAX) {
         Ok(relation) => Ok(relation),
         Err(RelFault::Memory) => Err(AllocError),
         Err(RelFault::Wide) => unreachable!(),

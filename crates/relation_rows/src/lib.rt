@@ -9,6 +9,7 @@
 pub mod answered;
 mod compose;
 mod gather;
+mod known;
 pub mod laws;
 mod minus;
 mod parting;

@@ -13,6 +13,7 @@ ghost use Rattle.relation_rows.specs.Relations.{ItemsHold, Rise, IsItself, Eithe
 
 use crate::compose::{busy_rows, composed};
 use crate::gather::{each_to_itself, gathered_all, gathered_of};
+use crate::known::Known;
 use crate::minus::only_in_first;
 use crate::rows::{RelFault, Row};
 use crate::search::{is_in_band, rows_between, rows_of_key};
@@ -128,7 +129,7 @@ impl Relation {
     ) -> Result<Relation, RelFault>
         ensures { Gives result (ItemsHold items.items) max_rows }
     {
-        gathered_of(alloc, items, max_rows as usize)
+        gathered_of(&mut Known::new(alloc), items, max_rows as usize)
     }
 
     /// The pairs of either relation. `Wide` exactly where its normal rows are more than `max_rows`.

@@ -13,11 +13,12 @@ ghost use Rattle.relation_rows.specs.Answers.{Gives};
 ghost use Rattle.relation_rows.specs.Relations.{EitherHolds};
 ghost use Rattle.relation_rows.specs.Uniting.{KeyUpTo, IsNext, IsPart, EitherHas, HasPushed};
 
-use crate::gather::{bands_of_all, push_bands, push_zones};
+use crate::gather::{push_bands, push_zones};
+use crate::known::Known;
 use crate::relations::Relation;
 use crate::rows::{RelFault, Row};
 use crate::search::{comes_before_key, is_of_key};
-use band_normal::Band;
+use itpg_base::count_leading;
 use std::alloc::{AllocError, Global};
 
 // Of both lists a first row, whose source and target come first.
@@ -48,25 +49,31 @@ fn leading(rows: &[Row], key: &Row) -> usize
     ensures same { (r : PlainRow) → Among (take result rows.now) r → HasKey r key.now.source.0 key.now.target.0 }
     ensures later { (r : PlainRow) → Among (drop result rows.now) r → KeyBefore key.now.source.0 key.now.target.0 r.source.0 r.target.0 }
 {
-    rows.partition_point(|row| is_of_key(row, key.source, key.target))
+    count_leading(rows, |row| is_of_key(row, key.source, key.target))
 }
 
-// The normal list of the bands of both.
-fn bands_of_both(alloc: Global, here: &[Row], there: &[Row]) -> Result<Vec<Band>, AllocError>
+// Learns the normal bands of both.
+fn learn_both(known: &mut Known, here: &[Row], there: &[Row]) -> Result<(), AllocError>
     requires here { (r : PlainRow) → Among here.now r → IsWellFormed r.band }
     requires there { (r : PlainRow) → Among there.now r → IsWellFormed r.band }
-    ensures normal { IfOk result (λ bands. Normal (EitherHas here.now there.now) bands.items) }
-    ensures formed { IfOk result (λ bands. (b : PlainBand) → Among bands.items b → IsWellFormed b) }
+    ensures normal { OnOk result (Normal (EitherHas here.now there.now) known.new) }
+    ensures formed { OnOk result ((b : PlainBand) → Among known.new b → IsWellFormed b) }
 {
-    let mut items = Vec::new(alloc);
+    let mut items = Vec::new(known.allocator());
     push_zones(&mut items, here)?;
     push_zones(&mut items, there)?;
-    let bands = bands_of_all(alloc, &items)?;
-    Ok(bands)
+    known.learn(&items)?;
+    Ok(())
 }
 
 // Adds the rows of one source and one target.
-fn push_both(rows: &mut Vec<Row>, key: &Row, here: &[Row], there: &[Row]) -> Result<(), AllocError>
+fn push_both(
+    rows: &mut Vec<Row>,
+    known: &mut Known,
+    key: &Row,
+    here: &[Row],
+    there: &[Row],
+) -> Result<(), AllocError>
     requires here { IsPart key.now here.now }
     requires there { IsPart key.now there.now }
     ensures { OnOk result (HasPushed key.now here.now there.now rows.old.items rows.new.items) }
@@ -83,8 +90,8 @@ fn push_both(rows: &mut Vec<Row>, key: &Row, here: &[Row], there: &[Row]) -> Res
         rows.extend_from_slice(here)?;
         return Ok(());
     }
-    let bands = bands_of_both(*rows.allocator(), here, there)?;
-    push_bands(rows, key.source, key.target, &bands)?;
+    learn_both(known, here, there)?;
+    push_bands(rows, key.source, key.target, known.bands())?;
     Ok(())
 }
 
@@ -100,12 +107,13 @@ pub(crate) fn united(
     ensures { Gives result (EitherHolds first.now second.now) max_rows }
 {
     let mut rows = Vec::new(alloc);
+    let mut known = Known::new(alloc);
     let mut left = first;
     let mut right = second;
     while let Some(key) = next_row(left, right) {
         let (here, later) = left.split_at(leading(left, &key));
         let (there, others) = right.split_at(leading(right, &key));
-        push_both(&mut rows, &key, here, there)?;
+        push_both(&mut rows, &mut known, &key, here, there)?;
         if rows.len() > max_rows {
             return Err(RelFault::Wide);
         }

@@ -22,13 +22,13 @@ one_normal (z ∷ y ∷ more) zone rows some few is n = absurd (omega arith)
 
 pub returns-in-len1-clause-normal : goal.returns-in-len1-clause-normal
 returns-in-len1-clause-normal c =
-    let same = alone_is _ _ _ c.new-rows.ensures.items c.in_ok-push_bands.ensures in
-    subst (λ (zones : List Bounds). Normal (SomeMeets zones) c.push_bands.new.bands.items) c.deref.ensures.value
+    let same = alone_is _ _ _ c.new-rows.ensures.items c.in_ok-push_present.ensures in
+    subst (λ (zones : List Bounds). Normal (SomeMeets zones) c.push_present.new.bands.items) c.deref.ensures.value
     (one_normal c.deref.result.now c.zone-item.result _ c.in-len1.len_at_least c.in-len1.len_below c.zone-item.is (subst (λ (v : List Band). Normal (Meets c.zone-item.result) v) same c.bands_of.ensures.normal))
 
 pub returns-in-len1-clause-well_formed : goal.returns-in-len1-clause-well_formed
 returns-in-len1-clause-well_formed c =
-    let same = alone_is _ _ _ c.new-rows.ensures.items c.in_ok-push_bands.ensures in
+    let same = alone_is _ _ _ c.new-rows.ensures.items c.in_ok-push_present.ensures in
     subst (λ (v : List Band). (b : Band) → Among v b → IsWellFormed b) same c.bands_of.ensures.well_formed
 
 pub in_order-requires : goal.in_order-requires

@@ -14,14 +14,14 @@ loop-first-init c = (
 pub returns-then-len-room-clause-gives : goal.returns-then-len-room-clause-gives
 returns-then-len-room-clause-gives c = step_wide c.args.items.now c.loop-first.left.now c.loop-first.rows.items c.loop-first.invariant.0 c.in-Some.first.now c.in-Some.ensures.value c.first_count.result
     c.first_count.ensures.same c.first_count.ensures.later c.split_at.result.0.now c.split_at.result.1.now c.split_at.ensures.front c.split_at.ensures.back
-    c.in_ok-bands_of_all.field-0.items c.deref.result.now c.deref.ensures.value c.in_ok-bands_of_all.ensures.normal c.in_ok-bands_of_all.ensures.formed
+    c.find_bands.new.bands.items c.deref.result.now c.deref.ensures.value c.in_ok-find_bands.ensures.normal c.in_ok-find_bands.ensures.formed
     c.push_bands.new.rows.items c.in_ok-push_bands.ensures c.args.room (omega arith)
 
 pub loop-first-preserved : goal.loop-first-preserved
 loop-first-preserved c = (
   step_gathered c.args.items.now c.loop-first.left.now c.loop-first.rows.items c.loop-first.invariant.0 c.in-Some.first.now c.in-Some.ensures.value c.first_count.result
       c.first_count.ensures.same c.first_count.ensures.later c.split_at.result.0.now c.split_at.result.1.now c.split_at.ensures.front c.split_at.ensures.back
-      c.in_ok-bands_of_all.field-0.items c.deref.result.now c.deref.ensures.value c.in_ok-bands_of_all.ensures.normal c.in_ok-bands_of_all.ensures.formed
+      c.find_bands.new.bands.items c.deref.result.now c.deref.ensures.value c.in_ok-find_bands.ensures.normal c.in_ok-find_bands.ensures.formed
       c.push_bands.new.rows.items c.in_ok-push_bands.ensures,
   omega arith,
 )

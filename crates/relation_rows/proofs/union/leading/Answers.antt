@@ -6,9 +6,9 @@ use Rattle.relation_rows.proofs.Merged.{leading_partitioned, leading_same, leadi
 use Rattle.relation_rows.proofs.union.leading.Goals as goal
 
 pub returns-clause-same : goal.returns-clause-same
-returns-clause-same c = leading_same c.args.rows.now c.args.key.now c.requires.order c.requires.up c.partition_point.result c.partition_point.ensures.bound
-    (IsPartitionPoint-from_clause (λ (r : Row). has_key r c.args.key.now.source.0 c.args.key.now.target.0) _ _ c.partition_point.ensures.partitioned (leading_partitioned c.args.rows.now c.args.key.now c.requires.order c.requires.up) (λ a r f k. search (rules, of_calls)))
+returns-clause-same c = leading_same c.args.rows.now c.args.key.now c.requires.order c.requires.up c.count_leading.result c.count_leading.ensures.bound
+    (IsPartitionPoint-from_clause (λ (r : Row). has_key r c.args.key.now.source.0 c.args.key.now.target.0) _ _ c.count_leading.ensures.partitioned (leading_partitioned c.args.rows.now c.args.key.now c.requires.order c.requires.up) (λ a r f k. search (rules, of_calls)))
 
 pub returns-clause-later : goal.returns-clause-later
-returns-clause-later c = leading_later c.args.rows.now c.args.key.now c.requires.order c.requires.up c.partition_point.result c.partition_point.ensures.bound
-    (IsPartitionPoint-from_clause (λ (r : Row). has_key r c.args.key.now.source.0 c.args.key.now.target.0) _ _ c.partition_point.ensures.partitioned (leading_partitioned c.args.rows.now c.args.key.now c.requires.order c.requires.up) (λ a r f k. search (rules, of_calls)))
+returns-clause-later c = leading_later c.args.rows.now c.args.key.now c.requires.order c.requires.up c.count_leading.result c.count_leading.ensures.bound
+    (IsPartitionPoint-from_clause (λ (r : Row). has_key r c.args.key.now.source.0 c.args.key.now.target.0) _ _ c.count_leading.ensures.partitioned (leading_partitioned c.args.rows.now c.args.key.now c.requires.order c.requires.up) (λ a r f k. search (rules, of_calls)))

@@ -27,8 +27,8 @@ returns-then-eq c =
 pub returns : goal.returns
 returns c =
     let pushed = c.in_ok-push_bands.ensures in (
-      c.in_ok-bands.bands.items,
-      c.in_ok-bands.ensures.normal,
-      c.in_ok-bands.ensures.formed,
-      pushed ∙ ap (λ (v : List Band). c.args.rows.now.items ++ rows_at c.args.key.now.source.0 c.args.key.now.target.0 v) c.deref.ensures.value,
+      c.learn_both.new.known,
+      c.in_ok-learn_both.ensures.normal,
+      c.in_ok-learn_both.ensures.formed,
+      pushed ∙ ap (λ (v : List Band). c.args.rows.now.items ++ rows_at c.args.key.now.source.0 c.args.key.now.target.0 v) c.bands.ensures,
     )

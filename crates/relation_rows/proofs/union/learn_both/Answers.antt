@@ -4,7 +4,7 @@ use Rattle.band_normal.specs.Zones.{SomeMeets}
 use Rattle.relation_rows.specs.Relations.{Item}
 use Rattle.relation_rows.proofs.Uniting.{items_either, either_items}
 use Rattle.relation_rows.proofs.Merged.{both_normal}
-use Rattle.relation_rows.proofs.union.bands_of_both.Goals as goal
+use Rattle.relation_rows.proofs.union.learn_both.Goals as goal
 
 pub returns-clause-normal : goal.returns-clause-normal
 returns-clause-normal c =
@@ -13,5 +13,5 @@ returns-clause-normal c =
       items_either c.args.here.now c.args.there.now c.new-items.result.items c.push_zones.new.items.items c.push_zones-2.new.items.items c.new-items.ensures.items c.in_ok-push_zones.ensures c.in_ok-push_zones-2.ensures x y,
       either_items c.args.here.now c.args.there.now c.new-items.result.items c.push_zones.new.items.items c.push_zones-2.new.items.items c.new-items.ensures.items c.in_ok-push_zones.ensures c.in_ok-push_zones-2.ensures x y,
     ))
-    c.in_ok-bands.bands.items
-    (subst (λ (v : List Item). Normal (SomeMeets (map (λ (i : Item). i.2) v)) c.in_ok-bands.bands.items) c.deref.ensures.value c.in_ok-bands.ensures.normal)
+    c.learn.new.self
+    (subst (λ (v : List Item). Normal (SomeMeets (map (λ (i : Item). i.2) v)) c.learn.new.self) c.deref.ensures.value c.in_ok-learn.ensures.normal)
