@@ -12,3 +12,4 @@ pub mod Points
 pub mod Walks
 pub mod Outside
 pub mod Devices
+pub mod Sinks
