@@ -15,8 +15,8 @@ fn main(rt: HostRuntime) -> ExitCode {
         }
         Err(status) => status,
     };
-    if let Some(message) = message(status) {
-        let _ = eprintln!(rt; "itpg: {message}");
+    if !matches!(status, Status::Done | Status::DoneRefused) {
+        let _ = eprintln!(rt; "itpg: {status}");
     }
     ExitCode::from(status.code())
 }
@@ -31,17 +31,5 @@ fn words(rt: &HostRuntime) -> Result<Vec<String>, Status> {
     match all.skip(1).collect::<Vec<_>>(rt.alloc()) {
         Ok(words) => Ok(words),
         Err(_) => Err(Status::Memory),
-    }
-}
-
-/// What is said of a run that didn't end well.
-fn message(status: Status) -> Option<&'static str> {
-    match status {
-        Status::Done | Status::DoneRefused => None,
-        Status::Usage => Some("usage: itpg [--max-rows N] [--trial NUMBER]"),
-        Status::ReadFault => Some("read fault"),
-        Status::WriteFault => Some("write fault"),
-        Status::Memory => Some("out of memory"),
-        Status::TooLong => Some("input too long"),
     }
 }

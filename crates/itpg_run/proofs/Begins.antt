@@ -2,14 +2,14 @@
 use Rattle.std.proofs.Common.{◌≡◌, ℕ, Bool, Some, None, List, [], ◌++◌, IfSome, take, drop, refl, ap, ◌∙◌, sym, subst, append_assoc, append-nil, take-append-drop, false, true}
 use Rattle.std.specs.declared.option.Option.{Option}
 use Rattle.itpg_base.specs.Outside.{AppendsSome}
-use Rattle.itpg_session.specs.Machine.{Turn, opening, quiet_turn}
+use Rattle.itpg_session.specs.Machine.{opening}
 use Rattle.itpg_run.specs.Lines.{lines, whole}
 use Rattle.std.proofs.KnownBytes.{Appends-nil, Consumes-nil}
-use Rattle.itpg_run.specs.Out.{Runs, IsOut}
+use Rattle.itpg_run.specs.Out.{Output, no_output, Runs, IsOut}
 use Rattle.itpg_run.specs.Served.{longest, Served, WritesAs, WritesWithin, WritesOut, BeginsEach, IsIdle}
 use Rattle.itpg_run.specs.Tried.{Tried}
 use Rattle.trial_script.specs.Script.{script}
-use Rattle.trial_run.specs.Summary.{Tells, nothing}
+use Rattle.itpg_run.specs.Summary.{Tells, nothing}
 use Rattle.itpg_run.specs.declared.Status.{Status}
 use Rattle.itpg_run.specs.declared.Status.TheVariants.{Done, DoneRefused, Usage, ReadFault, WriteFault, Memory, TooLong}
 use Rattle.itpg_run.proofs.MachineLaws.{Laws}
@@ -20,19 +20,19 @@ some_longer : (held now : Option (List ℕ)) (xs ys zs : List ℕ) → AppendsSo
 some_longer held now xs ys zs a e = record { taken = a.taken; rest = a.rest ++ ys; split = sym (append_assoc a.taken a.rest ys) ∙ ap (λ t. t ++ ys) a.split ∙ e; appends = a.appends }
 
 -- by uniqueness: whatever the output is, a front part of it was written
-within_each : Laws → (limit : ℕ) (held now : Option (List ℕ)) (all : List ℕ) → WritesWithin limit held now all → (t : Turn) → IsOut limit all t → AppendsSome held now t.text
+within_each : Laws → (limit : ℕ) (held now : Option (List ℕ)) (all : List ℕ) → WritesWithin limit held now all → (t : Output) → IsOut limit all t → AppendsSome held now t.text
 within_each laws limit held now all w t out =
     let p = runs-part limit opening 1 w.front w.rest t (subst (λ ls. Runs limit opening 1 ls t) (sym w.split) out) in
-    let same : w.turn ≡ p.front = one_run laws limit opening 1 w.front w.turn p.front laws.opening w.runs p.runs in
-    some_longer held now w.turn.text p.rest.text t.text w.some (ap (λ u. u.text ++ p.rest.text) same ∙ sym (ap (λ u. u.text) p.is))
+    let same : w.output ≡ p.front = one_run laws limit opening 1 w.front w.output p.front laws.opening w.runs p.runs in
+    some_longer held now w.output.text p.rest.text t.text w.some (ap (λ u. u.text ++ p.rest.text) same ∙ sym (ap (λ u. u.text) p.is))
 
 all_within : (limit : ℕ) (held now : Option (List ℕ)) (bytes : List ℕ) (failing : Bool) → WritesAs limit held now bytes failing → WritesWithin limit held now bytes
-all_within limit held now bytes failing w = record { front = lines bytes; rest = []; split = append-nil _; turn = w.turn; runs = w.out; some = record { taken = w.turn.text; rest = []; split = append-nil _; appends = w.written } }
+all_within limit held now bytes failing w = record { front = lines bytes; rest = []; split = append-nil _; output = w.output; runs = w.out; some = record { taken = w.output.text; rest = []; split = append-nil _; appends = w.written } }
 
 whole_within : (limit : ℕ) (held now : Option (List ℕ)) (xs more all : List ℕ) → xs ++ more ≡ all → WritesOut limit held now (whole xs) → WritesWithin limit held now all
 whole_within limit held now xs more all e w =
     let l = lines_front xs more in
-    record { front = lines (whole xs); rest = l.0; split = l.1 ∙ ap lines e; turn = w.turn; runs = w.out; some = record { taken = w.turn.text; rest = []; split = append-nil _; appends = w.written } }
+    record { front = lines (whole xs); rest = l.0; split = l.1 ∙ ap lines e; output = w.output; runs = w.out; some = record { taken = w.output.text; rest = []; split = append-nil _; appends = w.written } }
 
 served_within : (limit : ℕ) (status : Status) (before left held now : Option (List ℕ)) → Served status limit before left held now → IfSome before (λ all. WritesWithin limit held now all)
 served_within limit status None left held now s = tt
@@ -58,7 +58,7 @@ unfolding Runs lines whole
 nothing_served limit left held = record {
   bytes = [];
   taken = Consumes-nil left;
-  writes = record { front = []; rest = []; split = refl; writes = record { turn = quiet_turn opening; out = refl; written = Appends-nil held } };
+  writes = record { front = []; rest = []; split = refl; writes = record { output = no_output opening; out = refl; written = Appends-nil held } };
 }
 
 pub nothing_tried : (limit number : ℕ) (left held : Option (List ℕ)) → Tried Memory limit number left left held held

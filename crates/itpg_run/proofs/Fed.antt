@@ -3,9 +3,9 @@ use Rattle.std.proofs.Common.{◌≡◌, ℕ, ◌+◌, Some, None, List, [], ◌
 use Rattle.std.specs.declared.option.Option.{Option}
 use Rattle.std.specs.Io.KnownBytes.{Appends, Keeps}
 use Rattle.std.proofs.KnownBytes.{Appends-trans}
-use Rattle.itpg_session.specs.Machine.{Turn, opening, Replies}
+use Rattle.itpg_session.specs.Machine.{opening}
 use Rattle.itpg_run.specs.Lines.{kept, lines, whole}
-use Rattle.itpg_run.specs.Out.{both, Runs}
+use Rattle.itpg_run.specs.Out.{Output, LineOut, both, Runs}
 use Rattle.itpg_run.specs.Split.{NoEnd, NoEnds, joined, last_line}
 use Rattle.itpg_run.specs.Served.{WritesLines, WritesOut, WritesAs, WritesWithin}
 use Rattle.itpg_run.specs.Fed.{RepliesTo, AnswersWithin, Fed, EndsLine}
@@ -32,7 +32,7 @@ fed_piece limit start now old new bytes piece s e session number failing line = 
   split = sym (append_assoc (joined s.lines) s.rest piece) ∙ ap (λ t. t ++ piece) s.split;
   ended = s.ended;
   open_end = NoEnd-append s.rest piece s.open_end e;
-  turn = s.turn;
+  output = s.output;
   runs = s.runs;
   session = session ∙ s.session;
   number = number ∙ s.number;
@@ -42,12 +42,12 @@ fed_piece limit start now old new bytes piece s e session number failing line = 
 }
 
 -- what the session answers is what the machine answers to the whole line
-replies_rest : (limit : ℕ) (start now : Option (List ℕ)) (r : Reader) (bytes : List ℕ) → (s : Fed limit start now r bytes) → (t : Turn) → RepliesTo r t → Replies limit s.turn.next (1 + length s.lines) s.rest t
+replies_rest : (limit : ℕ) (start now : Option (List ℕ)) (r : Reader) (bytes : List ℕ) → (s : Fed limit start now r bytes) → (t : Output) → RepliesTo r t → LineOut limit s.output.next (1 + length s.lines) s.rest t
 replies_rest limit start now r bytes s t a =
-    subst (λ n. Replies limit s.turn.next n s.rest t) s.number (subst (λ m. Replies m.limit m.machine r.number s.rest t) s.session (a s.rest s.line))
+    subst (λ n. LineOut limit s.output.next n s.rest t) s.number (subst (λ m. LineOut m.limit m.machine r.number s.rest t) s.session (a s.rest s.line))
 
-runs_rest : (limit : ℕ) (start now : Option (List ℕ)) (r : Reader) (bytes : List ℕ) → (s : Fed limit start now r bytes) → (t : Turn) → RepliesTo r t → Runs limit opening 1 (s.lines ++ s.rest ∷ []) (both s.turn t)
-runs_rest limit start now r bytes s t a = runs-push limit opening 1 s.lines s.rest s.turn t s.runs (replies_rest limit start now r bytes s t a)
+runs_rest : (limit : ℕ) (start now : Option (List ℕ)) (r : Reader) (bytes : List ℕ) → (s : Fed limit start now r bytes) → (t : Output) → RepliesTo r t → Runs limit opening 1 (s.lines ++ s.rest ∷ []) (both s.output t)
+runs_rest limit start now r bytes s t a = runs-push limit opening 1 s.lines s.rest s.output t s.runs (replies_rest limit start now r bytes s t a)
 
 -- the end of a line
 pub fed_line : (limit : ℕ) (start before now : Option (List ℕ)) (old new : Reader) (bytes : List ℕ)
@@ -58,12 +58,12 @@ fed_line limit start before now old new bytes s e = record {
   split = append-nil _ ∙ joined-push s.lines s.rest ∙ sym (append_assoc (joined s.lines) s.rest (10 ∷ [])) ∙ ap (λ t. t ++ 10 ∷ []) s.split;
   ended = NoEnds-push s.lines s.rest s.ended s.open_end;
   open_end = tt;
-  turn = both s.turn e.turn;
-  runs = runs_rest limit start before old bytes s e.turn e.replies;
-  session = e.session ∙ ap (λ m. record { machine = e.turn.next; limit = m.limit }) s.session;
+  output = both s.output e.output;
+  runs = runs_rest limit start before old bytes s e.output e.replies;
+  session = e.session ∙ ap (λ m. record { machine = e.output.next; limit = m.limit }) s.session;
   number = omega (arith, s.number, e.number, length-append s.lines (s.rest ∷ []));
   line = e.line ∙ sym (take_nothing kept);
-  failing = e.failing ∙ ap (λ t. t || e.turn.failing) s.failing;
+  failing = e.failing ∙ ap (λ t. t || e.output.failing) s.failing;
   written = Appends-trans start before now _ _ s.written e.written;
 }
 
@@ -80,7 +80,7 @@ lines_whole limit start now r bytes s = ap (λ t. lines (whole t)) (sym s.split)
 
 -- the replies to whole lines are the output over them
 pub fed_out_whole : (limit : ℕ) (start now : Option (List ℕ)) (r : Reader) (bytes : List ℕ) → Fed limit start now r bytes → WritesOut limit start now (whole bytes)
-fed_out_whole limit start now r bytes s = record { turn = s.turn; out = subst (λ ls. Runs limit opening 1 ls s.turn) (sym (lines_whole limit start now r bytes s)) s.runs; written = s.written }
+fed_out_whole limit start now r bytes s = record { output = s.output; out = subst (λ ls. Runs limit opening 1 ls s.output) (sym (lines_whole limit start now r bytes s)) s.runs; written = s.written }
 
 -- nothing more was written
 pub fed_whole : (limit : ℕ) (start before now : Option (List ℕ)) (r : Reader) (bytes more : List ℕ) → Fed limit start before r bytes → Keeps before now → WritesLines limit start now (bytes ++ more)
@@ -88,7 +88,7 @@ fed_whole limit start before now r bytes more s keeps = record {
   front = bytes;
   rest = more;
   split = refl;
-  writes = let w = fed_out_whole limit start before r bytes s in record { turn = w.turn; out = w.out; written = Appends-kept start before now _ w.written keeps };
+  writes = let w = fed_out_whole limit start before r bytes s in record { output = w.output; out = w.out; written = Appends-kept start before now _ w.written keeps };
 }
 
 -- a front part of a reply was written behind what was written
@@ -98,12 +98,12 @@ within limit start before now r bytes all rest s w e = record {
   front = s.lines ++ s.rest ∷ [];
   rest = rest;
   split = e;
-  turn = both s.turn w.turn;
-  runs = runs_rest limit start before r bytes s w.turn w.replies;
+  output = both s.output w.output;
+  runs = runs_rest limit start before r bytes s w.output w.replies;
   some = record {
-    taken = s.turn.text ++ w.some.taken;
+    taken = s.output.text ++ w.some.taken;
     rest = w.some.rest;
-    split = append_assoc s.turn.text w.some.taken w.some.rest ∙ ap (λ t. s.turn.text ++ t) w.some.split;
+    split = append_assoc s.output.text w.some.taken w.some.rest ∙ ap (λ t. s.output.text ++ t) w.some.split;
     appends = Appends-trans start before now _ _ s.written w.some.appends;
   };
 }
@@ -137,16 +137,16 @@ lines_with_last limit start now r bytes s some = lines_of limit start now r byte
 pub ends_whole : (limit : ℕ) (start now : Option (List ℕ)) (r : Reader) (bytes : List ℕ) → Fed limit start now r bytes → r.line.items ≡ [] → WritesAs limit start now bytes r.failing
 ends_whole limit start now r bytes s e =
     let are : lines bytes ≡ s.lines = lines_of limit start now r bytes s ∙ ap (λ t. s.lines ++ last_line t) (take_none kept s.rest (omega (arith, kept_is)) (sym s.line ∙ e)) ∙ append-nil s.lines in
-    record { turn = s.turn; out = subst (λ ls. Runs limit opening 1 ls s.turn) (sym are) s.runs; written = s.written; fails = sym s.failing }
+    record { output = s.output; out = subst (λ ls. Runs limit opening 1 ls s.output) (sym are) s.runs; written = s.written; fails = sym s.failing }
 
 -- a last line without an end
 pub ends_line : (limit : ℕ) (start before now : Option (List ℕ)) (old new : Reader) (bytes : List ℕ)
     → Fed limit start before old bytes → old.line.items ≢ [] → EndsLine before now old new → WritesAs limit start now bytes new.failing
 ends_line limit start before now old new bytes s some e = record {
-  turn = both s.turn e.turn;
-  out = subst (λ ls. Runs limit opening 1 ls (both s.turn e.turn)) (sym (lines_with_last limit start before old bytes s some)) (runs_rest limit start before old bytes s e.turn e.replies);
+  output = both s.output e.output;
+  out = subst (λ ls. Runs limit opening 1 ls (both s.output e.output)) (sym (lines_with_last limit start before old bytes s some)) (runs_rest limit start before old bytes s e.output e.replies);
   written = Appends-trans start before now _ _ s.written e.written;
-  fails = sym (e.failing ∙ ap (λ t. t || e.turn.failing) s.failing);
+  fails = sym (e.failing ∙ ap (λ t. t || e.output.failing) s.failing);
 }
 
 pub ends_within : (limit : ℕ) (start before now : Option (List ℕ)) (r : Reader) (bytes : List ℕ)

@@ -2,13 +2,14 @@
 use Rattle.std.proofs.Common.{◌≡◌, ℕ, zero, suc, ◌+◌, ◌-◌, ◌<◌, ◌≤◌, min, List, [], ◌∷◌, ◌++◌, ◌∙◌, length, take, arith, ap, sym, subst, refl}
 use Rattle.std.proofs.lemmas.List.{take_min}
 use Rattle.std.proofs.Math.Seq.{take-append-add}
-use Rattle.std.specs.declared.option.Option.{Option}
+use Rattle.itpg_base.specs.declared.outside.Sink.{Ghosts}
 use Rattle.itpg_session.specs.Machine.{Standing, Turn, Replies}
 use Rattle.itpg_session.specs.MachineLaws.{FrontReplies}
 use Rattle.itpg_session.specs.Steps.{Stepped, StepsWithin}
-use Rattle.itpg_session.specs.declared.session.Seen.{Seen}
+use Rattle.itpg_session.specs.declared.reply.Seen.{Seen}
 use Rattle.itpg_run.specs.Lines.{kept}
-use Rattle.itpg_run.specs.Fed.{RepliesTo, AnswersWithin}
+use Rattle.itpg_run.specs.Out.{written}
+use Rattle.itpg_run.specs.Fed.{RepliesTo, AnswersLine, AnswersWithin}
 use Rattle.itpg_run.specs.declared.reader.Reader.{Reader}
 
 pub take_past : (xs ys : List ℕ) (n : ℕ) → length xs ≤ n → take n (xs ++ ys) ≡ xs ++ take (n - length xs) ys
@@ -41,14 +42,18 @@ keeps_front m xs ys n h e = ap (λ t. xs ++ t) (ap (λ k. take k ys) e ∙ take_
 pub keeps : (xs ys : List ℕ) (n : ℕ) → length xs ≤ 65538 → n ≡ min (65538 - length xs) (length ys) → xs ++ take n ys ≡ take kept (xs ++ ys)
 keeps xs ys n h e = subst (λ m. xs ++ take n ys ≡ take m (xs ++ ys)) (sym kept_is) (keeps_front 65538 xs ys n h e)
 
--- a turn of what is kept is one of each line with this front
-replies_to : FrontReplies → (r : Reader) (front : List ℕ) → front ≡ r.line.items → (turn : Turn) → Replies r.session.limit r.session.machine r.number front turn → RepliesTo r turn
+-- a turn of what is kept gives each line with this front its output
+replies_to : FrontReplies → (r : Reader) (front : List ℕ) → front ≡ r.line.items → (turn : Turn) → Replies r.session.limit r.session.machine front turn → RepliesTo r (written r.session.machine r.number turn)
 replies_to fronts r front is turn a = λ line e.
-    (fronts r.session.limit r.session.machine r.number line kept turn (omega (arith, kept_is))).0 (subst (λ f. Replies r.session.limit r.session.machine r.number f turn) (is ∙ e) a)
+    record {
+      turn = turn;
+      replies = (fronts r.session.limit r.session.machine line kept turn (omega (arith, kept_is))).0 (subst (λ f. Replies r.session.limit r.session.machine f turn) (is ∙ e) a);
+      is = refl;
+    }
 
-pub stepped_to : FrontReplies → (r : Reader) (front : List ℕ) → front ≡ r.line.items → (held now : Option (List ℕ)) (new : Standing) (seen : Seen)
-    → Stepped (λ turn. Replies r.session.limit r.session.machine r.number front turn) held now r.session new seen → Stepped (RepliesTo r) held now r.session new seen
-stepped_to fronts r front is held now new seen s = record { turn = s.turn; replies = replies_to fronts r front is s.turn s.replies; written = s.written; next = s.next; sees = s.sees }
+module _ {K : Type 0} (sink : Ghosts K) (before after : K) (fronts : FrontReplies) (r : Reader) (front : List ℕ) (is : front ≡ r.line.items) where
+  pub stepped_to : (new : Standing) (seen : Seen) → Stepped sink before after (Replies r.session.limit r.session.machine front) r.number r.session new seen → AnswersLine (sink.held before) (sink.held after) r new seen
+  stepped_to new seen s = record { output = written r.session.machine r.number s.turn; replies = replies_to fronts r front is s.turn s.turns; written = s.written; next = s.next; sees = s.sees }
 
-pub within_to : FrontReplies → (r : Reader) (front : List ℕ) → front ≡ r.line.items → (held now : Option (List ℕ)) → StepsWithin (λ turn. Replies r.session.limit r.session.machine r.number front turn) held now → AnswersWithin held now r
-within_to fronts r front is held now s = record { turn = s.turn; replies = replies_to fronts r front is s.turn s.replies; some = s.some }
+  pub within_to : StepsWithin sink before after (Replies r.session.limit r.session.machine front) r.number r.session → AnswersWithin (sink.held before) (sink.held after) r
+  within_to s = record { output = written r.session.machine r.number s.turn; replies = replies_to fronts r front is s.turn s.turns; some = s.some }

@@ -7,3 +7,7 @@ pub mod Feeding
 pub mod Pumped
 pub mod Output
 pub mod Begins
+pub mod Residues
+pub mod Length
+pub mod Telling
+pub mod Underway

@@ -4,8 +4,8 @@ use Rattle.std.specs.declared.option.Option.{Option}
 use Rattle.std.specs.Io.KnownBytes.{Consumes, Keeps, IsAtEnd}
 use Rattle.std.proofs.KnownBytes.{Consumes-trans, Consumes-kept, Appends-nil}
 use Rattle.itpg_run.specs.Lines.{kept, whole}
-use Rattle.itpg_run.specs.Out.{Runs}
-use Rattle.itpg_session.specs.Machine.{opening, quiet_turn}
+use Rattle.itpg_run.specs.Out.{no_output, Runs}
+use Rattle.itpg_session.specs.Machine.{opening}
 use Rattle.itpg_run.specs.Served.{longest, Served, WritesWithin, WritesOut, EndsWell}
 use Rattle.itpg_run.specs.Fed.{Fed, Feeds, Stops, Ends}
 use Rattle.itpg_run.specs.Pumped.{Pumped, Pumping, status_of}
@@ -93,7 +93,7 @@ begins limit held r session number line failing = record {
   split = refl;
   ended = tt;
   open_end = tt;
-  turn = quiet_turn opening;
+  output = no_output opening;
   runs = refl;
   session = session;
   number = number;

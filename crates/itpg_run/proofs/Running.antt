@@ -1,8 +1,8 @@
 -- The machine over more lines.
 use Rattle.std.proofs.Common.{◌≡◌, ℕ, ◌+◌, List, [], ◌∷◌, ◌++◌, Bool, true, false, ◌||◌, length, refl, ap, ◌∙◌, sym, subst, append_assoc, append-nil, arith}
-use Rattle.itpg_session.specs.Machine.{Machine, IsGood, Turn, Replies, quiet_turn}
-use Rattle.itpg_run.proofs.MachineLaws.{Laws}
-use Rattle.itpg_run.specs.Out.{both, Runs}
+use Rattle.itpg_session.specs.Machine.{Machine, IsGood}
+use Rattle.itpg_run.proofs.MachineLaws.{Laws, one_line, some_line, good_line}
+use Rattle.itpg_run.specs.Out.{Output, LineOut, no_output, both, Runs}
 
 or_assoc : (a b c : Bool) → (a || (b || c)) ≡ ((a || b) || c)
 or_assoc false b c = refl
@@ -12,13 +12,13 @@ or-false : (a : Bool) → (a || false) ≡ a
 or-false false = refl
 or-false true = refl
 
-both_assoc : (x y z : Turn) → both x (both y z) ≡ both (both x y) z
+both_assoc : (x y z : Output) → both x (both y z) ≡ both (both x y) z
 both_assoc x y z = let e = sym (append_assoc x.text y.text z.text) in let f = or_assoc x.failing y.failing z.failing in cc
 
-both-quiet : (x : Turn) (m : Machine) → m ≡ x.next → both x (quiet_turn m) ≡ x
+both-quiet : (x : Output) (m : Machine) → m ≡ x.next → both x (no_output m) ≡ x
 both-quiet x m h = rw (append-nil x.text, or-false x.failing, h) refl
 
-pub runs-append : (limit : ℕ) (m : Machine) (number : ℕ) (xs ys : List (List ℕ)) (t u : Turn) → Runs limit m number xs t → Runs limit t.next (number + length xs) ys u → Runs limit m number (xs ++ ys) (both t u)
+pub runs-append : (limit : ℕ) (m : Machine) (number : ℕ) (xs ys : List (List ℕ)) (t u : Output) → Runs limit m number xs t → Runs limit t.next (number + length xs) ys u → Runs limit m number (xs ++ ys) (both t u)
 unfolding Runs
 runs-append limit m number [] ys t u r s =
     let n : number + 0 ≡ number = omega arith in
@@ -36,21 +36,21 @@ runs-append limit m number (x ∷ xs) ys t u r s =
     }
 
 -- one more line
-pub runs-push : (limit : ℕ) (m : Machine) (number : ℕ) (xs : List (List ℕ)) (x : List ℕ) (t u : Turn) → Runs limit m number xs t → Replies limit t.next (number + length xs) x u → Runs limit m number (xs ++ x ∷ []) (both t u)
+pub runs-push : (limit : ℕ) (m : Machine) (number : ℕ) (xs : List (List ℕ)) (x : List ℕ) (t u : Output) → Runs limit m number xs t → LineOut limit t.next (number + length xs) x u → Runs limit m number (xs ++ x ∷ []) (both t u)
 unfolding Runs
-runs-push limit m number xs x t u r s = runs-append limit m number xs (x ∷ []) t u r (record { first = u; rest = quiet_turn u.next; begins = s; goes_on = refl; is = sym (both-quiet u u.next refl) })
+runs-push limit m number xs x t u r s = runs-append limit m number xs (x ∷ []) t u r (record { first = u; rest = no_output u.next; begins = s; goes_on = refl; is = sym (both-quiet u u.next refl) })
 
 -- a run over a front part and one over the rest
-pub record Parted (limit : ℕ) (m : Machine) (number : ℕ) (xs ys : List (List ℕ)) (t : Turn) : Type 0 where
-  pub front : Turn
-  pub rest : Turn
+pub record Parted (limit : ℕ) (m : Machine) (number : ℕ) (xs ys : List (List ℕ)) (t : Output) : Type 0 where
+  pub front : Output
+  pub rest : Output
   pub runs : Runs limit m number xs front
   pub goes_on : Runs limit front.next (number + length xs) ys rest
   pub is : t ≡ both front rest
 
-pub runs-part : (limit : ℕ) (m : Machine) (number : ℕ) (xs ys : List (List ℕ)) (t : Turn) → Runs limit m number (xs ++ ys) t → Parted limit m number xs ys t
+pub runs-part : (limit : ℕ) (m : Machine) (number : ℕ) (xs ys : List (List ℕ)) (t : Output) → Runs limit m number (xs ++ ys) t → Parted limit m number xs ys t
 unfolding Runs
-runs-part limit m number [] ys t r = record { front = quiet_turn m; rest = t; runs = refl; goes_on = subst (λ k. Runs limit m k ys t) (let n : number ≡ number + 0 = omega arith in n) r; is = refl }
+runs-part limit m number [] ys t r = record { front = no_output m; rest = t; runs = refl; goes_on = subst (λ k. Runs limit m k ys t) (let n : number ≡ number + 0 = omega arith in n) r; is = refl }
 runs-part limit m number (x ∷ xs) ys t r =
     let p = runs-part limit r.first.next (number + 1) xs ys r.rest r.goes_on in
     let n : number + 1 + length xs ≡ number + length (x ∷ xs) = omega arith in
@@ -63,20 +63,20 @@ runs-part limit m number (x ∷ xs) ys t r =
     }
 
 -- on a good graph there is at most one run
-pub one_run : Laws → (limit : ℕ) (m : Machine) (number : ℕ) (xs : List (List ℕ)) (t u : Turn) → IsGood m → Runs limit m number xs t → Runs limit m number xs u → t ≡ u
+pub one_run : Laws → (limit : ℕ) (m : Machine) (number : ℕ) (xs : List (List ℕ)) (t u : Output) → IsGood m → Runs limit m number xs t → Runs limit m number xs u → t ≡ u
 unfolding Runs
 one_run laws limit m number [] t u good r s = r ∙ sym s
 one_run laws limit m number (x ∷ xs) t u good r s =
-    let first : r.first ≡ s.first = laws.one limit m number x r.first s.first good r.begins s.begins in
+    let first : r.first ≡ s.first = one_line laws limit m number x good r.first s.first r.begins s.begins in
     let rest : r.rest ≡ s.rest =
-    one_run laws limit s.first.next (number + 1) xs r.rest s.rest (laws.good limit m number x s.first good s.begins) (subst (λ w. Runs limit w.next (number + 1) xs r.rest) first r.goes_on) s.goes_on in
+    one_run laws limit s.first.next (number + 1) xs r.rest s.rest (good_line laws limit m number x good s.first s.begins) (subst (λ w. Runs limit w.next (number + 1) xs r.rest) first r.goes_on) s.goes_on in
     r.is ∙ ap (λ w. both w r.rest) first ∙ ap (both s.first) rest ∙ sym s.is
 
 -- and there is one
-pub some_run : Laws → (limit : ℕ) (m : Machine) (number : ℕ) (xs : List (List ℕ)) → IsGood m → (t : Turn) × Runs limit m number xs t
+pub some_run : Laws → (limit : ℕ) (m : Machine) (number : ℕ) (xs : List (List ℕ)) → IsGood m → (t : Output) × Runs limit m number xs t
 unfolding Runs
-some_run laws limit m number [] good = (quiet_turn m, refl)
+some_run laws limit m number [] good = (no_output m, refl)
 some_run laws limit m number (x ∷ xs) good =
-    let first = laws.some limit m number x good in
-    let rest = some_run laws limit first.0.next (number + 1) xs (laws.good limit m number x first.0 good first.1) in
+    let first = some_line laws limit m number x good in
+    let rest = some_run laws limit first.0.next (number + 1) xs (good_line laws limit m number x good first.0 first.1) in
     (both first.0 rest.0, record { first = first.0; rest = rest.0; begins = first.1; goes_on = rest.1; is = refl })

@@ -2,9 +2,11 @@
 use Rattle.std.specs.Prelude.{◌≡◌, ℕ, ◌+◌, List, [], ◌++◌, length, take, ◌<◌, ◌||◌, true, false}
 use Rattle.std.specs.declared.option.Option.{Option}
 use Rattle.std.specs.Io.KnownBytes.{Appends}
-use Rattle.itpg_session.specs.Machine.{Turn, Replies, opening}
-use Rattle.itpg_session.specs.Steps.{StepsWithin}
-use Rattle.itpg_run.specs.Out.{Runs}
+use Rattle.itpg_base.specs.Outside.{AppendsSome}
+use Rattle.itpg_session.specs.Machine.{Standing, opening}
+use Rattle.itpg_session.specs.Steps.{Sees}
+use Rattle.itpg_session.specs.declared.reply.Seen.{Seen}
+use Rattle.itpg_run.specs.Out.{Output, LineOut, Runs}
 use Rattle.itpg_run.specs.Split.{NoEnd, NoEnds, joined}
 use Rattle.itpg_run.specs.Served.{WritesLines, WritesOut, WritesAs, WritesWithin}
 use Rattle.itpg_run.specs.Lines.{kept, whole}
@@ -14,23 +16,33 @@ use Rattle.itpg_run.specs.declared.reader.Stop.TheVariants as stop
 use Rattle.itpg_run.specs.declared.Status.{Status}
 use Rattle.itpg_run.specs.declared.Status.TheVariants.{Done, DoneRefused, Usage, ReadFault, WriteFault, Memory, TooLong}
 
--- a turn that each line may have of which the reader has the front that is kept
-abbrev pub RepliesTo : Reader → Turn → Type 0
-RepliesTo r turn = (line : List ℕ) → r.line.items ≡ take kept line → Replies r.session.limit r.session.machine r.number line turn
+-- an output that each line may have of which the reader has the front that is kept
+abbrev pub RepliesTo : Reader → Output → Type 0
+RepliesTo r output = (line : List ℕ) → r.line.items ≡ take kept line → LineOut r.session.limit r.session.machine r.number line output
 
--- the line that was read was answered
+-- the session answered the line that was read
+pub record AnswersLine (held now : Option (List ℕ)) (old : Reader) (session : Standing) (seen : Seen) : Type 0 where
+  pub output : Output
+  pub replies : RepliesTo old output
+  pub written : Appends held now output.text
+  pub next : session ≡ record { machine = output.next; limit = old.session.limit }
+  pub sees : Sees seen output.text output.failing
+
+-- the line that was read was answered, and the next one begins
 pub record EndsLine (held now : Option (List ℕ)) (old new : Reader) : Type 0 where
-  pub turn : Turn
-  pub replies : RepliesTo old turn
-  pub written : Appends held now turn.text
-  pub session : new.session ≡ record { machine = turn.next; limit = old.session.limit }
+  pub output : Output
+  pub replies : RepliesTo old output
+  pub written : Appends held now output.text
+  pub session : new.session ≡ record { machine = output.next; limit = old.session.limit }
   pub number : new.number ≡ old.number + 1
   pub line : new.line.items ≡ []
-  pub failing : new.failing ≡ (old.failing || turn.failing)
+  pub failing : new.failing ≡ (old.failing || output.failing)
 
 -- a front part of the reply to the line that was read was written
-abbrev pub AnswersWithin : Option (List ℕ) → Option (List ℕ) → Reader → Type 0
-AnswersWithin before now r = StepsWithin (RepliesTo r) before now
+pub record AnswersWithin (held now : Option (List ℕ)) (r : Reader) : Type 0 where
+  pub output : Output
+  pub replies : RepliesTo r output
+  pub some : AppendsSome held now output.text
 
 -- the reader was given these bytes, and the replies to the whole lines in them were written
 pub record Fed (limit : ℕ) (start now : Option (List ℕ)) (r : Reader) (bytes : List ℕ) : Type 0 where
@@ -39,13 +51,13 @@ pub record Fed (limit : ℕ) (start now : Option (List ℕ)) (r : Reader) (bytes
   pub split : joined lines ++ rest ≡ bytes
   pub ended : NoEnds lines
   pub open_end : NoEnd rest
-  pub turn : Turn
-  pub runs : Runs limit opening 1 lines turn
-  pub session : r.session ≡ record { machine = turn.next; limit = limit }
+  pub output : Output
+  pub runs : Runs limit opening 1 lines output
+  pub session : r.session ≡ record { machine = output.next; limit = limit }
   pub number : r.number ≡ 1 + length lines
   pub line : r.line.items ≡ take kept rest
-  pub failing : r.failing ≡ turn.failing
-  pub written : Appends start now turn.text
+  pub failing : r.failing ≡ output.failing
+  pub written : Appends start now output.text
 
 -- more bytes were given
 abbrev pub Feeds : Option (List ℕ) → Option (List ℕ) → Reader → Reader → List ℕ → Type 0
@@ -64,6 +76,14 @@ abbrev pub Stops : Stop → Option (List ℕ) → Option (List ℕ) → Reader �
 Stops stop.Memory before now old more room = StopsWhole before now old more
 Stops stop.Write before now old more room = StopsWithin before now old more
 Stops stop.TooLong before now old more room = (room < length more) × ((limit : ℕ) (start : Option (List ℕ)) (bytes : List ℕ) → Fed limit start before old bytes → WritesOut limit start now (whole (bytes ++ take room more)))
+
+-- the last line was answered, if there was one
+abbrev pub EndsLast : Option (List ℕ) → Option (List ℕ) → Reader → Reader → Type 0
+EndsLast before now old new = (limit : ℕ) (start : Option (List ℕ)) (bytes : List ℕ) → Fed limit start before old bytes → WritesAs limit start now bytes new.failing
+
+-- or a front part of its reply was written
+abbrev pub EndsWithin : Option (List ℕ) → Option (List ℕ) → Reader → Type 0
+EndsWithin before now old = (limit : ℕ) (start : Option (List ℕ)) (bytes : List ℕ) → Fed limit start before old bytes → WritesWithin limit start now bytes
 
 -- all bytes were taken
 abbrev pub Ends : Status → ℕ → Option (List ℕ) → Option (List ℕ) → List ℕ → Type 0

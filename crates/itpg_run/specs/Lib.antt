@@ -2,6 +2,10 @@ pub mod Lines
 pub mod Out
 pub mod Split
 pub mod Served
+pub mod Sums
+pub mod Summary
+pub mod SummaryLaws
+pub mod Underway
 pub mod Tried
 pub mod Fed
 pub mod Pumped

@@ -1,25 +1,46 @@
 -- What the plain machine may write over a script.
-use Rattle.std.specs.Prelude.{◌≡◌, ℕ, ◌+◌, List, [], ◌∷◌, ◌++◌, ◌||◌}
-use Rattle.itpg_session.specs.Machine.{Machine, Turn, opening, quiet_turn, Replies}
+use Rattle.std.specs.Prelude.{◌≡◌, ℕ, ◌+◌, List, [], ◌∷◌, ◌++◌, Bool, false, ◌||◌}
+use Rattle.itpg_session.specs.Texts.{text_of, fails}
+use Rattle.itpg_session.specs.Machine.{Machine, Turn, opening, Replies}
 use Rattle.itpg_run.specs.Lines.{lines}
 
--- a turn and then another
-abbrev pub both : Turn → Turn → Turn
+-- what is written, whether a reply in it fails, and the machine after it
+pub record Output : Type 0 where
+  pub text : List ℕ
+  pub failing : Bool
+  pub next : Machine
+
+-- nothing is written
+abbrev pub no_output : Machine → Output
+no_output m = record { text = []; failing = false; next = m }
+
+-- the output of a turn that is taken at the line of a number
+abbrev pub written : Machine → ℕ → Turn → Output
+written m number turn = record { text = text_of m.graph number turn.reply; failing = fails turn.reply; next = turn.next }
+
+-- the output that the line of a number may have
+pub record LineOut (limit : ℕ) (m : Machine) (number : ℕ) (line : List ℕ) (o : Output) : Type 0 where
+  pub turn : Turn
+  pub replies : Replies limit m line turn
+  pub is : o ≡ written m number turn
+
+-- an output and then another
+abbrev pub both : Output → Output → Output
 both first rest = record { text = first.text ++ rest.text; failing = first.failing || rest.failing; next = rest.next }
 
--- a first turn, and what goes on from the machine that it leaves
-pub record Then (First : Turn → Type 0) (Rest : Machine → Turn → Type 0) (all : Turn) : Type 0 where
-  pub first : Turn
-  pub rest : Turn
+-- a first output, and what goes on from the machine that it leaves
+pub record Then (First : Output → Type 0) (Rest : Machine → Output → Type 0) (all : Output) : Type 0 where
+  pub first : Output
+  pub rest : Output
   pub begins : First first
   pub goes_on : Rest first.next rest
   pub is : all ≡ both first rest
 
--- the turns of lines numbered from here on; without a line nothing is written
-unfoldable pub Runs : ℕ → Machine → ℕ → List (List ℕ) → Turn → Type 0
-Runs limit m number [] t = t ≡ quiet_turn m
-Runs limit m number (l ∷ ls) t = Then (Replies limit m number l) (λ next rest. Runs limit next (number + 1) ls rest) t
+-- the output of lines numbered from here on; without a line nothing is written
+unfoldable pub Runs : ℕ → Machine → ℕ → List (List ℕ) → Output → Type 0
+Runs limit m number [] o = o ≡ no_output m
+Runs limit m number (l ∷ ls) o = Then (LineOut limit m number l) (λ next rest. Runs limit next (number + 1) ls rest) o
 
 -- the machine's output over a script
-abbrev pub IsOut : ℕ → List ℕ → Turn → Type 0
-IsOut limit bytes t = Runs limit opening 1 (lines bytes) t
+abbrev pub IsOut : ℕ → List ℕ → Output → Type 0
+IsOut limit bytes o = Runs limit opening 1 (lines bytes) o

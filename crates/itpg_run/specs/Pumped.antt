@@ -1,8 +1,10 @@
 -- What reading to the end leaves.
-use Rattle.std.specs.Prelude.{◌≡◌, ℕ, ◌≤◌, List, length}
+use Rattle.std.specs.Prelude.{◌≡◌, ℕ, ◌≤◌, List, [], length}
 use Rattle.std.specs.declared.option.Option.{Option}
 use Rattle.std.specs.Io.KnownBytes.{Consumes, IsAtEnd}
-use Rattle.itpg_run.specs.Served.{longest}
+use Rattle.itpg_base.specs.declared.outside.Source.{Ghosts as SourceGhosts}
+use Rattle.itpg_base.specs.declared.outside.Sink.{Ghosts as SinkGhosts}
+use Rattle.itpg_run.specs.Served.{longest, Served}
 use Rattle.itpg_run.specs.Fed.{Fed}
 use Rattle.itpg_run.specs.declared.reader.Reader.{Reader}
 use Rattle.itpg_run.specs.declared.reader.Stop.{Stop}
@@ -29,3 +31,12 @@ abbrev pub status_of : Stop → Status
 status_of stop.Memory = status.Memory
 status_of stop.Write = status.WriteFault
 status_of stop.TooLong = status.TooLong
+
+-- where the reader had been fed nothing: the input was read to its end
+module _ {S K : Type 0} (source : SourceGhosts S) (sink : SinkGhosts K) (before : S) (held : K) (left : S) (now : K) (old : Reader) where
+  abbrev pub PumpsAll : Reader → Type 0
+  PumpsAll new = (limit : ℕ) (start : Option (List ℕ)) → Fed limit start (sink.held held) old [] → Pumped limit (source.left before) (source.left left) start (sink.held now) new
+
+  -- or the run ended with this status
+  abbrev pub PumpsTo : Status → Type 0
+  PumpsTo status = (limit : ℕ) (start : Option (List ℕ)) → Fed limit start (sink.held held) old [] → Served status limit (source.left before) (source.left left) start (sink.held now)

@@ -3,11 +3,13 @@ use Rattle.std.specs.Prelude.{◌≡◌, ℕ, ◌≤◌, ◌<◌, List, [], ◌+
 use Rattle.std.specs.declared.option.Option.{Option}
 use Rattle.std.specs.Io.KnownBytes.{Appends, Consumes, IsAtEnd}
 use Rattle.itpg_base.specs.Outside.{AppendsSome}
+use Rattle.itpg_base.specs.declared.outside.Source.{Ghosts as SourceGhosts}
+use Rattle.itpg_base.specs.declared.outside.Sink.{Ghosts as SinkGhosts}
 use Rattle.command_words.specs.OptionsOf.{AreOptionsOf}
 use Rattle.command_words.specs.declared.options.Options.{Options}
-use Rattle.itpg_session.specs.Machine.{Turn, opening}
+use Rattle.itpg_session.specs.Machine.{opening}
 use Rattle.itpg_run.specs.Lines.{lines, whole}
-use Rattle.itpg_run.specs.Out.{Runs, IsOut}
+use Rattle.itpg_run.specs.Out.{Output, Runs, IsOut}
 use Rattle.itpg_run.specs.declared.Status.{Status}
 use Rattle.itpg_run.specs.declared.Status.TheVariants.{Done, DoneRefused, Usage, ReadFault, WriteFault, Memory, TooLong}
 
@@ -34,16 +36,16 @@ pub record IsIdle (before left held now : Option (List ℕ)) : Type 0 where
 
 -- the output over these bytes was written
 pub record WritesOut (limit : ℕ) (held now : Option (List ℕ)) (bytes : List ℕ) : Type 0 where
-  pub turn : Turn
-  pub out : IsOut limit bytes turn
-  pub written : Appends held now turn.text
+  pub output : Output
+  pub out : IsOut limit bytes output
+  pub written : Appends held now output.text
 
 -- the same, and whether a reply in it fails
 pub record WritesAs (limit : ℕ) (held now : Option (List ℕ)) (bytes : List ℕ) (failing : Bool) : Type 0 where
-  pub turn : Turn
-  pub out : IsOut limit bytes turn
-  pub written : Appends held now turn.text
-  pub fails : turn.failing ≡ failing
+  pub output : Output
+  pub out : IsOut limit bytes output
+  pub written : Appends held now output.text
+  pub fails : output.failing ≡ failing
 
 -- the replies to some first lines of these bytes were written, each whole
 pub record WritesLines (limit : ℕ) (held now : Option (List ℕ)) (bytes : List ℕ) : Type 0 where
@@ -57,9 +59,9 @@ pub record WritesWithin (limit : ℕ) (held now : Option (List ℕ)) (bytes : Li
   pub front : List (List ℕ)
   pub rest : List (List ℕ)
   pub split : front ++ rest ≡ lines bytes
-  pub turn : Turn
-  pub runs : Runs limit opening 1 front turn
-  pub some : AppendsSome held now turn.text
+  pub output : Output
+  pub runs : Runs limit opening 1 front output
+  pub some : AppendsSome held now output.text
 
 -- all bytes were taken, and the whole output was written
 pub record WritesAll (limit : ℕ) (left : Option (List ℕ)) (held now : Option (List ℕ)) (bytes : List ℕ) (failing : Bool) : Type 0 where
@@ -85,7 +87,7 @@ pub record Served (status : Status) (limit : ℕ) (before left held now : Option
 
 -- whatever the output over all is, a front part of it was written
 abbrev pub BeginsEach : ℕ → Option (List ℕ) → Option (List ℕ) → Option (List ℕ) → Type 0
-BeginsEach limit before held now = IfSome before (λ all. (t : Turn) → IsOut limit all t → AppendsSome held now t.text)
+BeginsEach limit before held now = IfSome before (λ all. (t : Output) → IsOut limit all t → AppendsSome held now t.text)
 
 -- all was answered, or memory was wanting
 abbrev pub EndsWell : Status → Type 0
@@ -96,3 +98,15 @@ EndsWell Usage = ⊥
 EndsWell ReadFault = ⊥
 EndsWell WriteFault = ⊥
 EndsWell TooLong = ⊥
+
+-- the same of a source and a sink, each named by the ghost value of its type: both before the run, and both after it
+module _ {S K : Type 0} (source : SourceGhosts S) (sink : SinkGhosts K) (before : S) (held : K) (left : S) (now : K) where
+  abbrev pub Serves : Status → ℕ → Type 0
+  Serves status limit = Served status limit (source.left before) (source.left left) (sink.held held) (sink.held now)
+
+  abbrev pub Idles : Type 0
+  Idles = IsIdle (source.left before) (source.left left) (sink.held held) (sink.held now)
+
+-- a front part of the output over all that the source had was written to the sink
+abbrev pub BeginsTo : {S K : Type 0} (source : SourceGhosts S) (sink : SinkGhosts K) (before : S) (held now : K) (limit : ℕ) → Type 0
+BeginsTo source sink before held now limit = BeginsEach limit (source.left before) (sink.held held) (sink.held now)

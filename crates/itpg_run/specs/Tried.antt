@@ -2,7 +2,9 @@
 use Rattle.std.specs.Prelude.{ℕ, List, [], true, false}
 use Rattle.std.specs.declared.option.Option.{Option}
 use Rattle.std.specs.Io.KnownBytes.{Consumes}
-use Rattle.trial_run.specs.Summary.{TellsAll, TellsWhole, TellsSome}
+use Rattle.itpg_base.specs.declared.outside.Source.{Ghosts as SourceGhosts}
+use Rattle.itpg_base.specs.declared.outside.Sink.{Ghosts as SinkGhosts}
+use Rattle.itpg_run.specs.Summary.{TellsAll, TellsWhole, TellsSome}
 use Rattle.itpg_run.specs.declared.Status.{Status}
 use Rattle.itpg_run.specs.declared.Status.TheVariants.{Done, DoneRefused, Usage, ReadFault, WriteFault, Memory, TooLong}
 
@@ -20,3 +22,7 @@ WritesSummary TooLong limit number held now = ⊥
 pub record Tried (status : Status) (limit number : ℕ) (before left held now : Option (List ℕ)) : Type 0 where
   pub taken : Consumes before left []
   pub writes : WritesSummary status limit number held now
+
+-- the same of a source and a sink, each named by the ghost value of its type: both before the run, and both after it
+abbrev pub Tries : {S K : Type 0} (source : SourceGhosts S) (sink : SinkGhosts K) (before : S) (held : K) (left : S) (now : K) (status : Status) (limit number : ℕ) → Type 0
+Tries source sink before held left now status limit number = Tried status limit number (source.left before) (source.left left) (sink.held held) (sink.held now)

@@ -1,7 +1,8 @@
-//! Laws of the output. Each is the contract of a function that does nothing of use when it runs.
+//! Laws of the output and of summaries. Each is the contract of a function that does nothing of use when it runs.
 ghost use Rattle.itpg_run.specs.OutputLaws.{OneOutput, SomeOutput, OutputGrows, OutputBegins};
+ghost use Rattle.itpg_run.specs.SummaryLaws.{OneSummary, SomeSummary};
 
-use itpg_session::law_of_replies;
+use itpg_session::{law_of_asked, law_of_replies};
 
 /// A script has at most one output.
 pub fn one_output()
@@ -28,3 +29,12 @@ pub fn output_grows()
 pub fn output_begins()
     ensures { OutputBegins }
 {}
+
+/// A trial has exactly one summary at each limit of rows.
+pub fn law_of_summaries()
+    ensures one { OneSummary }
+    ensures some { SomeSummary }
+{
+    law_of_asked();
+    law_of_replies();
+}

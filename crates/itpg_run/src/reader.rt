@@ -3,9 +3,8 @@
 //! A `Reader` has the session, the front of the line that is being read, its number, and whether a reply failed so far. It takes
 //! bytes as they come, has the session answer each line at its end, and touches no source.
 ghost use Rattle.std.specs.Prelude.{◌≡◌, ◌+◌, ◌-◌, ◌^◌, ◌≤◌, ◌<◌, [], ◌∷◌, ◌++◌, ◌||◌, take, length, false, true, IfOk, OnOk, OnErr, IfErr, IsErrOf, ℕ, List};
-ghost use Rattle.std.specs.Io.KnownBytes.{Appends, Keeps};
 ghost use Rattle.std.specs.declared.option.Option.{Option};
-ghost use Rattle.itpg_base.specs.Outside.{Rose, AppendsSome};
+ghost use Rattle.itpg_base.specs.Sinks.{GetsNothing, HasFailed};
 ghost use Rattle.itpg_session.specs.Machine.{opening};
 
 use crate::Status;
@@ -46,19 +45,17 @@ impl Reader {
 }
 
 impl Reader {
-    ghost use Rattle.itpg_run.specs.Fed.{RepliesTo, AnswersWithin, EndsLine, Fed, Feeds, StopsWhole, StopsWithin, Stops, Ends};
-    ghost use Rattle.itpg_run.specs.Served.{WritesAs, WritesWithin};
+    ghost use Rattle.itpg_run.specs.Fed.{AnswersLine, AnswersWithin, EndsLine, EndsLast, EndsWithin, Fed, Feeds, StopsWhole, StopsWithin, Stops, Ends};
     ghost use Rattle.itpg_run.specs.Split.{NoEnd};
-    ghost use Rattle.itpg_session.specs.Steps.{Stepped};
 
     // Answers the line of which the front is kept.
     fn answer<K: Sink>(&mut self, out: &mut K) -> Result<Seen, StepFault>
-        ensures stepped { IfOk result (λ seen. Stepped (RepliesTo self.old) (K.held out.old) (K.held out.new) self.old.session self.new.session seen) }
+        ensures answers { IfOk result (λ seen. AnswersLine (K.held out.old) (K.held out.new) self.old self.new.session seen) }
         ensures line { self.new.line.items ≡ self.old.line.items }
         ensures number { self.new.number ≡ self.old.number }
         ensures failing { self.new.failing ≡ self.old.failing }
-        ensures memory { IsErrOf result StepFault.Memory → Keeps (K.held out.old) (K.held out.new) }
-        ensures write { IsErrOf result StepFault.Write → Rose (K.faults out.old) (K.faults out.new) }
+        ensures memory { IsErrOf result StepFault.Memory → GetsNothing K.Sink out.old out.new }
+        ensures write { IsErrOf result StepFault.Write → HasFailed K.Sink out.old out.new }
         ensures some { IsErrOf result StepFault.Write → AnswersWithin (K.held out.old) (K.held out.new) self.old }
         ensures later { K.faults out.old ≤ K.faults out.new }
     {
@@ -71,8 +68,8 @@ impl Reader {
     pub(crate) fn end_line<K: Sink>(&mut self, out: &mut K) -> Result<(), StepFault>
         requires { self.old.number < 2 ^ 64 - 1 }
         ensures ended { OnOk result (EndsLine (K.held out.old) (K.held out.new) self.old self.new) }
-        ensures memory { IsErrOf result StepFault.Memory → Keeps (K.held out.old) (K.held out.new) }
-        ensures write { IsErrOf result StepFault.Write → Rose (K.faults out.old) (K.faults out.new) }
+        ensures memory { IsErrOf result StepFault.Memory → GetsNothing K.Sink out.old out.new }
+        ensures write { IsErrOf result StepFault.Write → HasFailed K.Sink out.old out.new }
         ensures some { IsErrOf result StepFault.Write → AnswersWithin (K.held out.old) (K.held out.new) self.old }
         ensures later { K.faults out.old ≤ K.faults out.new }
     {
@@ -108,7 +105,7 @@ impl Reader {
         ensures number { OnOk result (self.new.number ≤ self.old.number + 1) }
         ensures memory { IsErrOf result StepFault.Memory → StopsWhole (K.held out.old) (K.held out.new) self.old (piece.now ++ LINE_END ∷ []) }
         ensures write { IsErrOf result StepFault.Write → StopsWithin (K.held out.old) (K.held out.new) self.old (piece.now ++ LINE_END ∷ []) }
-        ensures rose { IsErrOf result StepFault.Write → Rose (K.faults out.old) (K.faults out.new) }
+        ensures rose { IsErrOf result StepFault.Write → HasFailed K.Sink out.old out.new }
         ensures later { K.faults out.old ≤ K.faults out.new }
     {
         self.take_piece(piece)?;
@@ -123,7 +120,7 @@ impl Reader {
         ensures number { OnOk result (self.new.number ≤ self.old.number + length bytes.now) }
         ensures memory { IsErrOf result StepFault.Memory → StopsWhole (K.held out.old) (K.held out.new) self.old bytes.now }
         ensures write { IsErrOf result StepFault.Write → StopsWithin (K.held out.old) (K.held out.new) self.old bytes.now }
-        ensures rose { IsErrOf result StepFault.Write → Rose (K.faults out.old) (K.faults out.new) }
+        ensures rose { IsErrOf result StepFault.Write → HasFailed K.Sink out.old out.new }
         ensures later { K.faults out.old ≤ K.faults out.new }
     {
         let mut rest = bytes;
@@ -147,7 +144,7 @@ impl Reader {
         ensures fed { OnOk result (Feeds (K.held out.old) (K.held out.new) self.old self.new bytes.now) }
         ensures number { OnOk result (self.new.number ≤ self.old.number + length bytes.now) }
         ensures stops { IfErr result (λ stop. Stops stop (K.held out.old) (K.held out.new) self.old bytes.now room) }
-        ensures rose { IsErrOf result Stop.Write → Rose (K.faults out.old) (K.faults out.new) }
+        ensures rose { IsErrOf result Stop.Write → HasFailed K.Sink out.old out.new }
         ensures later { K.faults out.old ≤ K.faults out.new }
     {
         let front = &bytes[..bytes.len().min(room)];
@@ -162,10 +159,10 @@ impl Reader {
     /// Answers a last line without an end, if it has a byte.
     pub(crate) fn end_last<K: Sink>(&mut self, out: &mut K) -> Result<(), StepFault>
         requires { self.old.number < 2 ^ 64 - 1 }
-        ensures ended { OnOk result ((limit : ℕ) (start : Option (List ℕ)) (bytes : List ℕ) → Fed limit start (K.held out.old) self.old bytes → WritesAs limit start (K.held out.new) bytes self.new.failing) }
+        ensures ended { OnOk result (EndsLast (K.held out.old) (K.held out.new) self.old self.new) }
         ensures memory { IsErrOf result StepFault.Memory → StopsWhole (K.held out.old) (K.held out.new) self.old [] }
-        ensures write { IsErrOf result StepFault.Write → (limit : ℕ) (start : Option (List ℕ)) (bytes : List ℕ) → Fed limit start (K.held out.old) self.old bytes → WritesWithin limit start (K.held out.new) bytes }
-        ensures rose { IsErrOf result StepFault.Write → Rose (K.faults out.old) (K.faults out.new) }
+        ensures write { IsErrOf result StepFault.Write → EndsWithin (K.held out.old) (K.held out.new) self.old }
+        ensures rose { IsErrOf result StepFault.Write → HasFailed K.Sink out.old out.new }
         ensures later { K.faults out.old ≤ K.faults out.new }
     {
         if self.line.is_empty() {
@@ -179,7 +176,7 @@ impl Reader {
     pub(crate) fn finish<K: Sink>(&mut self, out: &mut K) -> Status
         requires { self.old.number < 2 ^ 64 - 1 }
         ensures ends { (limit : ℕ) (start : Option (List ℕ)) (bytes : List ℕ) → Fed limit start (K.held out.old) self.old bytes → Ends result limit start (K.held out.new) bytes }
-        ensures rose { result ≡ Status.WriteFault → Rose (K.faults out.old) (K.faults out.new) }
+        ensures rose { result ≡ Status.WriteFault → HasFailed K.Sink out.old out.new }
         ensures later { K.faults out.old ≤ K.faults out.new }
     {
         match self.end_last(out) {

@@ -1,20 +1,19 @@
 //! The top call: reads the words, and then the source to its end, a fault or the limit of the input; or runs a trial, which reads
 //! nothing.
 ghost use Rattle.std.specs.Prelude.{◌≡◌, ◌+◌, ◌-◌, ◌^◌, ◌≤◌, ◌<◌, ◌⊎◌, ℕ, List, [], Some, length, map, string_bytes, OnOk, IfErr, IsErrOf};
-ghost use Rattle.std.specs.declared.option.Option.{Option};
 ghost use Rattle.itpg_base.specs.Outside.{Rose};
-ghost use Rattle.itpg_run.specs.Served.{Served, BeginsEach, EndsWell, IsIdle, AskForScript, AskForTrial, AskForSome, longest};
-ghost use Rattle.itpg_run.specs.Tried.{Tried, WritesSummary};
-ghost use Rattle.itpg_run.specs.Fed.{Fed};
-ghost use Rattle.itpg_run.specs.Pumped.{Pumped};
+ghost use Rattle.itpg_base.specs.Sinks.{HasFailed};
+ghost use Rattle.itpg_run.specs.Served.{Serves, BeginsTo, EndsWell, Idles, AskForScript, AskForTrial, AskForSome, longest};
+ghost use Rattle.itpg_run.specs.Tried.{Tries, WritesSummary};
+ghost use Rattle.itpg_run.specs.Pumped.{PumpsAll, PumpsTo};
 
 use crate::Status;
 use crate::reader::{Reader, Stop};
+use crate::trial::run_trial;
 use command_words::{WordsFault, law_of_one_reading, read_words};
 use itpg_base::{Failed, Limits, Sink, Source};
 use itpg_session::{StepFault, law_of_replies};
 use std::alloc::Global;
-use trial_run::run_trial;
 
 // How many bytes a script may have.
 const LONGEST: usize = 268_435_456;
@@ -36,28 +35,28 @@ pub fn serve<S: Source, K: Sink>(
     sink: &mut K,
 ) -> Status
     // The table of what was taken and written at each status.
-    ensures served { (limit : ℕ) → AskForScript (map string_bytes words.entry.now) limit → Served result limit (S.left source.old) (S.left source.new) (K.held sink.old) (K.held sink.new) }
+    ensures served { (limit : ℕ) → AskForScript (map string_bytes words.entry.now) limit → Serves S.Source K.Sink source.old sink.old source.new sink.new result limit }
 
     // With a trial: the source stays as it is, and what was written of the summary at each status.
-    ensures tried { (limit number : ℕ) → AskForTrial (map string_bytes words.entry.now) limit number → Tried result limit number (S.left source.old) (S.left source.new) (K.held sink.old) (K.held sink.new) }
+    ensures tried { (limit number : ℕ) → AskForTrial (map string_bytes words.entry.now) limit number → Tries S.Source K.Sink source.old sink.old source.new sink.new result limit number }
     ensures unread { (limit number : ℕ) → AskForTrial (map string_bytes words.entry.now) limit number → source.new ≡ source.old }
 
     // Words that ask for nothing: source and sink stay as they are, so nothing is read or written.
     ensures alone { ¬ AskForSome (map string_bytes words.entry.now) → (source.new ≡ source.old) × (sink.new ≡ sink.old) }
-    ensures idle { ¬ AskForSome (map string_bytes words.entry.now) → IsIdle (S.left source.old) (S.left source.new) (K.held sink.old) (K.held sink.new) }
+    ensures idle { ¬ AskForSome (map string_bytes words.entry.now) → Idles S.Source K.Sink source.old sink.old source.new sink.new }
     ensures told { ¬ AskForSome (map string_bytes words.entry.now) → (result ≡ Status.Usage) ⊎ (result ≡ Status.Memory) }
     ensures usage { result ≡ Status.Usage → ¬ AskForSome (map string_bytes words.entry.now) }
 
     // Whatever the status, a front part of the output over all that the source had was written.
-    ensures each { (limit : ℕ) → AskForScript (map string_bytes words.entry.now) limit → BeginsEach limit (S.left source.old) (K.held sink.old) (K.held sink.new) }
+    ensures each { (limit : ℕ) → AskForScript (map string_bytes words.entry.now) limit → BeginsTo S.Source K.Sink source.old sink.old sink.new limit }
 
     // A fault is told only where its device's count rose in this call.
     ensures read { result ≡ Status.ReadFault → Rose (S.faults source.old) (S.faults source.new) }
-    ensures write { result ≡ Status.WriteFault → Rose (K.faults sink.old) (K.faults sink.new) }
+    ensures write { result ≡ Status.WriteFault → HasFailed K.Sink sink.old sink.new }
 
     // With no fault and a script that fits, all was answered, or memory was wanting.
     ensures complete { AskForSome (map string_bytes words.entry.now) → (all : List ℕ) → S.left source.old ≡ Some all → length all ≤ longest
-        → ¬ Rose (S.faults source.old) (S.faults source.new) → ¬ Rose (K.faults sink.old) (K.faults sink.new) → EndsWell result }
+        → ¬ Rose (S.faults source.old) (S.faults source.new) → ¬ HasFailed K.Sink sink.old sink.new → EndsWell result }
 {
     law_of_one_reading();
     match read_words(alloc, words) {
@@ -77,13 +76,13 @@ fn run_script<S: Source, K: Sink>(
     source: &mut S,
     sink: &mut K,
 ) -> Status
-    ensures served { Served result limits (S.left source.old) (S.left source.new) (K.held sink.old) (K.held sink.new) }
+    ensures served { Serves S.Source K.Sink source.old sink.old source.new sink.new result limits }
     ensures usage { result ≡ Status.Usage → ⊥ }
-    ensures each { BeginsEach limits (S.left source.old) (K.held sink.old) (K.held sink.new) }
+    ensures each { BeginsTo S.Source K.Sink source.old sink.old sink.new limits }
     ensures read { result ≡ Status.ReadFault → Rose (S.faults source.old) (S.faults source.new) }
-    ensures write { result ≡ Status.WriteFault → Rose (K.faults sink.old) (K.faults sink.new) }
+    ensures write { result ≡ Status.WriteFault → HasFailed K.Sink sink.old sink.new }
     ensures complete { (all : List ℕ) → S.left source.old ≡ Some all → length all ≤ longest
-        → ¬ Rose (S.faults source.old) (S.faults source.new) → ¬ Rose (K.faults sink.old) (K.faults sink.new) → EndsWell result }
+        → ¬ Rose (S.faults source.old) (S.faults source.new) → ¬ HasFailed K.Sink sink.old sink.new → EndsWell result }
 {
     law_of_replies();
     let mut reader = Reader::new(alloc, limits);
@@ -96,7 +95,7 @@ fn run_script<S: Source, K: Sink>(
 // Runs the trial of a number.
 fn run_number<K: Sink>(alloc: Global, limits: Limits, number: u64, sink: &mut K) -> Status
     ensures summary { WritesSummary result limits number (K.held sink.old) (K.held sink.new) }
-    ensures write { result ≡ Status.WriteFault → Rose (K.faults sink.old) (K.faults sink.new) }
+    ensures write { result ≡ Status.WriteFault → HasFailed K.Sink sink.old sink.new }
 {
     match run_trial(alloc, limits, number, sink) {
         Ok(true) => Status::DoneRefused,
@@ -109,11 +108,11 @@ fn run_number<K: Sink>(alloc: Global, limits: Limits, number: u64, sink: &mut K)
 // Reads to the end of the input.
 fn pump<S: Source, K: Sink>(reader: &mut Reader, source: &mut S, sink: &mut K) -> Result<(), Status>
     requires { reader.old.number ≤ 1 }
-    ensures ended { OnOk result ((limit : ℕ) → (start : Option (List ℕ)) → Fed limit start (K.held sink.old) reader.old [] → Pumped limit (S.left source.old) (S.left source.new) start (K.held sink.new) reader.new) }
+    ensures ended { OnOk result (PumpsAll S.Source K.Sink source.old sink.old source.new sink.new reader.old reader.new) }
     ensures number { OnOk result (reader.new.number < 2 ^ 64 - 1) }
-    ensures stopped { IfErr result (λ status. (limit : ℕ) → (start : Option (List ℕ)) → Fed limit start (K.held sink.old) reader.old [] → Served status limit (S.left source.old) (S.left source.new) start (K.held sink.new)) }
+    ensures stopped { IfErr result (λ status. PumpsTo S.Source K.Sink source.old sink.old source.new sink.new reader.old status) }
     ensures read { IsErrOf result Status.ReadFault → Rose (S.faults source.old) (S.faults source.new) }
-    ensures write { IsErrOf result Status.WriteFault → Rose (K.faults sink.old) (K.faults sink.new) }
+    ensures write { IsErrOf result Status.WriteFault → HasFailed K.Sink sink.old sink.new }
     ensures later { K.faults sink.old ≤ K.faults sink.new }
     ensures source_later { S.faults source.old ≤ S.faults source.new }
 {

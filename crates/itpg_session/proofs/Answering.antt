@@ -15,66 +15,66 @@ use Rattle.path_ast.specs.Terms.{QueryTerm}
 use Rattle.match_parser.specs.Reading.{Reads, FaultOf}
 use Rattle.standing_queries.specs.Watches.{Watch, IsWatched, most_watches, new_watch, without}
 use Rattle.itpg_session.specs.Rules.{QueryBreaks, WatchBreaks, NameBreaks, TickBreaks, ask_rules, watch_rules, name_rules, tick_rules}
-use Rattle.itpg_session.specs.Replies.{Reply, IsReply}
-use Rattle.itpg_session.specs.Machine.{Machine, Turn, Refuses, AsksText, WatchesText, AddsWatch, ShowsWatch, DropsWatch, TicksAll, Answers, TurnOf, Replies, quiet_turn, bad_turn, refused_turn, asked_turn}
+use Rattle.itpg_session.specs.Replies.{Reply, Silent, Bad, Refused, IsReply}
+use Rattle.itpg_session.specs.Machine.{Machine, Turn, Refuses, AsksText, WatchesText, WatchesQuery, AddsWatch, ShowsName, DropsWatch, DropsName, TicksOrNot, Answers, TurnOf, Replies, quiet_turn, told}
 
-module _ (limit : ℕ) (m : Machine) (number : ℕ) where
-  pub replies_read : (line : List ℕ) (reading : Reading) → LineOf line (Ok reading) → (t : Turn) → Answers limit m number reading t → Replies limit m number line t
+module _ (limit : ℕ) (m : Machine) where
+  pub replies_read : (line : List ℕ) (reading : Reading) → LineOf line (Ok reading) → (t : Turn) → Answers limit m reading t → Replies limit m line t
   unfolding TurnOf
   replies_read line reading is t a = record { what = Ok reading; line_of = is; turn = a }
 
-  pub replies_bad : (line : List ℕ) (code : TextCode) → LineOf line (Err code) → (t : Turn) → t ≡ bad_turn m number code → Replies limit m number line t
+  pub replies_bad : (line : List ℕ) (code : TextCode) → LineOf line (Err code) → (t : Turn) → t ≡ told m (Bad code) → Replies limit m line t
   unfolding TurnOf
   replies_bad line code is t a = record { what = Err code; line_of = is; turn = a }
 
-  pub blank_answers : Answers limit m number Nothing (quiet_turn m)
+  pub blank_answers : Answers limit m Nothing (quiet_turn m)
   unfolding Answers
   blank_answers = refl
 
-  pub asks_answers : (text : List ℕ) (t : Turn) → AsksText limit m number text t → Answers limit m number (Asks text) t
+  pub asks_answers : (text : List ℕ) (t : Turn) → AsksText limit m text t → Answers limit m (Asks text) t
   unfolding Answers
   asks_answers text t a = a
 
-  pub asked_asks : (text : List ℕ) (reply : Reply) → IsReply m.graph limit text reply → (t : Turn) → t ≡ asked_turn m number reply → AsksText limit m number text t
+  pub asked_asks : (text : List ℕ) (reply : Reply) → IsReply m.graph limit text reply → (t : Turn) → t ≡ told m reply → AsksText limit m text t
   asked_asks text reply replies t is = record { reply = reply; replies = replies; is = is }
 
-  pub watches_answers : (name : Word) (text : List ℕ) (t : Turn) → WatchesText m number name text t → Answers limit m number (Watches name text) t
+  pub watches_answers : (name : Word) (text : List ℕ) (t : Turn) → WatchesText m name text t → Answers limit m (Watches name text) t
   unfolding Answers
   watches_answers name text t a = a
 
-  pub shows_answers : (name : Word) (t : Turn) → Refuses m number (NameBreaks m.graph m.watches name) name_rules t ⊎ ShowsWatch limit m number name t → Answers limit m number (Shows name) t
+  pub shows_answers : (name : Word) (t : Turn) → ShowsName limit m name t → Answers limit m (Shows name) t
   unfolding Answers
   shows_answers name t a = a
 
-  pub unwatches_answers : (name : Word) (t : Turn) → Refuses m number (NameBreaks m.graph m.watches name) name_rules t ⊎ DropsWatch m name t → Answers limit m number (Unwatches name) t
+  pub unwatches_answers : (name : Word) (t : Turn) → DropsName m name t → Answers limit m (Unwatches name) t
   unfolding Answers
   unwatches_answers name t a = a
 
-  pub ticks_answers : (t : Turn) → Refuses m number (TickBreaks m.graph) tick_rules t ⊎ TicksAll limit m t → Answers limit m number Ticks t
+  pub ticks_answers : (t : Turn) → TicksOrNot limit m t → Answers limit m Ticks t
   unfolding Answers
   ticks_answers t a = a
 
-  pub edit_refused : (edit : Edit) (rule : RuleCode) → Broken m.graph edit rule → (t : Turn) → t ≡ refused_turn m number rule → Answers limit m number (Changes edit) t
+  pub edit_refused : (edit : Edit) (rule : RuleCode) → Broken m.graph edit rule → (t : Turn) → t ≡ told m (Refused rule) → Answers limit m (Changes edit) t
   unfolding Answers
   edit_refused edit rule first t is = inl (record { rule = rule; first = first; is = is })
 
-  pub edit_made : (edit : Edit) (g : Graph) → Unbroken m.graph edit → Next m.graph edit g → Answers limit m number (Changes edit) (quiet_turn (record { graph = g; watches = m.watches }))
+  pub edit_made : (edit : Edit) (g : Graph) → Unbroken m.graph edit → Next m.graph edit g → Answers limit m (Changes edit) (quiet_turn (record { graph = g; watches = m.watches }))
   unfolding Answers
   edit_made edit g unbroken next = inr (record { unbroken = unbroken; graph = g; next = next; is = refl })
 
-pub refuses : (m : Machine) (number : ℕ) (broken : RuleCode → Type 0) (rules : List RuleCode) (rule : RuleCode) → FirstOf broken rules rule → (t : Turn) → t ≡ refused_turn m number rule → Refuses m number broken rules t
-refuses m number broken rules rule first t is = record { rule = rule; first = first; is = is }
+pub refuses : (m : Machine) (broken : RuleCode → Type 0) (rules : List RuleCode) (rule : RuleCode) → FirstOf broken rules rule → (t : Turn) → t ≡ told m (Refused rule) → Refuses m broken rules t
+refuses m broken rules rule first t is = record { rule = rule; first = first; is = is }
 
-module _ (m : Machine) (number : ℕ) (name : Word) (text : List ℕ) where
-  pub watch_bad : (code : TextCode) → FaultOf text code → (t : Turn) → t ≡ bad_turn m number code → WatchesText m number name text t
+module _ (m : Machine) (name : Word) (text : List ℕ) where
+  pub watch_bad : (code : TextCode) → FaultOf text code → (t : Turn) → t ≡ told m (Bad code) → WatchesText m name text t
   watch_bad code fault t is = inl (code, fault, is)
 
-  pub watch_read : (q : QueryTerm) → Reads text q → (t : Turn) → Refuses m number (WatchBreaks m.graph m.watches name q) watch_rules t ⊎ AddsWatch m name q t → WatchesText m number name text t
+  pub watch_read : (q : QueryTerm) → Reads text q → (t : Turn) → WatchesQuery m name q t → WatchesText m name text t
   watch_read q reads t a = inr (q, reads, a)
 
 -- a refusal among the ways of a turn
-pub refusal : (m : Machine) (number : ℕ) (broken : RuleCode → Type 0) (rules : List RuleCode) (Other : Turn → Type 0) (rule : RuleCode) → FirstOf broken rules rule → (t : Turn) → t ≡ refused_turn m number rule → Refuses m number broken rules t ⊎ Other t
-refusal m number broken rules Other rule first t is = inl (refuses m number broken rules rule first t is)
+pub refusal : (m : Machine) (broken : RuleCode → Type 0) (rules : List RuleCode) (Other : Turn → Type 0) (rule : RuleCode) → FirstOf broken rules rule → (t : Turn) → t ≡ told m (Refused rule) → Refuses m broken rules t ⊎ Other t
+refusal m broken rules Other rule first t is = inl (refuses m broken rules rule first t is)
 
 module _ (m : Machine) (name : Word) where
   pub added : (q : QueryTerm) → NoneOf (WatchBreaks m.graph m.watches name q) watch_rules → (ws : List Watch) → ws ≡ m.watches ++ new_watch name q ∷ [] → AddsWatch m name q (quiet_turn (record { graph = m.graph; watches = ws }))

@@ -1,6 +1,7 @@
 -- A tick finds exactly one thing of each watch, of its kind, and of objects that were declared.
 use Rattle.std.proofs.Common.{◌≡◌, inl, inr, ℕ, ◌<◌, List, [], ◌∷◌, length, Bool, true, false, ◌&&◌, refl, sym, ap, subst, ◌∙◌, arith}
 use Rattle.std.proofs.lemmas.Int.{ints}
+use Rattle.itpg_base.specs.Words.{Word}
 use Rattle.itpg_base.specs.Graphs.{Graph}
 use Rattle.itpg_base.specs.Points.{Relation}
 use Rattle.itpg_base.specs.Lists.{Among}
@@ -14,10 +15,11 @@ use Rattle.path_eval.specs.Answering.{IsAnswer, AnswersQuery}
 use Rattle.row_printer.specs.Texts.{AreDeclared}
 use Rattle.standing_queries.specs.Watches.{Watch, IsOfKind}
 use Rattle.standing_queries.specs.Changes.{AreOfOneKind, IsRest, OneRest, SomeRest}
-use Rattle.itpg_session.specs.Questions.{Found, TooWide, Answer, IsFound}
+use Rattle.itpg_session.specs.Questions.{HasAnswer}
+use Rattle.itpg_session.specs.Replies.{Reply, Silent, Bad, Refused, Wide, Rows, Found, IsFound}
 use Rattle.itpg_session.specs.Ticks.{Ticked, StaysWide, Moves, IsTicked, AreTicked, all_moved}
 use Rattle.itpg_session.specs.Watching.{AsksForOne, BasesDeclared, IsTickDeclared, AreTicksDeclared, AreMovesOfKind}
-use Rattle.itpg_session.proofs.Replying.{declared, one_found, some_found}
+use Rattle.itpg_session.proofs.Replying.{declared, one_answered, some_found}
 
 -- ---- objects
 
@@ -43,10 +45,10 @@ rest_declared n (times first) (times second) (times rest) is all = λ r among.
 rest_declared n (times first) (times second) (pairs rest) is all = absurd is
 
 ticked_declared : (g : Graph) (limit : ℕ) (w : Watch) (x : Ticked) → AreDeclared (length g.objects) w.base → IsTicked g limit w x → IsTickDeclared g x
-ticked_declared g limit w StaysWide all is = tt
-ticked_declared g limit w (Moves now gained lost) all is =
-    let there = declared g w.query.path w.query.first w.query.last now is.0.1 in
-    (rest_declared (length g.objects) now w.base gained is.1 there, rest_declared (length g.objects) w.base now lost is.2 all)
+ticked_declared g limit w (StaysWide name) all is = tt
+ticked_declared g limit w (Moves name now gained lost) all is =
+    let there = declared g w.query.path w.query.first w.query.last now is.1.1 in
+    (rest_declared (length g.objects) now w.base gained is.2 there, rest_declared (length g.objects) w.base now lost is.3 all)
 
 -- each object of what was found is declared
 pub ticks_declared : (g : Graph) (limit : ℕ) (ws : List Watch) (xs : List Ticked) → BasesDeclared g ws → AreTicked g limit ws xs → AreTicksDeclared g xs
@@ -60,9 +62,9 @@ ticks_declared g limit (w ∷ ws) (y ∷ ys) all is x (inr a) = ticks_declared g
 pub moved_declared : (g : Graph) (limit : ℕ) (ws : List Watch) (xs : List Ticked) → BasesDeclared g ws → AreTicked g limit ws xs → BasesDeclared g (all_moved ws xs)
 moved_declared g limit [] xs all is w a = absurd a
 moved_declared g limit (v ∷ ws) [] all is w a = absurd is
-moved_declared g limit (v ∷ ws) (StaysWide ∷ xs) all is w (inl e) = all w (inl e)
-moved_declared g limit (v ∷ ws) (Moves now gained lost ∷ xs) all is w (inl e) =
-    subst (λ (u : Watch). AreDeclared (length g.objects) u.base) e (declared g v.query.path v.query.first v.query.last now is.0.0.1)
+moved_declared g limit (v ∷ ws) (StaysWide name ∷ xs) all is w (inl e) = all w (inl e)
+moved_declared g limit (v ∷ ws) (Moves name now gained lost ∷ xs) all is w (inl e) =
+    subst (λ (u : Watch). AreDeclared (length g.objects) u.base) e (declared g v.query.path v.query.first v.query.last now is.0.1.1)
 moved_declared g limit (v ∷ ws) (x ∷ xs) all is w (inr a) = moved_declared g limit ws xs (λ u b. all u (inr b)) is.1 w a
 
 -- ---- kinds
@@ -91,38 +93,36 @@ one_kind q (pairs x) (times y) a b = let no_kind : ⊥ = cc in absurd no_kind
 one_kind q (times x) (pairs y) a b = let no_kind : ⊥ = cc in absurd no_kind
 one_kind q (times x) (times y) a b = tt
 
-pub found_kind : (g : Graph) (limit : ℕ) (q : QueryTerm) (answer : Answered) → IsFound g limit q (Answer answer) → IsOfKind q answer
+pub found_kind : (g : Graph) (limit : ℕ) (q : QueryTerm) (answer : Answered) → HasAnswer g limit q answer → IsOfKind q answer
 found_kind g limit q answer is = answer_kind g q answer is.1
 
 pub moves_of_kind : (g : Graph) (limit : ℕ) (ws : List Watch) (xs : List Ticked) → AreTicked g limit ws xs → AreMovesOfKind ws xs
 moves_of_kind g limit [] xs is = tt
 moves_of_kind g limit (w ∷ ws) [] is = tt
-moves_of_kind g limit (w ∷ ws) (StaysWide ∷ xs) is = (tt, moves_of_kind g limit ws xs is.1)
-moves_of_kind g limit (w ∷ ws) (Moves now gained lost ∷ xs) is = (found_kind g limit w.query now is.0.0, moves_of_kind g limit ws xs is.1)
+moves_of_kind g limit (w ∷ ws) (StaysWide name ∷ xs) is = (tt, moves_of_kind g limit ws xs is.1)
+moves_of_kind g limit (w ∷ ws) (Moves name now gained lost ∷ xs) is = (found_kind g limit w.query now is.0.1, moves_of_kind g limit ws xs is.1)
 
 pub kinds_moved : (g : Graph) (limit : ℕ) (ws : List Watch) (xs : List Ticked) → AreTicked g limit ws xs → ((w : Watch) → Among ws w → IsOfKind w.query w.base)
     → (w : Watch) → Among (all_moved ws xs) w → IsOfKind w.query w.base
 kinds_moved g limit [] xs is kinds w a = absurd a
 kinds_moved g limit (v ∷ ws) [] is kinds w a = absurd is
-kinds_moved g limit (v ∷ ws) (StaysWide ∷ xs) is kinds w (inl e) = kinds w (inl e)
-kinds_moved g limit (v ∷ ws) (Moves now gained lost ∷ xs) is kinds w (inl e) = subst (λ (u : Watch). IsOfKind u.query u.base) e (found_kind g limit v.query now is.0.0)
+kinds_moved g limit (v ∷ ws) (StaysWide name ∷ xs) is kinds w (inl e) = kinds w (inl e)
+kinds_moved g limit (v ∷ ws) (Moves name now gained lost ∷ xs) is kinds w (inl e) = subst (λ (u : Watch). IsOfKind u.query u.base) e (found_kind g limit v.query now is.0.1)
 kinds_moved g limit (v ∷ ws) (x ∷ xs) is kinds w (inr a) = kinds_moved g limit ws xs is.1 (λ u b. kinds u (inr b)) w a
 
 -- ---- one finding, and some
 
 module _ (g : Graph) (limit : ℕ) where
-  answer_is : (x : Found) (y : Answered) → x ≡ Answer y → (z : Answered) → x ≡ Answer z → y ≡ z
-  answer_is x y a z b = cc
-
   one_ticked : OneRest → (w : Watch) (x y : Ticked) → IsTicked g limit w x → IsTicked g limit w y → x ≡ y
-  one_ticked one w StaysWide StaysWide a b = refl
-  one_ticked one w StaysWide (Moves now gained lost) a b = absurd (b.0.0 a)
-  one_ticked one w (Moves now gained lost) StaysWide a b = absurd (a.0.0 b)
-  one_ticked one w (Moves now gained lost) (Moves now' gained' lost') a b =
-      let same : now' ≡ now = answer_is (Answer now) now' (one_found g limit w.query (Answer now) (Answer now') a.0 b.0) now refl in
-      let gains : gained ≡ gained' = one now w.base gained gained' a.1 (subst (λ (n : Answered). IsRest n w.base gained') same b.1) in
-      let losses : lost ≡ lost' = one w.base now lost lost' a.2 (subst (λ (n : Answered). IsRest w.base n lost') same b.2) in
-      ap (λ (n : Answered). Moves n gained lost) (sym same) ∙ ap (λ (n : Answered). Moves now' n lost) gains ∙ ap (λ (n : Answered). Moves now' gained' n) losses
+  one_ticked one w (StaysWide name) (StaysWide name') a b = ap StaysWide (sym a.0 ∙ b.0)
+  one_ticked one w (StaysWide name) (Moves name' now gained lost) a b = absurd (b.1.0 a.1)
+  one_ticked one w (Moves name now gained lost) (StaysWide name') a b = absurd (a.1.0 b.1)
+  one_ticked one w (Moves name now gained lost) (Moves name' now' gained' lost') a b =
+      let same : now' ≡ now = one_answered g limit w.query now' now b.1 a.1 in
+      let gains : gained ≡ gained' = one now w.base gained gained' a.2 (subst (λ (n : Answered). IsRest n w.base gained') same b.2) in
+      let losses : lost ≡ lost' = one w.base now lost lost' a.3 (subst (λ (n : Answered). IsRest w.base n lost') same b.3) in
+      let named : name ≡ name' = sym a.0 ∙ b.0 in
+      ap (λ (n : Word). Moves n now gained lost) named ∙ ap (λ (n : Answered). Moves name' n gained lost) (sym same) ∙ ap (λ (n : Answered). Moves name' now' n lost) gains ∙ ap (λ (n : Answered). Moves name' now' gained' n) losses
 
   pub one_tick : OneRest → (ws : List Watch) (xs ys : List Ticked) → AreTicked g limit ws xs → AreTicked g limit ws ys → xs ≡ ys
   one_tick one [] [] [] a b = refl
@@ -132,13 +132,17 @@ module _ (g : Graph) (limit : ℕ) where
   one_tick one (w ∷ ws) (x ∷ xs) [] a b = absurd b
   one_tick one (w ∷ ws) (x ∷ xs) (y ∷ ys) a b = ap (λ (z : Ticked). z ∷ xs) (one_ticked one w x y a.0 b.0) ∙ ap (λ (zs : List Ticked). y ∷ zs) (one_tick one ws xs ys a.1 b.1)
 
-  ticked_of_found : SomeRest → (w : Watch) → IsOfKind w.query w.base → (found : Found) → IsFound g limit w.query found → (x : Ticked) × IsTicked g limit w x
-  ticked_of_found some w kind TooWide is = (StaysWide, is)
-  ticked_of_found some w kind (Answer now) is =
+  ticked_of_found : SomeRest → (w : Watch) → IsOfKind w.query w.base → (found : Reply) → IsFound g limit w.query found → (x : Ticked) × IsTicked g limit w x
+  ticked_of_found some w kind Wide is = (StaysWide w.name, (refl, is))
+  ticked_of_found some w kind (Rows now) is =
       let of_kind = found_kind g limit w.query now is in
       let gained = some now w.base (one_kind w.query now w.base of_kind kind) in
       let lost = some w.base now (one_kind w.query w.base now kind of_kind) in
-      (Moves now gained.0 lost.0, (is, gained.1, lost.1))
+      (Moves w.name now gained.0 lost.0, (refl, is, gained.1, lost.1))
+  ticked_of_found some w kind Silent is = absurd is
+  ticked_of_found some w kind (Bad code) is = absurd is
+  ticked_of_found some w kind (Refused rule) is = absurd is
+  ticked_of_found some w kind (Found found) is = absurd is
 
   pub some_tick : SomeRest → (ws : List Watch) → ((w : Watch) → Among ws w → AsksForOne w.query) → ((w : Watch) → Among ws w → IsOfKind w.query w.base) → (xs : List Ticked) × AreTicked g limit ws xs
   some_tick some [] asks kinds = ([], tt)

@@ -1,5 +1,5 @@
 pub mod Written
-pub mod Taken
+pub mod Told
 pub mod Decided
 pub mod Numbers
 pub mod Watching
@@ -8,3 +8,4 @@ pub mod Replying
 pub mod Changing
 pub mod Answering
 pub mod OneTurn
+pub mod Suiting

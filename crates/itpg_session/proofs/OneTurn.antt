@@ -19,10 +19,10 @@ use Rattle.path_ast.specs.Terms.{QueryTerm}
 use Rattle.standing_queries.specs.Watches.{Watch, IsWatched, IsOfKind, new_watch}
 use Rattle.standing_queries.specs.Changes.{OneRest, SomeRest}
 use Rattle.itpg_session.specs.Rules.{WatchBreaks, NameBreaks, TickBreaks, watch_rules, name_rules, tick_rules}
-use Rattle.itpg_session.specs.Questions.{Found, TooWide, Answer}
 use Rattle.itpg_session.specs.Watching.{AsksForOne}
-use Rattle.itpg_session.specs.Replies.{Reply, Bad, Refused, Wide, Rows}
-use Rattle.itpg_session.specs.Machine.{Machine, IsGood, Turn, Refuses, AsksText, WatchesText, AddsWatch, TellsFound, ShowsWatch, DropsWatch, TicksAll, Answers, TurnOf, Replies, quiet_turn, bad_turn, refused_turn, asked_turn, found_turn, tick_turn}
+use Rattle.itpg_session.specs.Ticks.{Ticked}
+use Rattle.itpg_session.specs.Replies.{Reply, Silent, Bad, Refused, Wide, Rows, Found, IsFound, IsReply}
+use Rattle.itpg_session.specs.Machine.{Machine, IsGood, Turn, Refuses, AsksText, WatchesText, WatchesQuery, AddsWatch, ShowsWatch, DropsWatch, TicksAll, Answers, TurnOf, Replies, after, told, quiet_turn}
 use Rattle.itpg_session.specs.MachineLaws.{OneReply, SomeReply, GoodReply, FrontReplies}
 use Rattle.itpg_session.proofs.Decided.{first_or_none, decide_watch, decide_named, decide_tick, some_watch}
 use Rattle.itpg_session.proofs.Replying.{TextLaws, one_asked, some_asked, one_found, some_found}
@@ -32,8 +32,8 @@ use Rattle.itpg_session.proofs.TickSteps.{among_moved, differ_moved}
 use Rattle.itpg_session.proofs.Changing.{kinds_moved, one_tick, some_tick}
 use Rattle.itpg_session.proofs.Answering.{replies_read, replies_bad, blank_answers, asks_answers, asked_asks, watches_answers, watch_bad, watch_read, shows_answers, unwatches_answers, ticks_answers, edit_refused, edit_made, refusal}
 
-one_refusal : (m : Machine) (number : ℕ) (broken : RuleCode → Type 0) (rules : List RuleCode) (x y : Turn) → Refuses m number broken rules x → Refuses m number broken rules y → x ≡ y
-one_refusal m number broken rules x y a b = a.is ∙ ap (refused_turn m number) (first_unique broken rules a.rule b.rule a.first b.first) ∙ sym b.is
+one_refusal : (m : Machine) (broken : RuleCode → Type 0) (rules : List RuleCode) (x y : Turn) → Refuses m broken rules x → Refuses m broken rules y → x ≡ y
+one_refusal m broken rules x y a b = a.is ∙ ap (λ (r : RuleCode). told m (Refused r)) (first_unique broken rules a.rule b.rule a.first b.first) ∙ sym b.is
 
 -- the laws of lines, of query texts, of edits and of what changes
 pub record Below : Type 0 where
@@ -49,83 +49,87 @@ pub record Below : Type 0 where
   pub one_rest : OneRest
   pub some_rest : SomeRest
 
-module _ (below : Below) (limit : ℕ) (m : Machine) (number : ℕ) (good : IsGood m) where
-  one_ask : (text : List ℕ) (x y : Turn) → AsksText limit m number text x → AsksText limit m number text y → x ≡ y
-  one_ask text x y a b = a.is ∙ ap (asked_turn m number) (one_asked below.texts m.graph limit text a.reply b.reply a.replies b.replies) ∙ sym b.is
+module _ (below : Below) (limit : ℕ) (m : Machine) (good : IsGood m) where
+  one_ask : (text : List ℕ) (x y : Turn) → AsksText limit m text x → AsksText limit m text y → x ≡ y
+  one_ask text x y a b = a.is ∙ ap (told m) (one_asked below.texts m.graph limit text a.reply b.reply a.replies b.replies) ∙ sym b.is
 
   -- a turn is a refusal or another, and not both
   one_of : (broken : RuleCode → Type 0) (rules : List RuleCode) (Other : Turn → Type 0) → ((t : Turn) → Other t → NoneOf broken rules) → ((x y : Turn) → Other x → Other y → x ≡ y)
-      → (x y : Turn) → Refuses m number broken rules x ⊎ Other x → Refuses m number broken rules y ⊎ Other y → x ≡ y
-  one_of broken rules Other none one x y (inl a) (inl b) = one_refusal m number broken rules x y a b
+      → (x y : Turn) → Refuses m broken rules x ⊎ Other x → Refuses m broken rules y ⊎ Other y → x ≡ y
+  one_of broken rules Other none one x y (inl a) (inl b) = one_refusal m broken rules x y a b
   one_of broken rules Other none one x y (inl a) (inr b) = absurd (first_or_unbroken broken rules a.rule a.first (none y b))
   one_of broken rules Other none one x y (inr a) (inl b) = absurd (first_or_unbroken broken rules b.rule b.first (none x a))
   one_of broken rules Other none one x y (inr a) (inr b) = one x y a b
 
-  abbrev IsWatchTurn : Word → QueryTerm → Turn → Type 0
-  IsWatchTurn name q t = Refuses m number (WatchBreaks m.graph m.watches name q) watch_rules t ⊎ AddsWatch m name q t
-
-  one_watched : (name : Word) (q : QueryTerm) (x y : Turn) → IsWatchTurn name q x → IsWatchTurn name q y → x ≡ y
+  one_watched : (name : Word) (q : QueryTerm) (x y : Turn) → WatchesQuery m name q x → WatchesQuery m name q y → x ≡ y
   one_watched name q x y a b = one_of (WatchBreaks m.graph m.watches name q) watch_rules (AddsWatch m name q) (λ t h. h.unbroken) (λ v w h k. h.is ∙ sym k.is) x y a b
 
-  one_watch : (name : Word) (text : List ℕ) (x y : Turn) → WatchesText m number name text x → WatchesText m number name text y → x ≡ y
-  one_watch name text x y (inl (c, f, e)) (inl (d, h, k)) = e ∙ ap (bad_turn m number) (below.texts.one_fault text c d f h) ∙ sym k
+  one_watch : (name : Word) (text : List ℕ) (x y : Turn) → WatchesText m name text x → WatchesText m name text y → x ≡ y
+  one_watch name text x y (inl (c, f, e)) (inl (d, h, k)) = e ∙ ap (λ (c : TextCode). told m (Bad c)) (below.texts.one_fault text c d f h) ∙ sym k
   one_watch name text x y (inl (c, f, e)) (inr (q, s, b)) = absurd (below.texts.apart text q c s f)
   one_watch name text x y (inr (p, r, a)) (inl (d, h, k)) = absurd (below.texts.apart text p d r h)
-  one_watch name text x y (inr (p, r, a)) (inr (q, s, b)) = one_watched name q x y (subst (λ (q : QueryTerm). IsWatchTurn name q x) (below.texts.one_query text p q r s) a) b
+  one_watch name text x y (inr (p, r, a)) (inr (q, s, b)) = one_watched name q x y (subst (λ (q : QueryTerm). WatchesQuery m name q x) (below.texts.one_query text p q r s) a) b
 
-  one_shown : (name : Word) (x y : Turn) → ShowsWatch limit m number name x → ShowsWatch limit m number name y → x ≡ y
+  one_shown : (name : Word) (x y : Turn) → ShowsWatch limit m name x → ShowsWatch limit m name y → x ≡ y
   one_shown name x y a b =
       let v : a.watch ≡ b.watch = one_named m.watches good.differ a.watch b.watch a.among b.among (a.named ∙ sym b.named) in
-      let told = subst (λ (w : Watch). TellsFound limit m number w.query x) v a.tells in
-      told.is ∙ ap (found_turn m number) (one_found m.graph limit (b.watch).query told.found (b.tells).found told.finds (b.tells).finds) ∙ sym (b.tells).is
+      let finds = subst (λ (w : Watch). IsFound m.graph limit w.query a.reply) v a.finds in
+      a.is ∙ ap (told m) (one_found m.graph limit (b.watch).query a.reply b.reply finds b.finds) ∙ sym b.is
 
   one_ticked : (x y : Turn) → TicksAll limit m x → TicksAll limit m y → x ≡ y
-  one_ticked x y a b = a.is ∙ ap (tick_turn m) (one_tick m.graph limit below.one_rest m.watches a.found b.found a.finds b.finds) ∙ sym b.is
+  one_ticked x y a b = a.is ∙ ap (λ (f : List Ticked). told m (Found f)) (one_tick m.graph limit below.one_rest m.watches a.found b.found a.finds b.finds) ∙ sym b.is
 
-  one_change : (edit : Edit) (x y : Turn) → Answers limit m number (Changes edit) x → Answers limit m number (Changes edit) y → x ≡ y
+  one_change : (edit : Edit) (x y : Turn) → Answers limit m (Changes edit) x → Answers limit m (Changes edit) y → x ≡ y
   unfolding Answers
-  one_change edit x y (inl a) (inl b) = one_refusal m number (Breaks m.graph edit) (rules_of edit) x y a b
+  one_change edit x y (inl a) (inl b) = one_refusal m (Breaks m.graph edit) (rules_of edit) x y a b
   one_change edit x y (inl a) (inr b) = absurd (first_or_unbroken (Breaks m.graph edit) (rules_of edit) a.rule a.first b.unbroken)
   one_change edit x y (inr a) (inl b) = absurd (first_or_unbroken (Breaks m.graph edit) (rules_of edit) b.rule b.first a.unbroken)
   one_change edit x y (inr a) (inr b) = a.is ∙ ap (λ (g : Graph). let n : Machine = record { graph = g; watches = m.watches } in quiet_turn n) (below.one_next m.graph a.graph b.graph edit good.graph a.next b.next) ∙ sym b.is
 
-  one_answer : (reading : Reading) (x y : Turn) → Answers limit m number reading x → Answers limit m number reading y → x ≡ y
+  one_answer : (reading : Reading) (x y : Turn) → Answers limit m reading x → Answers limit m reading y → x ≡ y
   unfolding Answers
   one_answer Nothing x y a b = a ∙ sym b
   one_answer (Changes edit) x y a b = one_change edit x y a b
   one_answer (Asks text) x y a b = one_ask text x y a b
   one_answer (Watches name text) x y a b = one_watch name text x y a b
-  one_answer (Shows name) x y a b = one_of (NameBreaks m.graph m.watches name) name_rules (ShowsWatch limit m number name) (λ t h. h.unbroken) (one_shown name) x y a b
+  one_answer (Shows name) x y a b = one_of (NameBreaks m.graph m.watches name) name_rules (ShowsWatch limit m name) (λ t h. h.unbroken) (one_shown name) x y a b
   one_answer (Unwatches name) x y a b = one_of (NameBreaks m.graph m.watches name) name_rules (DropsWatch m name) (λ t h. h.unbroken) (λ v w h k. h.is ∙ sym k.is) x y a b
   one_answer Ticks x y a b = one_of (TickBreaks m.graph) tick_rules (TicksAll limit m) (λ t h. h.unbroken) one_ticked x y a b
 
-  one_turn : (what : Result Reading TextCode) (x y : Turn) → TurnOf limit m number what x → TurnOf limit m number what y → x ≡ y
+  one_turn : (what : Result Reading TextCode) (x y : Turn) → TurnOf limit m what x → TurnOf limit m what y → x ≡ y
   unfolding TurnOf
   one_turn (Ok reading) x y a b = one_answer reading x y a b
   one_turn (Err code) x y a b = a ∙ sym b
 
-  pub one_reply_of : (line : List ℕ) (x y : Turn) → Replies limit m number line x → Replies limit m number line y → x ≡ y
-  one_reply_of line x y a b = one_turn b.what x y (subst (λ w. TurnOf limit m number w x) (below.one_line line a.what b.what a.line_of b.line_of) a.turn) b.turn
+  pub one_reply_of : (line : List ℕ) (x y : Turn) → Replies limit m line x → Replies limit m line y → x ≡ y
+  one_reply_of line x y a b = one_turn b.what x y (subst (λ w. TurnOf limit m w x) (below.one_line line a.what b.what a.line_of b.line_of) a.turn) b.turn
 
   -- a refusal, and the line of a fault, leave the machine
   same_good : (t : Turn) → m ≡ t.next → IsGood t.next
   same_good t is = subst IsGood is good
 
-  good_refusal : (broken : RuleCode → Type 0) (rules : List RuleCode) (t : Turn) → Refuses m number broken rules t → IsGood t.next
+  good_refusal : (broken : RuleCode → Type 0) (rules : List RuleCode) (t : Turn) → Refuses m broken rules t → IsGood t.next
   good_refusal broken rules t a = same_good t (sym (ap (λ (u : Turn). u.next) a.is))
 
-  same_machine : (reply : Reply) → m ≡ (asked_turn m number reply).next
-  same_machine (Bad code) = refl
-  same_machine (Refused rule) = refl
-  same_machine Wide = refl
-  same_machine (Rows answer) = refl
+  -- a reply to a text, and what is found for a query, leave it too
+  found_after : (q : QueryTerm) (reply : Reply) → IsFound m.graph limit q reply → m ≡ after m reply
+  found_after q Silent a = absurd a
+  found_after q (Bad code) a = absurd a
+  found_after q (Refused rule) a = absurd a
+  found_after q Wide a = refl
+  found_after q (Rows answer) a = refl
+  found_after q (Found found) a = absurd a
 
-  same_found : (found : Found) → m ≡ (found_turn m number found).next
-  same_found TooWide = refl
-  same_found (Answer answer) = refl
+  asked_after : (text : List ℕ) (reply : Reply) → IsReply m.graph limit text reply → m ≡ after m reply
+  asked_after text Silent a = refl
+  asked_after text (Bad code) a = refl
+  asked_after text (Refused rule) a = refl
+  asked_after text Wide a = refl
+  asked_after text (Rows answer) a = refl
+  asked_after text (Found found) (q, reads, a) = absurd a.1
 
-  good_ask : (text : List ℕ) (t : Turn) → AsksText limit m number text t → IsGood t.next
-  good_ask text t a = same_good t (same_machine a.reply ∙ sym (ap (λ (u : Turn). u.next) a.is))
+  good_ask : (text : List ℕ) (t : Turn) → AsksText limit m text t → IsGood t.next
+  good_ask text t a = same_good t (asked_after text a.reply a.replies ∙ sym (ap (λ (u : Turn). u.next) a.is))
 
   -- another watch
   good_added : (name : Word) (text : List ℕ) (q : QueryTerm) (t : Turn) → Reads text q → AddsWatch m name q t → IsGood t.next
@@ -138,12 +142,12 @@ module _ (below : Below) (limit : ℕ) (m : Machine) (number : ℕ) (good : IsGo
         kinds = each_added (λ (w : Watch). IsOfKind w.query w.base) m.watches (new_watch name q) good.kinds (kind_at_first q);
       })
 
-  good_watch : (name : Word) (text : List ℕ) (t : Turn) → WatchesText m number name text t → IsGood t.next
+  good_watch : (name : Word) (text : List ℕ) (t : Turn) → WatchesText m name text t → IsGood t.next
   good_watch name text t (inl (c, f, e)) = same_good t (sym (ap (λ (u : Turn). u.next) e))
   good_watch name text t (inr (q, s, inl b)) = good_refusal (WatchBreaks m.graph m.watches name q) watch_rules t b
   good_watch name text t (inr (q, s, inr b)) = good_added name text q t s b
 
-  good_change : (edit : Edit) (t : Turn) → HasMoments edit → HasLabels edit → Answers limit m number (Changes edit) t → IsGood t.next
+  good_change : (edit : Edit) (t : Turn) → HasMoments edit → HasLabels edit → Answers limit m (Changes edit) t → IsGood t.next
   unfolding Answers
   good_change edit t moments labels (inl a) = good_refusal (Breaks m.graph edit) (rules_of edit) t a
   good_change edit t moments labels (inr a) = subst (λ (u : Turn). IsGood u.next) (sym a.is) (record {
@@ -153,8 +157,8 @@ module _ (below : Below) (limit : ℕ) (m : Machine) (number : ℕ) (good : IsGo
     kinds = good.kinds;
   })
 
-  good_shown : (name : Word) (t : Turn) → ShowsWatch limit m number name t → IsGood t.next
-  good_shown name t a = same_good t (same_found (a.tells).found ∙ sym (ap (λ (u : Turn). u.next) (a.tells).is))
+  good_shown : (name : Word) (t : Turn) → ShowsWatch limit m name t → IsGood t.next
+  good_shown name t a = same_good t (found_after (a.watch).query a.reply a.finds ∙ sym (ap (λ (u : Turn). u.next) a.is))
 
   -- a watch less
   good_dropped : (name : Word) (t : Turn) → DropsWatch m name t → IsGood t.next
@@ -174,91 +178,91 @@ module _ (below : Below) (limit : ℕ) (m : Machine) (number : ℕ) (good : IsGo
     kinds = kinds_moved m.graph limit m.watches a.found a.finds good.kinds;
   })
 
-  good_of : (broken : RuleCode → Type 0) (rules : List RuleCode) (Other : Turn → Type 0) → ((t : Turn) → Other t → IsGood t.next) → (t : Turn) → Refuses m number broken rules t ⊎ Other t → IsGood t.next
+  good_of : (broken : RuleCode → Type 0) (rules : List RuleCode) (Other : Turn → Type 0) → ((t : Turn) → Other t → IsGood t.next) → (t : Turn) → Refuses m broken rules t ⊎ Other t → IsGood t.next
   good_of broken rules Other other t (inl a) = good_refusal broken rules t a
   good_of broken rules Other other t (inr b) = other t b
 
-  good_answer : (reading : Reading) (t : Turn) → AsksOfMoments reading → AsksForLabels reading → Answers limit m number reading t → IsGood t.next
+  good_answer : (reading : Reading) (t : Turn) → AsksOfMoments reading → AsksForLabels reading → Answers limit m reading t → IsGood t.next
   unfolding Answers
   good_answer Nothing t moments labels a = same_good t (sym (ap (λ (u : Turn). u.next) a))
   good_answer (Changes edit) t moments labels a = good_change edit t moments labels a
   good_answer (Asks text) t moments labels a = good_ask text t a
   good_answer (Watches name text) t moments labels a = good_watch name text t a
-  good_answer (Shows name) t moments labels a = good_of (NameBreaks m.graph m.watches name) name_rules (ShowsWatch limit m number name) (good_shown name) t a
+  good_answer (Shows name) t moments labels a = good_of (NameBreaks m.graph m.watches name) name_rules (ShowsWatch limit m name) (good_shown name) t a
   good_answer (Unwatches name) t moments labels a = good_of (NameBreaks m.graph m.watches name) name_rules (DropsWatch m name) (good_dropped name) t a
   good_answer Ticks t moments labels a = good_of (TickBreaks m.graph) tick_rules (TicksAll limit m) good_ticked t a
 
-  good_turn : (line : List ℕ) (what : Result Reading TextCode) (t : Turn) → LineOf line what → TurnOf limit m number what t → IsGood t.next
+  good_turn : (line : List ℕ) (what : Result Reading TextCode) (t : Turn) → LineOf line what → TurnOf limit m what t → IsGood t.next
   unfolding TurnOf
   good_turn line (Ok reading) t is a = good_answer reading t (below.moments line reading is) (below.labels line reading is) a
   good_turn line (Err code) t is a = same_good t (sym (ap (λ (u : Turn). u.next) a))
 
-  pub good_reply_of : (line : List ℕ) (t : Turn) → Replies limit m number line t → IsGood t.next
+  pub good_reply_of : (line : List ℕ) (t : Turn) → Replies limit m line t → IsGood t.next
   good_reply_of line t a = good_turn line a.what t a.line_of a.turn
 
-  some_ask : (text : List ℕ) → (t : Turn) × AsksText limit m number text t
-  some_ask text = let r = some_asked below.texts m.graph limit text in (asked_turn m number r.0, asked_asks limit m number text r.0 r.1 _ refl)
+  some_ask : (text : List ℕ) → (t : Turn) × AsksText limit m text t
+  some_ask text = let r = some_asked below.texts m.graph limit text in (told m r.0, asked_asks limit m text r.0 r.1 _ refl)
 
   -- the first rule that is broken, or another turn where none is
-  some_of : (broken : RuleCode → Type 0) (rules : List RuleCode) (Other : Turn → Type 0) → ((rule : RuleCode) × FirstOf broken rules rule) ⊎ NoneOf broken rules → (NoneOf broken rules → (t : Turn) × Other t) → (t : Turn) × (Refuses m number broken rules t ⊎ Other t)
-  some_of broken rules Other (inl f) other = (refused_turn m number f.0, refusal m number broken rules Other f.0 f.1 _ refl)
+  some_of : (broken : RuleCode → Type 0) (rules : List RuleCode) (Other : Turn → Type 0) → ((rule : RuleCode) × FirstOf broken rules rule) ⊎ NoneOf broken rules → (NoneOf broken rules → (t : Turn) × Other t) → (t : Turn) × (Refuses m broken rules t ⊎ Other t)
+  some_of broken rules Other (inl f) other = (told m (Refused f.0), refusal m broken rules Other f.0 f.1 _ refl)
   some_of broken rules Other (inr none) other = let t = other none in (t.0, inr t.1)
 
-  some_watched : (name : Word) (text : List ℕ) → (t : Turn) × WatchesText m number name text t
+  some_watched : (name : Word) (text : List ℕ) → (t : Turn) × WatchesText m name text t
   some_watched name text = elim (below.texts.some_query text) [
     | inl s ↦ let t = some_of (WatchBreaks m.graph m.watches name s.0) watch_rules (AddsWatch m name s.0) (first_or_none (WatchBreaks m.graph m.watches name s.0) (decide_watch m.graph m.watches name s.0) watch_rules)
-        (λ none. (_, record { unbroken = none; is = refl })) in (t.0, watch_read m number name text s.0 s.1 t.0 t.1)
-    | inr f ↦ (bad_turn m number f.0, watch_bad m number name text f.0 f.1 _ refl)
+        (λ none. (_, record { unbroken = none; is = refl })) in (t.0, watch_read m name text s.0 s.1 t.0 t.1)
+    | inr f ↦ (told m (Bad f.0), watch_bad m name text f.0 f.1 _ refl)
   ]
 
-  some_shown : (name : Word) → NoneOf (NameBreaks m.graph m.watches name) name_rules → (t : Turn) × ShowsWatch limit m number name t
+  some_shown : (name : Word) → NoneOf (NameBreaks m.graph m.watches name) name_rules → (t : Turn) × ShowsWatch limit m name t
   some_shown name none =
       let w = some_watch m.watches name none.1.0 in
       let f = some_found m.graph limit (w.0).query (good.asks w.0 w.1) in
-      (found_turn m number f.0, record { unbroken = none; watch = w.0; among = w.1; named = w.2; tells = record { found = f.0; finds = f.1; is = refl } })
+      (told m f.0, record { unbroken = none; watch = w.0; among = w.1; named = w.2; reply = f.0; finds = f.1; is = refl })
 
   some_ticked : NoneOf (TickBreaks m.graph) tick_rules → (t : Turn) × TicksAll limit m t
-  some_ticked none = let f = some_tick m.graph limit below.some_rest m.watches good.asks good.kinds in (tick_turn m f.0, record { unbroken = none; found = f.0; finds = f.1; is = refl })
+  some_ticked none = let f = some_tick m.graph limit below.some_rest m.watches good.asks good.kinds in (told m (Found f.0), record { unbroken = none; found = f.0; finds = f.1; is = refl })
 
-  some_change : (edit : Edit) → (t : Turn) × Answers limit m number (Changes edit) t
+  some_change : (edit : Edit) → (t : Turn) × Answers limit m (Changes edit) t
   some_change edit = elim (below.rules m.graph edit good.graph) [
-    | inl f ↦ (refused_turn m number f.0, edit_refused limit m number edit f.0 f.1 _ refl)
-    | inr u ↦ let n = below.some_next m.graph edit good.graph u in (_, edit_made limit m number edit n.0 u n.1)
+    | inl f ↦ (told m (Refused f.0), edit_refused limit m edit f.0 f.1 _ refl)
+    | inr u ↦ let n = below.some_next m.graph edit good.graph u in (_, edit_made limit m edit n.0 u n.1)
   ]
 
-  some_answer : (reading : Reading) → (t : Turn) × Answers limit m number reading t
-  some_answer Nothing = (quiet_turn m, blank_answers limit m number)
+  some_answer : (reading : Reading) → (t : Turn) × Answers limit m reading t
+  some_answer Nothing = (quiet_turn m, blank_answers limit m)
   some_answer (Changes edit) = some_change edit
-  some_answer (Asks text) = let t = some_ask text in (t.0, asks_answers limit m number text t.0 t.1)
-  some_answer (Watches name text) = let t = some_watched name text in (t.0, watches_answers limit m number name text t.0 t.1)
+  some_answer (Asks text) = let t = some_ask text in (t.0, asks_answers limit m text t.0 t.1)
+  some_answer (Watches name text) = let t = some_watched name text in (t.0, watches_answers limit m name text t.0 t.1)
   some_answer (Shows name) =
-      let t = some_of (NameBreaks m.graph m.watches name) name_rules (ShowsWatch limit m number name) (first_or_none (NameBreaks m.graph m.watches name) (decide_named m.graph m.watches name) name_rules) (some_shown name) in
-      (t.0, shows_answers limit m number name t.0 t.1)
+      let t = some_of (NameBreaks m.graph m.watches name) name_rules (ShowsWatch limit m name) (first_or_none (NameBreaks m.graph m.watches name) (decide_named m.graph m.watches name) name_rules) (some_shown name) in
+      (t.0, shows_answers limit m name t.0 t.1)
   some_answer (Unwatches name) =
       let t = some_of (NameBreaks m.graph m.watches name) name_rules (DropsWatch m name) (first_or_none (NameBreaks m.graph m.watches name) (decide_named m.graph m.watches name) name_rules) (λ none. (_, record { unbroken = none; is = refl })) in
-      (t.0, unwatches_answers limit m number name t.0 t.1)
+      (t.0, unwatches_answers limit m name t.0 t.1)
   some_answer Ticks =
       let t = some_of (TickBreaks m.graph) tick_rules (TicksAll limit m) (first_or_none (TickBreaks m.graph) (decide_tick m.graph) tick_rules) some_ticked in
-      (t.0, ticks_answers limit m number t.0 t.1)
+      (t.0, ticks_answers limit m t.0 t.1)
 
-  pub some_reply_of : (line : List ℕ) → (t : Turn) × Replies limit m number line t
+  pub some_reply_of : (line : List ℕ) → (t : Turn) × Replies limit m line t
   some_reply_of line = by_line (below.some_line line)
     where
-      by_line : (result : Result Reading TextCode) × LineOf line result → (t : Turn) × Replies limit m number line t
-      by_line (Ok reading, is) = let t = some_answer reading in (t.0, replies_read limit m number line reading is t.0 t.1)
-      by_line (Err code, is) = (bad_turn m number code, replies_bad limit m number line code is _ refl)
+      by_line : (result : Result Reading TextCode) × LineOf line result → (t : Turn) × Replies limit m line t
+      by_line (Ok reading, is) = let t = some_answer reading in (t.0, replies_read limit m line reading is t.0 t.1)
+      by_line (Err code, is) = (told m (Bad code), replies_bad limit m line code is _ refl)
 
 pub one_reply : Below → OneReply
-one_reply below limit m number line x y good = one_reply_of below limit m number good line x y
+one_reply below limit m line x y good = one_reply_of below limit m good line x y
 
 pub some_reply : Below → SomeReply
-some_reply below limit m number line good = some_reply_of below limit m number good line
+some_reply below limit m line good = some_reply_of below limit m good line
 
 pub good_reply : Below → GoodReply
-good_reply below limit m number line t good = good_reply_of below limit m number good line t
+good_reply below limit m line t good = good_reply_of below limit m good line t
 
 pub front_replies : ((line : List ℕ) (n : ℕ) (result : Result Reading TextCode) → 65538 ≤ n → LineOf (take n line) result ↔ LineOf line result) → FrontReplies
-front_replies law limit m number line n t long = (
+front_replies law limit m line n t long = (
   λ r. record { what = r.what; line_of = (law line n r.what long).0 r.line_of; turn = r.turn },
   λ r. record { what = r.what; line_of = (law line n r.what long).1 r.line_of; turn = r.turn },
 )

@@ -7,7 +7,8 @@ use Rattle.itpg_base.specs.Graphs.{Graph}
 use Rattle.itpg_base.specs.Points.{Point, Relation, IsAt}
 use Rattle.itpg_base.specs.declared.text_code.TextCode.{TextCode}
 use Rattle.itpg_base.proofs.Objects.{there}
-use Rattle.itpg_edit.specs.Rules.{NoneOf}
+use Rattle.itpg_base.specs.declared.rule_code.RuleCode.{RuleCode}
+use Rattle.itpg_edit.specs.Rules.{FirstOf, NoneOf}
 use Rattle.itpg_edit.proofs.FirstOf.{first_unique, first_or_unbroken}
 use Rattle.path_ast.specs.Terms.{PathTerm, QueryTerm}
 use Rattle.path_ast.specs.Meaning.{Rel}
@@ -29,10 +30,9 @@ use Rattle.path_eval.specs.Evaluated.{AllFit}
 use Rattle.path_eval.proofs.Answers.{answer_from}
 use Rattle.path_eval.proofs.Finite.{cut_rows, departures, arrivals, fit_or_wide, fit_apart}
 use Rattle.row_printer.specs.Texts.{AreDeclared}
-use Rattle.itpg_session.specs.Questions.{Found, TooWide, Answer, IsFound}
-use Rattle.itpg_session.specs.Watching.{IsFoundDeclared}
+use Rattle.itpg_session.specs.Questions.{HasAnswer}
 use Rattle.itpg_session.specs.Rules.{QueryBreaks, ask_rules}
-use Rattle.itpg_session.specs.Replies.{Reply, Bad, Refused, Wide, Rows, IsReply, IsReplyTo, NamesDeclared}
+use Rattle.itpg_session.specs.Replies.{Reply, Silent, Bad, Refused, Wide, Rows, Found, IsFound, IsReply, IsReplyTo, NamesDeclared}
 use Rattle.itpg_session.proofs.Decided.{first_or_none, decide_ask}
 
 -- ---- what answers a query
@@ -89,75 +89,110 @@ module _ (g : Graph) (p : PathTerm) where
 -- ---- what is found for a query
 
 module _ (g : Graph) (limit : ℕ) (q : QueryTerm) where
-  pub one_found : (x y : Found) → IsFound g limit q x → IsFound g limit q y → x ≡ y
-  one_found TooWide TooWide a b = refl
-  one_found TooWide (Answer y) a b = absurd (b.0 a)
-  one_found (Answer x) TooWide a b = absurd (a.0 b)
-  one_found (Answer x) (Answer y) a b = ap Answer (one_answer q.first q.last (Rel q.path g) x y a.1 b.1)
+  pub one_answered : (x y : Answered) → HasAnswer g limit q x → HasAnswer g limit q y → x ≡ y
+  one_answered x y a b = one_answer q.first q.last (Rel q.path g) x y a.1 b.1
 
-  pub some_found : IsTrue (q.first || q.last) → (found : Found) × IsFound g limit q found
+  pub one_found : (x y : Reply) → IsFound g limit q x → IsFound g limit q y → x ≡ y
+  one_found Silent y a b = absurd a
+  one_found (Bad c) y a b = absurd a
+  one_found (Refused r) y a b = absurd a
+  one_found (Found f) y a b = absurd a
+  one_found Wide Silent a b = absurd b
+  one_found Wide (Bad c) a b = absurd b
+  one_found Wide (Refused r) a b = absurd b
+  one_found Wide (Found f) a b = absurd b
+  one_found Wide Wide a b = refl
+  one_found Wide (Rows y) a b = absurd (b.0 a)
+  one_found (Rows x) Silent a b = absurd b
+  one_found (Rows x) (Bad c) a b = absurd b
+  one_found (Rows x) (Refused r) a b = absurd b
+  one_found (Rows x) (Found f) a b = absurd b
+  one_found (Rows x) Wide a b = absurd (a.0 b)
+  one_found (Rows x) (Rows y) a b = ap Rows (one_answered x y a b)
+
+  pub some_found : IsTrue (q.first || q.last) → (found : Reply) × IsFound g limit q found
   some_found ends = elim (fit_or_wide g limit (worked q.path All All)) [
-    | inl fits ↦ let a = some_answer q.first q.last g q.path ends in (Answer a.0, (fit_apart g limit (worked q.path All All) fits, a.1))
-    | inr wide ↦ (TooWide, wide)
+    | inl fits ↦ let a = some_answer q.first q.last g q.path ends in (Rows a.0, (fit_apart g limit (worked q.path All All) fits, a.1))
+    | inr wide ↦ (Wide, wide)
   ]
 
-  pub found_declared : (found : Found) → IsFound g limit q found → IsFoundDeclared g found
-  found_declared TooWide a = tt
-  found_declared (Answer x) a = declared g q.path q.first q.last x a.1
+  pub found_declared : (found : Reply) → IsFound g limit q found → NamesDeclared g found
+  found_declared Silent a = tt
+  found_declared (Bad c) a = tt
+  found_declared (Refused r) a = tt
+  found_declared (Found f) a = tt
+  found_declared Wide a = tt
+  found_declared (Rows x) a = declared g q.path q.first q.last x a.1
 
 -- the rows of the path's relation, where all its members fit, give the answer
 pub rows_found : (g : Graph) (limit : ℕ) (q : QueryTerm) (rows : List Row) (answer : Answered) → AllFit g limit (worked q.path All All)
-    → NormalRows (Cut g q.path All All) rows → IsAnswerFrom q.first q.last rows answer → IsFound g limit q (Answer answer)
+    → NormalRows (Cut g q.path All All) rows → IsAnswerFrom q.first q.last rows answer → HasAnswer g limit q answer
 rows_found g limit q rows answer fits n from = (fit_apart g limit (worked q.path All All) fits, answer_of_rows g q rows answer n from)
 
 -- ---- the reply to a query
 
 module _ (g : Graph) (limit : ℕ) (q : QueryTerm) where
+  -- the first rule that asking it breaks, or what is found for it
+  refused_or_found : (x : Reply) → IsReplyTo g limit q x → ((rule : RuleCode) × FirstOf (QueryBreaks g q) ask_rules rule × (x ≡ Refused rule)) ⊎ (NoneOf (QueryBreaks g q) ask_rules × IsFound g limit q x)
+  refused_or_found (Refused r) a = inl (r, a, refl)
+  refused_or_found Silent a = inr a
+  refused_or_found (Bad c) a = inr a
+  refused_or_found Wide a = inr a
+  refused_or_found (Rows x) a = inr a
+  refused_or_found (Found f) a = inr a
+
   one_reply_to : (x y : Reply) → IsReplyTo g limit q x → IsReplyTo g limit q y → x ≡ y
-  one_reply_to (Bad c) y a b = absurd a
-  one_reply_to (Refused r) (Bad c) a b = absurd b
-  one_reply_to (Refused r) (Refused s) a b = ap Refused (first_unique (QueryBreaks g q) ask_rules r s a b)
-  one_reply_to (Refused r) Wide a b = absurd (first_or_unbroken (QueryBreaks g q) ask_rules r a b.0)
-  one_reply_to (Refused r) (Rows y) a b = absurd (first_or_unbroken (QueryBreaks g q) ask_rules r a b.0)
-  one_reply_to Wide (Bad c) a b = absurd b
-  one_reply_to Wide (Refused s) a b = absurd (first_or_unbroken (QueryBreaks g q) ask_rules s b a.0)
-  one_reply_to Wide Wide a b = refl
-  one_reply_to Wide (Rows y) a b = absurd (b.1.0 a.1)
-  one_reply_to (Rows x) (Bad c) a b = absurd b
-  one_reply_to (Rows x) (Refused s) a b = absurd (first_or_unbroken (QueryBreaks g q) ask_rules s b a.0)
-  one_reply_to (Rows x) Wide a b = absurd (a.1.0 b.1)
-  one_reply_to (Rows x) (Rows y) a b = ap Rows (one_answer q.first q.last (Rel q.path g) x y a.1.1 b.1.1)
+  one_reply_to x y a b = by_cases (refused_or_found x a) (refused_or_found y b)
+    where
+      Cases : Reply → Type 0
+      Cases z = ((rule : RuleCode) × FirstOf (QueryBreaks g q) ask_rules rule × (z ≡ Refused rule)) ⊎ (NoneOf (QueryBreaks g q) ask_rules × IsFound g limit q z)
+
+      by_cases : Cases x → Cases y → x ≡ y
+      by_cases (inl (r, f, e)) (inl (s, h, k)) = e ∙ ap Refused (first_unique (QueryBreaks g q) ask_rules r s f h) ∙ sym k
+      by_cases (inl (r, f, e)) (inr (none, h)) = absurd (first_or_unbroken (QueryBreaks g q) ask_rules r f none)
+      by_cases (inr (none, h)) (inl (s, f, k)) = absurd (first_or_unbroken (QueryBreaks g q) ask_rules s f none)
+      by_cases (inr (none, h)) (inr (same, k)) = one_found g limit q x y h k
 
   -- what is found is the reply, where no rule is broken
-  told : NoneOf (QueryBreaks g q) ask_rules → (found : Found) → IsFound g limit q found → (reply : Reply) × IsReplyTo g limit q reply
-  told unbroken TooWide is = (Wide, (unbroken, is))
-  told unbroken (Answer x) is = (Rows x, (unbroken, is))
+  pub is_reply : NoneOf (QueryBreaks g q) ask_rules → (found : Reply) → IsFound g limit q found → IsReplyTo g limit q found
+  is_reply unbroken Silent is = absurd is
+  is_reply unbroken (Bad c) is = absurd is
+  is_reply unbroken (Refused r) is = absurd is
+  is_reply unbroken (Found f) is = absurd is
+  is_reply unbroken Wide is = (unbroken, is)
+  is_reply unbroken (Rows x) is = (unbroken, is)
 
   some_reply_to : IsTrue (q.first || q.last) → (reply : Reply) × IsReplyTo g limit q reply
   some_reply_to ends = elim (first_or_none (QueryBreaks g q) (decide_ask g q) ask_rules) [
     | inl f ↦ (Refused f.0, f.1)
-    | inr unbroken ↦ let f = some_found g limit q ends in told unbroken f.0 f.1
+    | inr unbroken ↦ let f = some_found g limit q ends in (f.0, is_reply unbroken f.0 f.1)
   ]
 
 -- ---- the reply to a query text
 
 module _ (g : Graph) (limit : ℕ) (text : List ℕ) where
   pub of_read : (q : QueryTerm) → Reads text q → (reply : Reply) → IsReplyTo g limit q reply → IsReply g limit text reply
-  of_read q reads (Bad c) a = absurd a
+  of_read q reads (Bad c) a = absurd a.1
   of_read q reads (Refused r) a = (q, reads, a)
+  of_read q reads Silent a = (q, reads, a)
   of_read q reads Wide a = (q, reads, a)
   of_read q reads (Rows x) a = (q, reads, a)
+  of_read q reads (Found f) a = (q, reads, a)
 
   read_or_bad : (reply : Reply) → IsReply g limit text reply → ((q : QueryTerm) × Reads text q × IsReplyTo g limit q reply) ⊎ ((c : TextCode) × FaultOf text c × (reply ≡ Bad c))
   read_or_bad (Bad c) a = inr (c, a, refl)
   read_or_bad (Refused r) a = inl a
+  read_or_bad Silent a = inl a
   read_or_bad Wide a = inl a
   read_or_bad (Rows x) a = inl a
+  read_or_bad (Found f) a = inl a
 
   pub declared_asked : (reply : Reply) → IsReply g limit text reply → NamesDeclared g reply
   declared_asked (Bad c) a = tt
   declared_asked (Refused r) a = tt
+  declared_asked Silent a = tt
   declared_asked Wide a = tt
+  declared_asked (Found f) a = tt
   declared_asked (Rows x) (q, reads, a) = declared g q.path q.first q.last x a.1.1
 
 -- the laws of query texts

@@ -10,12 +10,12 @@ use Rattle.itpg_base.specs.Lists.{Among, Ordered}
 use Rattle.relation_rows.specs.Answered.{Answered as Answers}
 use Rattle.standing_queries.specs.Watches.{Watch, NamesDiffer, rebased}
 use Rattle.itpg_session.specs.declared.ticking.Ticked.{Ticked as TickedValue}
-use Rattle.itpg_session.specs.Ticks.{Ticked, ticked_of, StaysWide, Moves, IsTicked, AreTicked, ticked_text, tick_text, some_wide, moved, moved_at, all_moved}
+use Rattle.itpg_session.specs.Ticks.{Ticked, ticked_of, StaysWide, Moves, IsTicked, AreTicked, some_wide, moved, moved_at, all_moved}
 use Rattle.itpg_session.specs.Watching.{IsMoveOfKind, AreMovesOfKind}
-use Rattle.itpg_session.specs.Texts.{tick_wide_text, tick_head_text}
+use Rattle.itpg_session.specs.Texts.{tick_wide_text, tick_head_text, ticked_text, tick_text}
 use Rattle.itpg_session.specs.Steps.{Sees}
-use Rattle.itpg_session.specs.declared.session.Seen.TheVariants.{Quiet, Answered, Refused}
-use Rattle.itpg_session.proofs.Taken.{sees_quiet, sees_answered, sees_refused}
+use Rattle.itpg_session.specs.declared.reply.Seen.TheVariants.{Quiet, Answered, Refused}
+use Rattle.itpg_session.proofs.Told.{sees_quiet, sees_answered, sees_refused}
 
 some_is : {X : Type 0} {p q : X} → Some p ≡ Some q → p ≡ q
 some_is e = cc
@@ -64,24 +64,16 @@ map_at f (x ∷ xs) (suc i) d few = map_at f xs i d (omega (arith, few))
 
 -- ---- writing
 
-pub text_more : (g : Graph) (ws : List Watch) (xs : List Ticked) (i : ℕ) (w : Watch) (x : Ticked) → slice_get ws i ≡ Some w → slice_get xs i ≡ Some x
-    → tick_text g (take (suc i) ws) (take (suc i) xs) ≡ tick_text g (take i ws) (take i xs) ++ ticked_text g w.name x
-text_more g [] xs i w x a b = absurd (let no_watch : ⊥ = cc in no_watch)
-text_more g (v ∷ ws) [] i w x a b = absurd (let nothing : ⊥ = cc in nothing)
-text_more g (v ∷ ws) (y ∷ ys) zero w x a b =
-    append-nil (ticked_text g v.name y) ∙ ap (λ (o : Watch). ticked_text g o.name y) (some_is a) ∙ ap (λ (o : Ticked). ticked_text g w.name o) (some_is b)
-text_more g (v ∷ ws) (y ∷ ys) (suc i) w x a b =
-    ap (λ t. ticked_text g v.name y ++ t) (text_more g ws ys i w x a b) ∙ sym (append_assoc (ticked_text g v.name y) (tick_text g (take i ws) (take i ys)) (ticked_text g w.name x))
+pub text_more : (g : Graph) (xs : List Ticked) (i : ℕ) (x : Ticked) → slice_get xs i ≡ Some x → tick_text g (take (suc i) xs) ≡ tick_text g (take i xs) ++ ticked_text g x
+text_more g [] i x b = absurd (let nothing : ⊥ = cc in nothing)
+text_more g (y ∷ ys) zero x b = append-nil (ticked_text g y) ∙ ap (ticked_text g) (some_is b)
+text_more g (y ∷ ys) (suc i) x b = ap (λ t. ticked_text g y ++ t) (text_more g ys i x b) ∙ sym (append_assoc (ticked_text g y) (tick_text g (take i ys)) (ticked_text g x))
 
-pub text_split : (g : Graph) (ws : List Watch) (xs : List Ticked) (i : ℕ) (w : Watch) (x : Ticked) → slice_get ws i ≡ Some w → slice_get xs i ≡ Some x
-    → tick_text g ws xs ≡ tick_text g (take i ws) (take i xs) ++ (ticked_text g w.name x ++ tick_text g (drop (suc i) ws) (drop (suc i) xs))
-text_split g [] xs i w x a b = absurd (let no_watch : ⊥ = cc in no_watch)
-text_split g (v ∷ ws) [] i w x a b = absurd (let nothing : ⊥ = cc in nothing)
-text_split g (v ∷ ws) (y ∷ ys) zero w x a b =
-    ap (λ (o : Watch). ticked_text g o.name y ++ tick_text g ws ys) (some_is a) ∙ ap (λ (o : Ticked). ticked_text g w.name o ++ tick_text g ws ys) (some_is b)
-text_split g (v ∷ ws) (y ∷ ys) (suc i) w x a b =
-    ap (λ t. ticked_text g v.name y ++ t) (text_split g ws ys i w x a b)
-    ∙ sym (append_assoc (ticked_text g v.name y) (tick_text g (take i ws) (take i ys)) (ticked_text g w.name x ++ tick_text g (drop (suc i) ws) (drop (suc i) ys)))
+pub text_split : (g : Graph) (xs : List Ticked) (i : ℕ) (x : Ticked) → slice_get xs i ≡ Some x → tick_text g xs ≡ tick_text g (take i xs) ++ (ticked_text g x ++ tick_text g (drop (suc i) xs))
+text_split g [] i x b = absurd (let nothing : ⊥ = cc in nothing)
+text_split g (y ∷ ys) zero x b = ap (λ (o : Ticked). ticked_text g o ++ tick_text g ys) (some_is b)
+text_split g (y ∷ ys) (suc i) x b =
+    ap (λ t. ticked_text g y ++ t) (text_split g ys i x b) ∙ sym (append_assoc (ticked_text g y) (tick_text g (take i ys)) (ticked_text g x ++ tick_text g (drop (suc i) ys)))
 
 -- ---- moving
 
@@ -117,23 +109,23 @@ from_at zero (w ∷ ws) (x ∷ xs) = refl
 from_at (suc k) (w ∷ ws) [] = refl
 from_at (suc k) (w ∷ ws) (x ∷ xs) = from_at k ws xs
 
-from_less : (k : ℕ) (ws : List Watch) (xs : List Ticked) (now gained lost : Answers) → slice_get xs k ≡ Some (Moves now gained lost) → rebased k now (moved_from (suc k) ws xs) ≡ moved_from k ws xs
-from_less zero [] xs now gained lost is = refl
-from_less (suc k) [] xs now gained lost is = refl
-from_less k (w ∷ ws) [] now gained lost is = absurd (let nothing : ⊥ = cc in nothing)
-from_less zero (w ∷ ws) (x ∷ xs) now gained lost is = ap (λ (y : Ticked). moved w y ∷ all_moved ws xs) (sym (some_is is))
-from_less (suc k) (w ∷ ws) (x ∷ xs) now gained lost is = ap (λ (vs : List Watch). w ∷ vs) (from_less k ws xs now gained lost is)
+from_less : (k : ℕ) (ws : List Watch) (xs : List Ticked) (name : Word) (now gained lost : Answers) → slice_get xs k ≡ Some (Moves name now gained lost) → rebased k now (moved_from (suc k) ws xs) ≡ moved_from k ws xs
+from_less zero [] xs name now gained lost is = refl
+from_less (suc k) [] xs name now gained lost is = refl
+from_less k (w ∷ ws) [] name now gained lost is = absurd (let nothing : ⊥ = cc in nothing)
+from_less zero (w ∷ ws) (x ∷ xs) name now gained lost is = ap (λ (y : Ticked). moved w y ∷ all_moved ws xs) (sym (some_is is))
+from_less (suc k) (w ∷ ws) (x ∷ xs) name now gained lost is = ap (λ (vs : List Watch). w ∷ vs) (from_less k ws xs name now gained lost is)
 
-from_same : (k : ℕ) (ws : List Watch) (xs : List Ticked) → slice_get xs k ≡ Some StaysWide → moved_from (suc k) ws xs ≡ moved_from k ws xs
-from_same zero [] xs is = refl
-from_same (suc k) [] xs is = refl
-from_same k (w ∷ ws) [] is = absurd (let nothing : ⊥ = cc in nothing)
-from_same zero (w ∷ ws) (x ∷ xs) is = ap (λ (y : Ticked). moved w y ∷ all_moved ws xs) (sym (some_is is))
-from_same (suc k) (w ∷ ws) (x ∷ xs) is = ap (λ (vs : List Watch). w ∷ vs) (from_same k ws xs is)
+from_same : (k : ℕ) (ws : List Watch) (xs : List Ticked) (name : Word) → slice_get xs k ≡ Some (StaysWide name) → moved_from (suc k) ws xs ≡ moved_from k ws xs
+from_same zero [] xs name is = refl
+from_same (suc k) [] xs name is = refl
+from_same k (w ∷ ws) [] name is = absurd (let nothing : ⊥ = cc in nothing)
+from_same zero (w ∷ ws) (x ∷ xs) name is = ap (λ (y : Ticked). moved w y ∷ all_moved ws xs) (sym (some_is is))
+from_same (suc k) (w ∷ ws) (x ∷ xs) name is = ap (λ (vs : List Watch). w ∷ vs) (from_same k ws xs name is)
 
 pub from_one : (k : ℕ) (ws : List Watch) (xs : List Ticked) (x : Ticked) → slice_get xs k ≡ Some x → moved_at k x (moved_from (suc k) ws xs) ≡ moved_from k ws xs
-from_one k ws xs StaysWide is = from_same k ws xs is
-from_one k ws xs (Moves now gained lost) is = from_less k ws xs now gained lost is
+from_one k ws xs (StaysWide name) is = from_same k ws xs name is
+from_one k ws xs (Moves name now gained lost) is = from_less k ws xs name now gained lost is
 
 pub kind_at : (ws : List Watch) (xs : List Ticked) (i : ℕ) (x : Ticked) → AreMovesOfKind ws xs → slice_get xs i ≡ Some x → i < length ws → IsSomeAnd (slice_get ws i) (λ w. IsMoveOfKind w x)
 kind_at [] xs i x a is few = absurd (omega (arith, few))
@@ -145,13 +137,13 @@ kind_at (w ∷ ws) (y ∷ ys) (suc i) x a is few = kind_at ws ys i x a.1 is (ome
 pub among_moved : (ws : List Watch) (xs : List Ticked) (w : Watch) → Among (all_moved ws xs) w → (v : Watch) × Among ws v × (v.name ≡ w.name) × (v.query ≡ w.query)
 among_moved [] xs w a = absurd a
 among_moved (v ∷ ws) [] w a = (w, a, refl, refl)
-among_moved (v ∷ ws) (StaysWide ∷ xs) w (inl e) = (v, inl refl, ap (λ (u : Watch). u.name) e, ap (λ (u : Watch). u.query) e)
-among_moved (v ∷ ws) (Moves now gained lost ∷ xs) w (inl e) = (v, inl refl, ap (λ (u : Watch). u.name) e, ap (λ (u : Watch). u.query) e)
+among_moved (v ∷ ws) (StaysWide name ∷ xs) w (inl e) = (v, inl refl, ap (λ (u : Watch). u.name) e, ap (λ (u : Watch). u.query) e)
+among_moved (v ∷ ws) (Moves name now gained lost ∷ xs) w (inl e) = (v, inl refl, ap (λ (u : Watch). u.name) e, ap (λ (u : Watch). u.query) e)
 among_moved (v ∷ ws) (x ∷ xs) w (inr a) = let r = among_moved ws xs w a in (r.0, inr r.1, r.2, r.3)
 
 same_name : (w : Watch) (x : Ticked) → (moved w x).name ≡ w.name
-same_name w StaysWide = refl
-same_name w (Moves now gained lost) = refl
+same_name w (StaysWide name) = refl
+same_name w (Moves name now gained lost) = refl
 
 pub differ_moved : (ws : List Watch) (xs : List Ticked) → Ordered NamesDiffer ws → Ordered NamesDiffer (all_moved ws xs)
 differ_moved [] xs d = tt
@@ -196,28 +188,22 @@ moves_last ws now xs ys x n same kinds front is moved =
 
 -- ---- what is seen of a tick
 
-one_text : (g : Graph) (name : Word) (x : Ticked) (more : List ℕ) → ticked_text g name x ++ more ≢ []
+one_text : (g : Graph) (x : Ticked) (more : List ℕ) → ticked_text g x ++ more ≢ []
 unfolding tick_wide_text tick_head_text
-one_text g name StaysWide more e = cc
-one_text g name (Moves now gained lost) more e = cc
+one_text g (StaysWide name) more e = cc
+one_text g (Moves name now gained lost) more e = cc
 
-pub seen_quiet : (g : Graph) (limit : ℕ) (ws : List Watch) (xs : List Ticked) → AreTicked g limit ws xs → length xs ≡ 0 → Sees Quiet (tick_text g ws xs) (some_wide xs)
-seen_quiet g limit [] [] is none = sees_quiet
-seen_quiet g limit [] (x ∷ xs) is none = absurd is
-seen_quiet g limit (w ∷ ws) [] is none = absurd is
-seen_quiet g limit (w ∷ ws) (x ∷ xs) is none = absurd (omega (arith, none))
+pub seen_quiet : (g : Graph) (xs : List Ticked) → length xs ≡ 0 → Sees Quiet (tick_text g xs) (some_wide xs)
+seen_quiet g [] none = sees_quiet
+seen_quiet g (x ∷ xs) none = absurd (omega (arith, none))
 
-pub seen_refused : (g : Graph) (limit : ℕ) (ws : List Watch) (xs : List Ticked) → AreTicked g limit ws xs → some_wide xs ≡ true → Sees Refused (tick_text g ws xs) (some_wide xs)
-seen_refused g limit [] [] is wide = absurd (let no_wide : ⊥ = cc in no_wide)
-seen_refused g limit [] (x ∷ xs) is wide = absurd is
-seen_refused g limit (w ∷ ws) [] is wide = absurd is
-seen_refused g limit (w ∷ ws) (x ∷ xs) is wide = subst (λ (b : Bool). Sees Refused (tick_text g (w ∷ ws) (x ∷ xs)) b) (sym wide) (sees_refused _ (one_text g w.name x (tick_text g ws xs)))
+pub seen_refused : (g : Graph) (xs : List Ticked) → some_wide xs ≡ true → Sees Refused (tick_text g xs) (some_wide xs)
+seen_refused g [] wide = absurd (let no_wide : ⊥ = cc in no_wide)
+seen_refused g (x ∷ xs) wide = subst (λ (b : Bool). Sees Refused (tick_text g (x ∷ xs)) b) (sym wide) (sees_refused _ (one_text g x (tick_text g xs)))
 
-pub seen_answered : (g : Graph) (limit : ℕ) (ws : List Watch) (xs : List Ticked) → AreTicked g limit ws xs → length xs ≢ 0 → some_wide xs ≡ false → Sees Answered (tick_text g ws xs) (some_wide xs)
-seen_answered g limit [] [] is some fits = absurd (some refl)
-seen_answered g limit [] (x ∷ xs) is some fits = absurd is
-seen_answered g limit (w ∷ ws) [] is some fits = absurd is
-seen_answered g limit (w ∷ ws) (x ∷ xs) is some fits = subst (λ (b : Bool). Sees Answered (tick_text g (w ∷ ws) (x ∷ xs)) b) (sym fits) (sees_answered _ (one_text g w.name x (tick_text g ws xs)))
+pub seen_answered : (g : Graph) (xs : List Ticked) → length xs ≢ 0 → some_wide xs ≡ false → Sees Answered (tick_text g xs) (some_wide xs)
+seen_answered g [] some fits = absurd (some refl)
+seen_answered g (x ∷ xs) some fits = subst (λ (b : Bool). Sees Answered (tick_text g (x ∷ xs)) b) (sym fits) (sees_answered _ (one_text g x (tick_text g xs)))
 
 -- ---- whether some is too wide
 

@@ -1,8 +1,8 @@
 pub mod Rules
 pub mod Questions
+pub mod Ticks
 pub mod Replies
 pub mod Texts
-pub mod Ticks
 pub mod Watching
 pub mod Machine
 pub mod MachineLaws

@@ -1,5 +1,5 @@
 -- The plain machine: what may answer each line, and what it leaves.
-use Rattle.std.specs.Prelude.{◌≡◌, ℕ, List, [], ◌∷◌, ◌++◌, Bool, true, false, None, ◌⊎◌, Result, Ok, Err}
+use Rattle.std.specs.Prelude.{◌≡◌, ℕ, List, [], ◌∷◌, ◌++◌, None, ◌⊎◌, Result, Ok, Err}
 use Rattle.itpg_base.specs.Words.{Word}
 use Rattle.itpg_base.specs.Graphs.{Graph, Good}
 use Rattle.itpg_base.specs.declared.rule_code.RuleCode.{RuleCode}
@@ -12,14 +12,11 @@ use Rattle.edit_reader.specs.Lines.{LineOf}
 use Rattle.path_ast.specs.Terms.{QueryTerm}
 use Rattle.match_parser.specs.Reading.{Reads, FaultOf}
 use Rattle.itpg_base.specs.Lists.{Among, Ordered}
-use Rattle.relation_rows.specs.Answered.{Answered}
 use Rattle.standing_queries.specs.Watches.{Watch, IsOfKind, NamesDiffer, new_watch, without}
 use Rattle.itpg_session.specs.Rules.{watch_rules, name_rules, tick_rules, WatchBreaks, NameBreaks, TickBreaks}
-use Rattle.itpg_session.specs.Questions.{Found, TooWide, Answer, IsFound}
-use Rattle.itpg_session.specs.Replies.{Reply, Bad, Refused, Wide, Rows, IsReply}
-use Rattle.itpg_session.specs.Ticks.{Ticked, AreTicked, tick_text, some_wide, all_moved}
+use Rattle.itpg_session.specs.Replies.{Reply, Silent, Bad, Refused, Wide, Rows, Found, IsFound, IsReply}
+use Rattle.itpg_session.specs.Ticks.{Ticked, AreTicked, all_moved}
 use Rattle.itpg_session.specs.Watching.{AsksForOne}
-use Rattle.itpg_session.specs.Texts.{bad_text, refused_text, wide_text, rows_text}
 
 -- a machine has a graph and the watches that stand, in order of declaration
 pub record Machine : Type 0 where
@@ -43,53 +40,33 @@ pub record Standing : Type 0 where
   pub machine : Machine
   pub limit : ℕ
 
--- a reply, whether it fails, and the machine after it
+-- the reply to a line, and the machine after it
 pub record Turn : Type 0 where
-  pub text : List ℕ
-  pub failing : Bool
+  pub reply : Reply
   pub next : Machine
 
--- nothing is written
+-- the machine after a reply: a tick moves the bases of the watches, any other reply leaves it
+abbrev pub after : Machine → Reply → Machine
+after m Silent = m
+after m (Bad code) = m
+after m (Refused rule) = m
+after m Wide = m
+after m (Rows answer) = m
+after m (Found found) = record { graph = m.graph; watches = all_moved m.watches found }
+
+-- the machine gives this reply
+abbrev pub told : Machine → Reply → Turn
+told m reply = record { reply = reply; next = after m reply }
+
+-- nothing is said, and the machine becomes this one
 abbrev pub quiet_turn : Machine → Turn
-quiet_turn m = record { text = []; failing = false; next = m }
-
--- the one line of a fault of the text, and the same machine
-abbrev pub bad_turn : Machine → ℕ → TextCode → Turn
-bad_turn m number code = record { text = bad_text number code; failing = true; next = m }
-
--- the one line of a refusal, and the same machine
-abbrev pub refused_turn : Machine → ℕ → RuleCode → Turn
-refused_turn m number rule = record { text = refused_text number rule; failing = true; next = m }
-
--- the one line of an answer that is too wide, and the same machine
-abbrev pub wide_turn : Machine → ℕ → Turn
-wide_turn m number = record { text = wide_text number; failing = true; next = m }
-
--- the rows of an answer, and the same machine
-abbrev pub rows_turn : Machine → ℕ → Answered → Turn
-rows_turn m number answer = record { text = rows_text m.graph number answer; failing = false; next = m }
-
--- the turn with this reply to a question
-abbrev pub asked_turn : Machine → ℕ → Reply → Turn
-asked_turn m number (Bad code) = bad_turn m number code
-asked_turn m number (Refused rule) = refused_turn m number rule
-asked_turn m number Wide = wide_turn m number
-asked_turn m number (Rows answer) = rows_turn m number answer
-
--- the turn with what is found for a query
-abbrev pub found_turn : Machine → ℕ → Found → Turn
-found_turn m number TooWide = wide_turn m number
-found_turn m number (Answer answer) = rows_turn m number answer
-
--- what is written of all watches, and the machine with their bases after it
-abbrev pub tick_turn : Machine → List Ticked → Turn
-tick_turn m found = record { text = tick_text m.graph m.watches found; failing = some_wide found; next = record { graph = m.graph; watches = all_moved m.watches found } }
+quiet_turn m = told m Silent
 
 -- refused by the first of these rules that is broken, and nothing changes
-pub record Refuses (m : Machine) (number : ℕ) (broken : RuleCode → Type 0) (rules : List RuleCode) (t : Turn) : Type 0 where
+pub record Refuses (m : Machine) (broken : RuleCode → Type 0) (rules : List RuleCode) (t : Turn) : Type 0 where
   pub rule : RuleCode
   pub first : FirstOf broken rules rule
-  pub is : t ≡ refused_turn m number rule
+  pub is : t ≡ told m (Refused rule)
 
 -- the edit breaks no rule and is made
 pub record Makes (m : Machine) (edit : Edit) (t : Turn) : Type 0 where
@@ -99,65 +76,75 @@ pub record Makes (m : Machine) (edit : Edit) (t : Turn) : Type 0 where
   pub is : t ≡ quiet_turn (record { graph = graph; watches = m.watches })
 
 -- the text is asked
-pub record AsksText (limit : ℕ) (m : Machine) (number : ℕ) (text : List ℕ) (t : Turn) : Type 0 where
+pub record AsksText (limit : ℕ) (m : Machine) (text : List ℕ) (t : Turn) : Type 0 where
   pub reply : Reply
   pub replies : IsReply m.graph limit text reply
-  pub is : t ≡ asked_turn m number reply
+  pub is : t ≡ told m reply
 
 -- the query that the text reads as breaks no rule, and is watched from now on, behind the others
 pub record AddsWatch (m : Machine) (name : Word) (q : QueryTerm) (t : Turn) : Type 0 where
   pub unbroken : NoneOf (WatchBreaks m.graph m.watches name q) watch_rules
   pub is : t ≡ quiet_turn (record { graph = m.graph; watches = m.watches ++ new_watch name q ∷ [] })
 
--- the text is to be watched: its first fault is told; or the query that it reads as is refused, or watched
-abbrev pub WatchesText : Machine → ℕ → Word → List ℕ → Turn → Type 0
-WatchesText m number name text t =
-    ((code : TextCode) × FaultOf text code × (t ≡ bad_turn m number code))
-    ⊎ ((q : QueryTerm) × Reads text q × (Refuses m number (WatchBreaks m.graph m.watches name q) watch_rules t ⊎ AddsWatch m name q t))
+-- a query is to be watched: it is refused, or watched
+abbrev pub WatchesQuery : Machine → Word → QueryTerm → Turn → Type 0
+WatchesQuery m name q t = Refuses m (WatchBreaks m.graph m.watches name q) watch_rules t ⊎ AddsWatch m name q t
 
--- what is found for the query is told
-pub record TellsFound (limit : ℕ) (m : Machine) (number : ℕ) (q : QueryTerm) (t : Turn) : Type 0 where
-  pub found : Found
-  pub finds : IsFound m.graph limit q found
-  pub is : t ≡ found_turn m number found
+-- the text is to be watched: its first fault is told; or the query that it reads as is refused, or watched
+abbrev pub WatchesText : Machine → Word → List ℕ → Turn → Type 0
+WatchesText m name text t = ((code : TextCode) × FaultOf text code × (t ≡ told m (Bad code))) ⊎ ((q : QueryTerm) × Reads text q × WatchesQuery m name q t)
 
 -- the name breaks no rule, and what is found for the query of its watch is told
-pub record ShowsWatch (limit : ℕ) (m : Machine) (number : ℕ) (name : Word) (t : Turn) : Type 0 where
+pub record ShowsWatch (limit : ℕ) (m : Machine) (name : Word) (t : Turn) : Type 0 where
   pub unbroken : NoneOf (NameBreaks m.graph m.watches name) name_rules
   pub watch : Watch
   pub among : Among m.watches watch
   pub named : watch.name ≡ name
-  pub tells : TellsFound limit m number watch.query t
+  pub reply : Reply
+  pub finds : IsFound m.graph limit watch.query reply
+  pub is : t ≡ told m reply
+
+-- a name's watch is to be shown: the name is refused, or the watch is shown
+abbrev pub ShowsName : ℕ → Machine → Word → Turn → Type 0
+ShowsName limit m name t = Refuses m (NameBreaks m.graph m.watches name) name_rules t ⊎ ShowsWatch limit m name t
 
 -- the name breaks no rule, its watch is gone, and the order of the others stays
 pub record DropsWatch (m : Machine) (name : Word) (t : Turn) : Type 0 where
   pub unbroken : NoneOf (NameBreaks m.graph m.watches name) name_rules
   pub is : t ≡ quiet_turn (record { graph = m.graph; watches = without name m.watches })
 
+-- a name's watch is to go: the name is refused, or the watch goes
+abbrev pub DropsName : Machine → Word → Turn → Type 0
+DropsName m name t = Refuses m (NameBreaks m.graph m.watches name) name_rules t ⊎ DropsWatch m name t
+
 -- the tick breaks no rule, and what it finds of each watch is told
 pub record TicksAll (limit : ℕ) (m : Machine) (t : Turn) : Type 0 where
   pub unbroken : NoneOf (TickBreaks m.graph) tick_rules
   pub found : List Ticked
   pub finds : AreTicked m.graph limit m.watches found
-  pub is : t ≡ tick_turn m found
+  pub is : t ≡ told m (Found found)
+
+-- a tick is refused, or told
+abbrev pub TicksOrNot : ℕ → Machine → Turn → Type 0
+TicksOrNot limit m t = Refuses m (TickBreaks m.graph) tick_rules t ⊎ TicksAll limit m t
 
 -- the turn that a line may have which asks for this
-unfoldable pub Answers : ℕ → Machine → ℕ → Reading → Turn → Type 0
-Answers limit m number Nothing t = t ≡ quiet_turn m
-Answers limit m number (Changes edit) t = Refuses m number (Breaks m.graph edit) (rules_of edit) t ⊎ Makes m edit t
-Answers limit m number (Asks text) t = AsksText limit m number text t
-Answers limit m number (Watches name text) t = WatchesText m number name text t
-Answers limit m number (Shows name) t = Refuses m number (NameBreaks m.graph m.watches name) name_rules t ⊎ ShowsWatch limit m number name t
-Answers limit m number (Unwatches name) t = Refuses m number (NameBreaks m.graph m.watches name) name_rules t ⊎ DropsWatch m name t
-Answers limit m number Ticks t = Refuses m number (TickBreaks m.graph) tick_rules t ⊎ TicksAll limit m t
+unfoldable pub Answers : ℕ → Machine → Reading → Turn → Type 0
+Answers limit m Nothing t = t ≡ quiet_turn m
+Answers limit m (Changes edit) t = Refuses m (Breaks m.graph edit) (rules_of edit) t ⊎ Makes m edit t
+Answers limit m (Asks text) t = AsksText limit m text t
+Answers limit m (Watches name text) t = WatchesText m name text t
+Answers limit m (Shows name) t = ShowsName limit m name t
+Answers limit m (Unwatches name) t = DropsName m name t
+Answers limit m Ticks t = TicksOrNot limit m t
 
 -- the turn of what a line is: it asks for something, or has a first fault, which is told
-unfoldable pub TurnOf : ℕ → Machine → ℕ → Result Reading TextCode → Turn → Type 0
-TurnOf limit m number (Ok reading) t = Answers limit m number reading t
-TurnOf limit m number (Err code) t = t ≡ bad_turn m number code
+unfoldable pub TurnOf : ℕ → Machine → Result Reading TextCode → Turn → Type 0
+TurnOf limit m (Ok reading) t = Answers limit m reading t
+TurnOf limit m (Err code) t = t ≡ told m (Bad code)
 
 -- the turn that the bytes of a line may have
-pub record Replies (limit : ℕ) (m : Machine) (number : ℕ) (line : List ℕ) (t : Turn) : Type 0 where
+pub record Replies (limit : ℕ) (m : Machine) (line : List ℕ) (t : Turn) : Type 0 where
   pub what : Result Reading TextCode
   pub line_of : LineOf line what
-  pub turn : TurnOf limit m number what t
+  pub turn : TurnOf limit m what t

@@ -18,15 +18,15 @@ DeclaredAsked = (g : Graph) (limit : ℕ) (text : List ℕ) (reply : Reply) → 
 
 -- from a good machine a line has at most one turn
 abbrev pub OneReply : Type 0
-OneReply = (limit : ℕ) (m : Machine) (number : ℕ) (line : List ℕ) (x y : Turn) → IsGood m → Replies limit m number line x → Replies limit m number line y → x ≡ y
+OneReply = (limit : ℕ) (m : Machine) (line : List ℕ) (x y : Turn) → IsGood m → Replies limit m line x → Replies limit m line y → x ≡ y
 
 -- and it has one
 abbrev pub SomeReply : Type 0
-SomeReply = (limit : ℕ) (m : Machine) (number : ℕ) (line : List ℕ) → IsGood m → (t : Turn) × Replies limit m number line t
+SomeReply = (limit : ℕ) (m : Machine) (line : List ℕ) → IsGood m → (t : Turn) × Replies limit m line t
 
 -- which leaves a good machine
 abbrev pub GoodReply : Type 0
-GoodReply = (limit : ℕ) (m : Machine) (number : ℕ) (line : List ℕ) (t : Turn) → IsGood m → Replies limit m number line t → IsGood t.next
+GoodReply = (limit : ℕ) (m : Machine) (line : List ℕ) (t : Turn) → IsGood m → Replies limit m line t → IsGood t.next
 
 -- the machine is good at first
 abbrev pub GoodOpening : Type 0
@@ -34,4 +34,4 @@ GoodOpening = IsGood opening
 
 -- a line has the turns of its first 65,538 bytes, or of any longer front: of a longer line no more need be kept
 abbrev pub FrontReplies : Type 0
-FrontReplies = (limit : ℕ) (m : Machine) (number : ℕ) (line : List ℕ) (n : ℕ) (t : Turn) → 65538 ≤ n → Replies limit m number (take n line) t ↔ Replies limit m number line t
+FrontReplies = (limit : ℕ) (m : Machine) (line : List ℕ) (n : ℕ) (t : Turn) → 65538 ≤ n → Replies limit m (take n line) t ↔ Replies limit m line t

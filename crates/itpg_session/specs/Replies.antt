@@ -1,5 +1,5 @@
--- The reply to a query text that is asked, as a value.
-use Rattle.std.specs.Prelude.{ℕ, List, length}
+-- The reply to a line, as a value; and which one a query text has.
+use Rattle.std.specs.Prelude.{ℕ, List, length, map}
 use Rattle.itpg_base.specs.Graphs.{Graph}
 use Rattle.itpg_base.specs.declared.rule_code.RuleCode.{RuleCode}
 use Rattle.itpg_base.specs.declared.text_code.TextCode.{TextCode}
@@ -10,30 +10,51 @@ use Rattle.relation_rows.specs.Answered.{Answered, answered}
 use Rattle.row_printer.specs.Texts.{AreDeclared}
 use Rattle.itpg_session.specs.declared.asking.Asked.{Asked}
 use Rattle.itpg_session.specs.declared.asking.Asked.TheVariants as asked
-use Rattle.itpg_session.specs.Questions.{TooWide, Answer, IsFound}
+use Rattle.itpg_session.specs.declared.reply.Reply.{Reply as ReplyValue}
+use Rattle.itpg_session.specs.declared.reply.Reply.TheVariants as value
+use Rattle.itpg_session.specs.Questions.{IsTooWide, HasAnswer}
 use Rattle.itpg_session.specs.Rules.{QueryBreaks, ask_rules}
+use Rattle.itpg_session.specs.Ticks.{Ticked, ticked_of}
 
--- a fault of the text, a refusal, the word that the query is too wide, or the rows of its answer
+-- nothing is said; or a fault of the text, a refusal, the word that a query is too wide, the rows of its answer, or what a tick
+-- found of each watch
 pub data Reply : Type 0 where
+  Silent : Reply
   Bad : TextCode → Reply
   Refused : RuleCode → Reply
   Wide : Reply
   Rows : Answered → Reply
+  Found : List Ticked → Reply
 
--- the reply that a value of the code stands for
+-- the reply that a value of the code stands for, where a query text was asked
 abbrev pub reply_of : Asked → Reply
 reply_of (asked.Bad code) = Bad code
 reply_of (asked.Refused rule) = Refused rule
 reply_of asked.Wide = Wide
 reply_of (asked.Rows answer) = Rows (answered answer)
 
--- the reply to a query on the graph, with a limit of rows: the first rule that asking it breaks; where none is broken, what
--- is found for it
+-- the same of any line
+abbrev pub line_reply : ReplyValue → Reply
+line_reply value.Silent = Silent
+line_reply (value.Bad code) = Bad code
+line_reply (value.Refused rule) = Refused rule
+line_reply value.Wide = Wide
+line_reply (value.Rows answer) = Rows (answered answer)
+line_reply (value.Found found) = Found (map ticked_of found.items)
+
+-- what is found for a query on the graph, with a limit of rows: that it is too wide, or its answer
+abbrev pub IsFound : Graph → ℕ → QueryTerm → Reply → Type 0
+IsFound g limit q Silent = ⊥
+IsFound g limit q (Bad code) = ⊥
+IsFound g limit q (Refused rule) = ⊥
+IsFound g limit q Wide = IsTooWide g limit q
+IsFound g limit q (Rows answer) = HasAnswer g limit q answer
+IsFound g limit q (Found found) = ⊥
+
+-- the reply to a query that is asked: the first rule that this breaks; where none is broken, what is found for it
 abbrev pub IsReplyTo : Graph → ℕ → QueryTerm → Reply → Type 0
-IsReplyTo g limit q (Bad code) = ⊥
 IsReplyTo g limit q (Refused rule) = FirstOf (QueryBreaks g q) ask_rules rule
-IsReplyTo g limit q Wide = NoneOf (QueryBreaks g q) ask_rules × IsFound g limit q TooWide
-IsReplyTo g limit q (Rows answer) = NoneOf (QueryBreaks g q) ask_rules × IsFound g limit q (Answer answer)
+IsReplyTo g limit q reply = NoneOf (QueryBreaks g q) ask_rules × IsFound g limit q reply
 
 -- the reply to a query text: its first fault, or the reply to the query that it reads as
 abbrev pub IsReply : Graph → ℕ → List ℕ → Reply → Type 0

@@ -1,37 +1,45 @@
 -- What a step of the session does.
-use Rattle.std.specs.Prelude.{◌≡◌, ◌≢◌, ◌↔◌, ℕ, ◌≤◌, List, [], Bool, true, Result, Ok, Err}
-use Rattle.std.specs.declared.option.Option.{Option}
-use Rattle.std.specs.Io.KnownBytes.{Appends, Keeps}
-use Rattle.itpg_base.specs.Outside.{AppendsSome, Rose}
+use Rattle.std.specs.Prelude.{◌≡◌, ◌≢◌, ◌↔◌, ℕ, List, [], Bool, true, length, Result, Ok, Err}
+use Rattle.itpg_base.specs.Sinks.{Gets, GetsSome}
+use Rattle.itpg_base.specs.declared.outside.Sink.{Ghosts}
 use Rattle.itpg_edit.specs.Rules.{NoneOf, Unbroken}
 use Rattle.itpg_edit.specs.Next.{TakesMemory}
 use Rattle.edit_reader.specs.Readings.{Reading, Changes, Asks, Watches, Shows, Ticks}
 use Rattle.edit_reader.specs.Lines.{LineOf}
+use Rattle.row_printer.specs.Texts.{AreDeclared}
 use Rattle.itpg_session.specs.Rules.{NameBreaks, TickBreaks, name_rules, tick_rules}
-use Rattle.itpg_session.specs.Machine.{Machine, Standing, Turn}
-use Rattle.itpg_session.specs.declared.session.Seen.{Seen}
-use Rattle.itpg_session.specs.declared.session.Seen.TheVariants.{Quiet, Refused}
-use Rattle.itpg_session.specs.declared.session.StepFault.{StepFault}
-use Rattle.itpg_session.specs.declared.session.StepFault.TheVariants.{Memory, Write}
+use Rattle.itpg_session.specs.Ticks.{AreTicked}
+use Rattle.itpg_session.specs.Replies.{Reply, Silent, Rows, Found, line_reply}
+use Rattle.itpg_session.specs.Texts.{text_of, fails}
+use Rattle.itpg_session.specs.Machine.{Machine, Standing, Turn, told}
+use Rattle.itpg_session.specs.declared.reply.Reply.{Reply as ReplyValue}
+use Rattle.itpg_session.specs.declared.reply.Seen.{Seen}
+use Rattle.itpg_session.specs.declared.reply.Seen.TheVariants.{Quiet, Refused}
 
--- what is seen of a turn: whether its text is empty, and whether it fails
+-- what is seen of a reply: whether its text is empty, and whether it fails
 pub record Sees (seen : Seen) (text : List ℕ) (failing : Bool) : Type 0 where
   pub quiet : (seen ≡ Quiet) ↔ (text ≡ [])
   pub refused : (seen ≡ Refused) ↔ (failing ≡ true)
 
--- a reply was written whole, and the machine went on
-pub record Stepped (Replies : Turn → Type 0) (held now : Option (List ℕ)) (old new : Standing) (seen : Seen) : Type 0 where
+-- a turn was taken: its reply was written whole, and the machine went on
+pub record Stepped {K : Type 0} (sink : Ghosts K) (before after : K) (Turns : Turn → Type 0) (number : ℕ) (old new : Standing) (seen : Seen) : Type 0 where
   pub turn : Turn
-  pub replies : Replies turn
-  pub written : Appends held now turn.text
+  pub turns : Turns turn
+  pub written : Gets sink before after (text_of old.machine.graph number turn.reply)
   pub next : new ≡ record { machine = turn.next; limit = old.limit }
-  pub sees : Sees seen turn.text turn.failing
+  pub sees : Sees seen (text_of old.machine.graph number turn.reply) (fails turn.reply)
 
--- a front part of a reply was written
-pub record StepsWithin (Replies : Turn → Type 0) (held now : Option (List ℕ)) : Type 0 where
+-- a front part of a turn's reply was written
+pub record StepsWithin {K : Type 0} (sink : Ghosts K) (before after : K) (Turns : Turn → Type 0) (number : ℕ) (old : Standing) : Type 0 where
   pub turn : Turn
-  pub replies : Replies turn
-  pub some : AppendsSome held now turn.text
+  pub turns : Turns turn
+  pub some : GetsSome sink before after (text_of old.machine.graph number turn.reply)
+
+-- a turn was taken, and nothing of its reply was written
+pub record Passed (Turns : Turn → Type 0) (old new : Standing) : Type 0 where
+  pub turn : Turn
+  pub turns : Turns turn
+  pub next : new ≡ record { machine = turn.next; limit = old.limit }
 
 -- to answer what a line asks for takes memory: a change that breaks no rule, other than to begin a graph or to drop an
 -- object; a query text, which is read; a watch that is shown, or a tick, that breaks no rule
@@ -47,19 +55,19 @@ WantsMemory m reading = ⊥
 abbrev pub LineWants : Machine → List ℕ → Type 0
 LineWants m line = (reading : Reading) × LineOf line (Ok reading) × WantsMemory m reading
 
--- how a part of a step ends
-abbrev pub Ends : (Turn → Type 0) → Type 0 → Option (List ℕ) → Option (List ℕ) → ℕ → ℕ → Standing → Standing → Result Seen StepFault → Type 0
-Ends Turns wants held now before after old new (Ok seen) = Stepped Turns held now old new seen
-Ends Turns wants held now before after old new (Err Memory) = (new ≡ old) × Keeps held now × wants
-Ends Turns wants held now before after old new (Err Write) = (new ≡ old) × Rose before after × StepsWithin Turns held now
+-- the reply is decided: it is that of one of these turns; and where it says something, the session is as it was
+pub record IsDecided (Turns : Turn → Type 0) (old new : Standing) (reply : Reply) : Type 0 where
+  pub turns : Turns (told new.machine reply)
+  pub waits : reply ≢ Silent → new ≡ old
+  pub limit : new.limit ≡ old.limit
 
--- a part of a step: a turn of these was taken, with its reply written whole; or memory was wanting, which comes only where
--- this is so, and nothing was written; or the sink failed, and a front part of such a reply was written. The second sink
--- and session are those after the part
-pub record IsTaken (Turns : Turn → Type 0) (wants : Type 0) (held now : Option (List ℕ)) (before after : ℕ) (old new : Standing) (result : Result Seen StepFault) : Type 0 where
-  pub ends : Ends Turns wants held now before after old new result
-  pub later : before ≤ after
+-- a reply is decided; or memory is wanting, which comes only where this is so, and the session is as it was
+abbrev pub Decides : {E : Type 0} → (Turn → Type 0) → Type 0 → Standing → Standing → Result ReplyValue E → Type 0
+Decides Turns wants old new (Ok reply) = IsDecided Turns old new (line_reply reply)
+Decides Turns wants old new (Err error) = (new ≡ old) × wants
 
--- of a machine and a text: this holds of the turn that fails with the text and leaves the machine
-abbrev pub Fails : Machine → List ℕ → ((Turn → Type 0) → Type 0) → Type 0
-Fails m text Holds = text ≢ [] → Holds (λ turn. turn ≡ record { text = text; failing = true; next = m })
+-- the reply is one of the session: its rows are of declared objects, and it has what a tick finds of the watches
+abbrev pub Suits : Standing → Reply → Type 0
+Suits s (Rows answer) = AreDeclared (length s.machine.graph.objects) answer
+Suits s (Found found) = AreTicked s.machine.graph s.limit s.machine.watches found
+Suits s reply = Unit {0}

@@ -1,5 +1,5 @@
--- The texts of replies.
-use Rattle.std.specs.Prelude.{ℕ, List, [], ◌++◌, codes}
+-- The text of a reply, and whether it fails: functions of the reply, of the line's number, and of the graph, which has the names.
+use Rattle.std.specs.Prelude.{ℕ, List, [], ◌∷◌, ◌++◌, Bool, true, false, codes}
 use Rattle.std.specs.Fmt.{decimal}
 use Rattle.itpg_base.specs.Words.{Word}
 use Rattle.itpg_base.specs.Graphs.{Graph}
@@ -9,6 +9,8 @@ use Rattle.itpg_base.specs.TextCodes.{text_word}
 use Rattle.itpg_base.specs.declared.text_code.TextCode.{TextCode}
 use Rattle.relation_rows.specs.Answered.{Answered, row_number}
 use Rattle.row_printer.specs.Texts.{answer_text}
+use Rattle.itpg_session.specs.Ticks.{Ticked, StaysWide, Moves, some_wide}
+use Rattle.itpg_session.specs.Replies.{Reply, Silent, Bad, Refused, Wide, Rows, Found}
 
 -- `line N refused RULE`
 unfoldable pub refused_text : ℕ → RuleCode → List ℕ
@@ -37,3 +39,35 @@ tick_head_text name gained lost = codes "tick " ++ name ++ codes " gained " ++ d
 -- `line N rows K`, and a line for each row of the answer
 abbrev pub rows_text : Graph → ℕ → Answered → List ℕ
 rows_text g number answer = head_text number (row_number answer) ++ answer_text g [] answer
+
+-- how many rows were gained and how many lost, and these rows, each behind its sign
+abbrev pub changes_text : Graph → Word → Answered → Answered → List ℕ
+changes_text g name gained lost = tick_head_text name (row_number gained) (row_number lost) ++ (answer_text g (codes "+ ") gained ++ answer_text g (codes "- ") lost)
+
+-- what is written of a watch: that it is wide, or what changed
+abbrev pub ticked_text : Graph → Ticked → List ℕ
+ticked_text g (StaysWide name) = tick_wide_text name
+ticked_text g (Moves name now gained lost) = changes_text g name gained lost
+
+-- what is written of all watches, in order
+abbrev pub tick_text : Graph → List Ticked → List ℕ
+tick_text g [] = []
+tick_text g (x ∷ xs) = ticked_text g x ++ tick_text g xs
+
+-- the text of the reply to the line of a number
+abbrev pub text_of : Graph → ℕ → Reply → List ℕ
+text_of g number Silent = []
+text_of g number (Bad code) = bad_text number code
+text_of g number (Refused rule) = refused_text number rule
+text_of g number Wide = wide_text number
+text_of g number (Rows answer) = rows_text g number answer
+text_of g number (Found found) = tick_text g found
+
+-- the reply is bad, refused or wide, or some line of it is
+abbrev pub fails : Reply → Bool
+fails Silent = false
+fails (Bad code) = true
+fails (Refused rule) = true
+fails Wide = true
+fails (Rows answer) = false
+fails (Found found) = some_wide found

@@ -5,7 +5,6 @@ use Rattle.itpg_base.specs.Lists.{Among}
 use Rattle.path_ast.specs.Terms.{QueryTerm}
 use Rattle.row_printer.specs.Texts.{AreDeclared}
 use Rattle.standing_queries.specs.Watches.{Watch, IsOfKind}
-use Rattle.itpg_session.specs.Questions.{Found, TooWide, Answer}
 use Rattle.itpg_session.specs.Ticks.{Ticked, StaysWide, Moves}
 
 -- an end of its path is asked for, or both are
@@ -16,15 +15,10 @@ AsksForOne q = IsTrue (q.first || q.last)
 abbrev pub BasesDeclared : Graph → List Watch → Type 0
 BasesDeclared g watches = (w : Watch) → Among watches w → AreDeclared (length g.objects) w.base
 
--- so it is of what is found for a query
-abbrev pub IsFoundDeclared : Graph → Found → Type 0
-IsFoundDeclared g TooWide = Unit {0}
-IsFoundDeclared g (Answer answer) = AreDeclared (length g.objects) answer
-
 -- so it is of the objects that a tick tells of for a watch
 abbrev pub IsTickDeclared : Graph → Ticked → Type 0
-IsTickDeclared g StaysWide = Unit {0}
-IsTickDeclared g (Moves now gained lost) = AreDeclared (length g.objects) gained × AreDeclared (length g.objects) lost
+IsTickDeclared g (StaysWide name) = Unit {0}
+IsTickDeclared g (Moves name now gained lost) = AreDeclared (length g.objects) gained × AreDeclared (length g.objects) lost
 
 -- and for all watches
 abbrev pub AreTicksDeclared : Graph → List Ticked → Type 0
@@ -32,8 +26,8 @@ AreTicksDeclared g found = (x : Ticked) → Among found x → IsTickDeclared g x
 
 -- an answer that becomes the base of the watch is of its kind
 abbrev pub IsMoveOfKind : Watch → Ticked → Type 0
-IsMoveOfKind w StaysWide = Unit {0}
-IsMoveOfKind w (Moves now gained lost) = IsOfKind w.query now
+IsMoveOfKind w (StaysWide name) = Unit {0}
+IsMoveOfKind w (Moves name now gained lost) = IsOfKind w.query now
 
 -- so it is for each watch in order
 abbrev pub AreMovesOfKind : List Watch → List Ticked → Type 0

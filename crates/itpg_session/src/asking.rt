@@ -4,7 +4,7 @@ ghost use Rattle.path_ast.specs.Terms.{query_term, path_term};
 ghost use Rattle.path_ast.specs.Sizes.{IsPathInRange};
 ghost use Rattle.itpg_session.specs.Replies.{reply_of, IsReply, IsReplyTo};
 
-use crate::finding::{Found, find};
+use crate::finding::found;
 use crate::rules::broken_by_ask;
 use itpg_base::{RuleCode, TextCode};
 use itpg_graph::Graph;
@@ -55,9 +55,6 @@ fn reply_to_query(
 {
     match broken_by_ask(graph, query) {
         Some(rule) => Ok(Asked::Refused(rule)),
-        None => match find(alloc, graph, max_rows, query)? {
-            Found::Answer(answer) => Ok(Asked::Rows(answer)),
-            Found::TooWide => Ok(Asked::Wide),
-        },
+        None => found(alloc, graph, max_rows, query),
     }
 }

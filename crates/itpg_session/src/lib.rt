@@ -2,7 +2,8 @@
 //!
 //! It stands on the readers of lines and of query texts, on the edits and on the graph, on `path_eval`, which works out what
 //! is asked, and on `row_printer`, which writes it. Its definitions (`specs/`) are the plain machine: the turn that a line may
-//! have, that is, its reply and the machine after it. It promises that a step is a turn of that machine (`Session::step`),
+//! have, that is, its reply as a value and the machine after it; and the text of each reply. A step decides the reply, writes its
+//! text in one place, and settles what follows. It promises that a step is a turn of that machine (`Session::step`),
 //! that a question is answered by the reply of its line (`Session::ask`), and that on a good graph each line has exactly one
 //! turn (`law_of_replies`).
 #![tactic(auto)]
@@ -10,11 +11,13 @@
 mod asking;
 mod finding;
 mod laws;
-mod replies;
+mod reply;
 mod rules;
 mod session;
+mod texts;
 mod ticking;
 
 pub use asking::Asked;
 pub use laws::{law_of_asked, law_of_fronts, law_of_replies};
-pub use session::{Seen, Session, StepFault};
+pub use reply::Seen;
+pub use session::{Session, StepFault};

@@ -1,29 +1,34 @@
 //! A tick: what it finds of each watch, what it writes of it, and the bases after it.
 ghost use Rattle.std.specs.Prelude.{◌≡◌, ◌<◌, length, map, slice_get, Bool, true, false, IfOk, OnOk, OnErr, IsSome, IsSomeAnd};
 ghost use Rattle.std.specs.List.{list_any};
-ghost use Rattle.std.specs.Io.KnownBytes.{Appends};
-ghost use Rattle.itpg_base.specs.Outside.{AppendsSome, HasCause};
+ghost use Rattle.itpg_base.specs.Sinks.{Gets, GetsSome, IsHonest};
 ghost use Rattle.relation_rows.specs.Answered.{answered};
 ghost use Rattle.row_printer.specs.Texts.{AreDeclared};
-ghost use Rattle.itpg_session.specs.Ticks.{ticked_of, IsTicked, AreTicked, changes_text, ticked_text, tick_text, stays_wide, moved_at, all_moved};
+ghost use Rattle.itpg_session.specs.Ticks.{ticked_of, IsTicked, AreTicked, stays_wide, moved_at, all_moved};
+ghost use Rattle.itpg_session.specs.Texts.{changes_text, ticked_text, tick_text};
 ghost use Rattle.itpg_session.specs.Watching.{IsTickDeclared, AreTicksDeclared, IsMoveOfKind, AreMovesOfKind};
 
-use crate::finding::{Found, find};
-use crate::replies::{tick_head, tick_wide};
+use crate::finding::find;
+use crate::texts::{tick_head, tick_wide};
 use itpg_base::{Failed, Name, Sink};
 use itpg_graph::Graph;
+use path_eval::EvalFault;
 use relation_rows::Answer;
 use row_printer::print_rows;
 use standing_queries::{GainLoss, Watches, changes};
 use std::alloc::{AllocError, Global};
 
-/// What a tick finds of a watch.
+/// What a tick finds of the watch of a name.
 #[derive(Drop)]
 pub(crate) enum Ticked {
     /// Its query is too wide, and its base stays.
-    StaysWide,
+    StaysWide { name: Name },
     /// The answer now, which is its next base, and what changed since the one before.
-    Moves { now: Answer, changes: GainLoss },
+    Moves {
+        name: Name,
+        now: Answer,
+        changes: GainLoss,
+    },
 }
 
 /// What a tick finds of each watch on the graph, which is begun, with a limit of rows.
@@ -55,47 +60,47 @@ fn tick_one(
     requires there { place < length watches.now }
     ensures { IfOk result (λ found. IsSomeAnd (slice_get watches.now place) (λ w. IsTicked graph.now max_rows w (ticked_of found))) }
 {
-    match find(alloc, graph, max_rows, watches.query(place))? {
-        Found::Answer(now) => {
+    let name = watches.name(place);
+    match find(alloc, graph, max_rows, watches.query(place)) {
+        Ok(now) => {
             let changes = changes(alloc, watches.base(place), &now)?;
-            Ok(Ticked::Moves { now, changes })
+            Ok(Ticked::Moves { name, now, changes })
         }
-        Found::TooWide => Ok(Ticked::StaysWide),
+        Err(EvalFault::Wide) => Ok(Ticked::StaysWide { name }),
+        Err(EvalFault::Memory) => Err(AllocError),
     }
 }
 
-/// Writes what was found of each watch, in order. As many watches stand as were found of.
+/// Writes what was found of each watch, in order.
 pub(crate) fn write_all<K: Sink>(
     graph: &Graph,
-    watches: &Watches,
     found: &[Ticked],
     out: &mut K,
 ) -> Result<(), Failed>
-    requires each { length found.now ≡ length watches.now }
-    requires declared { AreTicksDeclared graph.now (map ticked_of found.now) }
-    ensures written { OnOk result (Appends (K.held out.old) (K.held out.new) (tick_text graph.now watches.now (map ticked_of found.now))) }
-    ensures some { OnErr result (AppendsSome (K.held out.old) (K.held out.new) (tick_text graph.now watches.now (map ticked_of found.now))) }
-    ensures cause { HasCause (K.faults out.old) (K.faults out.new) result }
+    requires { AreTicksDeclared graph.now (map ticked_of found.now) }
+    ensures written { OnOk result (Gets K.Sink out.old out.new (tick_text graph.now (map ticked_of found.now))) }
+    ensures some { OnErr result (GetsSome K.Sink out.old out.new (tick_text graph.now (map ticked_of found.now))) }
+    ensures cause { IsHonest K.Sink out.old out.new result }
 {
-    for (place, one) in found.iter().enumerate() {
-        write_one(graph, watches.name(place), one, out)?;
+    for one in found {
+        write_one(graph, one, out)?;
     }
     Ok(())
 }
 
-// Writes what was found of the watch of this name.
-fn write_one<K: Sink>(graph: &Graph, name: Name, found: &Ticked, out: &mut K) -> Result<(), Failed>
+// Writes what was found of a watch.
+fn write_one<K: Sink>(graph: &Graph, found: &Ticked, out: &mut K) -> Result<(), Failed>
     requires { IsTickDeclared graph.now (ticked_of found.now) }
-    ensures written { OnOk result (Appends (K.held out.old) (K.held out.new) (ticked_text graph.now name (ticked_of found.now))) }
-    ensures some { OnErr result (AppendsSome (K.held out.old) (K.held out.new) (ticked_text graph.now name (ticked_of found.now))) }
-    ensures cause { HasCause (K.faults out.old) (K.faults out.new) result }
+    ensures written { OnOk result (Gets K.Sink out.old out.new (ticked_text graph.now (ticked_of found.now))) }
+    ensures some { OnErr result (GetsSome K.Sink out.old out.new (ticked_text graph.now (ticked_of found.now))) }
+    ensures cause { IsHonest K.Sink out.old out.new result }
 {
     match found {
-        Ticked::StaysWide => {
-            tick_wide(&name).write(out)?;
+        Ticked::StaysWide { name } => {
+            tick_wide(name).write(out)?;
             Ok(())
         }
-        Ticked::Moves { changes, .. } => {
+        Ticked::Moves { name, changes, .. } => {
             write_changes(graph, name, changes, out)?;
             Ok(())
         }
@@ -105,17 +110,17 @@ fn write_one<K: Sink>(graph: &Graph, name: Name, found: &Ticked, out: &mut K) ->
 // Writes what the watch of this name gained and lost.
 fn write_changes<K: Sink>(
     graph: &Graph,
-    name: Name,
+    name: &Name,
     changes: &GainLoss,
     out: &mut K,
 ) -> Result<(), Failed>
     requires gained { AreDeclared (length graph.now.objects) (answered changes.now.gained) }
     requires lost { AreDeclared (length graph.now.objects) (answered changes.now.lost) }
-    ensures written { OnOk result (Appends (K.held out.old) (K.held out.new) (changes_text graph.now name (answered changes.now.gained) (answered changes.now.lost))) }
-    ensures some { OnErr result (AppendsSome (K.held out.old) (K.held out.new) (changes_text graph.now name (answered changes.now.gained) (answered changes.now.lost))) }
-    ensures cause { HasCause (K.faults out.old) (K.faults out.new) result }
+    ensures written { OnOk result (Gets K.Sink out.old out.new (changes_text graph.now name.now (answered changes.now.gained) (answered changes.now.lost))) }
+    ensures some { OnErr result (GetsSome K.Sink out.old out.new (changes_text graph.now name.now (answered changes.now.gained) (answered changes.now.lost))) }
+    ensures cause { IsHonest K.Sink out.old out.new result }
 {
-    tick_head(&name, changes.gained.rows(), changes.lost.rows()).write(out)?;
+    tick_head(name, changes.gained.rows(), changes.lost.rows()).write(out)?;
     print_rows(graph, &changes.gained, b"+ ", out)?;
     print_rows(graph, &changes.lost, b"- ", out)?;
     Ok(())
@@ -125,7 +130,7 @@ fn write_changes<K: Sink>(
 pub(crate) fn is_some_wide(found: &[Ticked]) -> bool
     ensures { result ≡ list_any (λ one. stays_wide (ticked_of one)) found.now }
 {
-    found.iter().any(|one| matches!(one, Ticked::StaysWide))
+    found.iter().any(|one| matches!(one, Ticked::StaysWide { .. }))
 }
 
 /// Makes each answer that was found the base of its watch.
@@ -147,6 +152,6 @@ fn move_base(watches: &mut Watches, place: usize, found: Ticked)
 {
     match found {
         Ticked::Moves { now, .. } => watches.set_base(place, now),
-        Ticked::StaysWide => {}
+        Ticked::StaysWide { .. } => {}
     }
 }

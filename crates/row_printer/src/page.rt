@@ -1,8 +1,7 @@
 //! Text on its way to a sink, gathered without memory.
 ghost use Rattle.std.specs.Prelude.{◌≡◌, ◌+◌, ◌≤◌, [], ◌++◌, length, take, OnOk, OnErr};
 ghost use Rattle.std.specs.Fmt.{decimal, signed_decimal};
-ghost use Rattle.std.specs.Io.KnownBytes.{Appends};
-ghost use Rattle.itpg_base.specs.Outside.{HasCause, AppendsSome};
+ghost use Rattle.itpg_base.specs.Sinks.{Gets, GetsSome, IsHonest};
 
 use itoa::Buffer;
 use itpg_base::{Failed, Sink};
@@ -83,11 +82,11 @@ impl Page {
     /// Writes the text of the page, which then has none. Where the sink fails, a front part was written, and the page has its
     /// text still.
     pub fn write<K: Sink>(&mut self, out: &mut K) -> Result<(), Failed>
-        ensures written { OnOk result (Appends (K.held out.old) (K.held out.new) self.old) }
+        ensures written { OnOk result (Gets K.Sink out.old out.new self.old) }
         ensures none { OnOk result (self.new ≡ []) }
-        ensures some { OnErr result (AppendsSome (K.held out.old) (K.held out.new) self.old) }
+        ensures some { OnErr result (GetsSome K.Sink out.old out.new self.old) }
         ensures err { OnErr result (self.new ≡ self.old) }
-        ensures cause { HasCause (K.faults out.old) (K.faults out.new) result }
+        ensures cause { IsHonest K.Sink out.old out.new result }
     {
         out.write(&self.bytes[..self.size])?;
         self.size = 0;

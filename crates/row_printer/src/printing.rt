@@ -1,11 +1,10 @@
 //! Printing an answer.
 ghost use Rattle.std.specs.Prelude.{◌≡◌, ◌+◌, ◌≤◌, ◌<◌, ◌++◌, ℕ, List, Some, length, slice_get, OnOk, OnErr};
-ghost use Rattle.std.specs.Io.KnownBytes.{Appends};
-ghost use Rattle.itpg_base.specs.Outside.{AppendsSome, HasCause};
+ghost use Rattle.itpg_base.specs.Sinks.{Gets, GetsSome, IsHonest};
 ghost use Rattle.relation_rows.specs.declared.rows.Row.{Row as PlainRow};
 ghost use Rattle.relation_rows.specs.Answered.{answered, pairs, times};
 ghost use Rattle.row_printer.specs.Texts.{answer_text, led, pair_text, time_text, AreDeclared};
-ghost use Rattle.row_printer.specs.Said.{Says, SaysSome};
+ghost use Rattle.row_printer.specs.Said.{SaysTo, SaysSomeTo};
 
 use crate::lines::{MAX_ROW, add_pair, add_time};
 use crate::page::{PAGE, Page};
@@ -34,9 +33,9 @@ pub fn print_rows<K: Sink>(
     out: &mut K,
 ) -> Result<(), Failed>
     requires declared { AreDeclared (length graph.now.objects) (answered answer.now) }
-    ensures written { OnOk result (Appends (K.held out.old) (K.held out.new) (answer_text graph.now lead.now (answered answer.now))) }
-    ensures some { OnErr result (AppendsSome (K.held out.old) (K.held out.new) (answer_text graph.now lead.now (answered answer.now))) }
-    ensures cause { HasCause (K.faults out.old) (K.faults out.new) result }
+    ensures written { OnOk result (Gets K.Sink out.old out.new (answer_text graph.now lead.now (answered answer.now))) }
+    ensures some { OnErr result (GetsSome K.Sink out.old out.new (answer_text graph.now lead.now (answered answer.now))) }
+    ensures cause { IsHonest K.Sink out.old out.new result }
 {
     let mut page = Page::new();
     say_answer(graph, answer, lead, &mut page, out)?;
@@ -53,9 +52,9 @@ fn say_answer<K: Sink>(
     out: &mut K,
 ) -> Result<(), Failed>
     requires declared { AreDeclared (length graph.now.objects) (answered answer.now) }
-    ensures said { OnOk result (Says (K.held out.old) (K.held out.new) page.old page.new (answer_text graph.now lead.now (answered answer.now))) }
-    ensures some { OnErr result (SaysSome (K.held out.old) (K.held out.new) page.old (answer_text graph.now lead.now (answered answer.now))) }
-    ensures cause { HasCause (K.faults out.old) (K.faults out.new) result }
+    ensures said { OnOk result (SaysTo K.Sink out.old out.new page.old page.new (answer_text graph.now lead.now (answered answer.now))) }
+    ensures some { OnErr result (SaysSomeTo K.Sink out.old out.new page.old (answer_text graph.now lead.now (answered answer.now))) }
+    ensures cause { IsHonest K.Sink out.old out.new result }
 {
     match answer {
         Answer::Pairs(relation) => say_pairs(graph, relation, lead, page, out),
@@ -72,9 +71,9 @@ fn say_pairs<K: Sink>(
     out: &mut K,
 ) -> Result<(), Failed>
     requires declared { AreDeclared (length graph.now.objects) (pairs relation.now) }
-    ensures said { OnOk result (Says (K.held out.old) (K.held out.new) page.old page.new (led lead.now (pair_text graph.now) relation.now)) }
-    ensures some { OnErr result (SaysSome (K.held out.old) (K.held out.new) page.old (led lead.now (pair_text graph.now) relation.now)) }
-    ensures cause { HasCause (K.faults out.old) (K.faults out.new) result }
+    ensures said { OnOk result (SaysTo K.Sink out.old out.new page.old page.new (led lead.now (pair_text graph.now) relation.now)) }
+    ensures some { OnErr result (SaysSomeTo K.Sink out.old out.new page.old (led lead.now (pair_text graph.now) relation.now)) }
+    ensures cause { IsHonest K.Sink out.old out.new result }
 {
     for number in 0..relation.row_count() {
         say_numbered(graph, relation, number, lead, page, out)?;
@@ -93,9 +92,9 @@ fn say_numbered<K: Sink>(
 ) -> Result<(), Failed>
     requires there { number < length relation.now }
     requires declared { AreDeclared (length graph.now.objects) (pairs relation.now) }
-    ensures said { OnOk result ((r : PlainRow) → slice_get relation.now number ≡ Some r → Says (K.held out.old) (K.held out.new) page.old page.new (lead.now ++ pair_text graph.now r)) }
-    ensures some { OnErr result ((r : PlainRow) → slice_get relation.now number ≡ Some r → SaysSome (K.held out.old) (K.held out.new) page.old (lead.now ++ pair_text graph.now r)) }
-    ensures cause { HasCause (K.faults out.old) (K.faults out.new) result }
+    ensures said { OnOk result ((r : PlainRow) → slice_get relation.now number ≡ Some r → SaysTo K.Sink out.old out.new page.old page.new (lead.now ++ pair_text graph.now r)) }
+    ensures some { OnErr result ((r : PlainRow) → slice_get relation.now number ≡ Some r → SaysSomeTo K.Sink out.old out.new page.old (lead.now ++ pair_text graph.now r)) }
+    ensures cause { IsHonest K.Sink out.old out.new result }
 {
     match relation.row(number) {
         Some(row) => say_pair(graph, &row, lead, page, out),
@@ -112,9 +111,9 @@ fn say_times<K: Sink>(
     out: &mut K,
 ) -> Result<(), Failed>
     requires declared { AreDeclared (length graph.now.objects) (times rows.now) }
-    ensures said { OnOk result (Says (K.held out.old) (K.held out.new) page.old page.new (led lead.now (time_text graph.now) rows.now)) }
-    ensures some { OnErr result (SaysSome (K.held out.old) (K.held out.new) page.old (led lead.now (time_text graph.now) rows.now)) }
-    ensures cause { HasCause (K.faults out.old) (K.faults out.new) result }
+    ensures said { OnOk result (SaysTo K.Sink out.old out.new page.old page.new (led lead.now (time_text graph.now) rows.now)) }
+    ensures some { OnErr result (SaysSomeTo K.Sink out.old out.new page.old (led lead.now (time_text graph.now) rows.now)) }
+    ensures cause { IsHonest K.Sink out.old out.new result }
 {
     for row in rows {
         say_time(graph, row, lead, page, out)?;
@@ -132,9 +131,9 @@ fn say_pair<K: Sink>(
 ) -> Result<(), Failed>
     requires source { row.now.source.0 < length graph.now.objects }
     requires target { row.now.target.0 < length graph.now.objects }
-    ensures said { OnOk result (Says (K.held out.old) (K.held out.new) page.old page.new (lead.now ++ pair_text graph.now row.now)) }
-    ensures some { OnErr result (SaysSome (K.held out.old) (K.held out.new) page.old (lead.now ++ pair_text graph.now row.now)) }
-    ensures cause { HasCause (K.faults out.old) (K.faults out.new) result }
+    ensures said { OnOk result (SaysTo K.Sink out.old out.new page.old page.new (lead.now ++ pair_text graph.now row.now)) }
+    ensures some { OnErr result (SaysSomeTo K.Sink out.old out.new page.old (lead.now ++ pair_text graph.now row.now)) }
+    ensures cause { IsHonest K.Sink out.old out.new result }
 {
     begin_line(lead, page, out)?;
     add_pair(page, graph, row);
@@ -150,9 +149,9 @@ fn say_time<K: Sink>(
     out: &mut K,
 ) -> Result<(), Failed>
     requires declared { row.now.object.0 < length graph.now.objects }
-    ensures said { OnOk result (Says (K.held out.old) (K.held out.new) page.old page.new (lead.now ++ time_text graph.now row.now)) }
-    ensures some { OnErr result (SaysSome (K.held out.old) (K.held out.new) page.old (lead.now ++ time_text graph.now row.now)) }
-    ensures cause { HasCause (K.faults out.old) (K.faults out.new) result }
+    ensures said { OnOk result (SaysTo K.Sink out.old out.new page.old page.new (lead.now ++ time_text graph.now row.now)) }
+    ensures some { OnErr result (SaysSomeTo K.Sink out.old out.new page.old (lead.now ++ time_text graph.now row.now)) }
+    ensures cause { IsHonest K.Sink out.old out.new result }
 {
     begin_line(lead, page, out)?;
     add_time(page, graph, row);
@@ -162,9 +161,9 @@ fn say_time<K: Sink>(
 // Says the lead, and makes room for a row.
 fn begin_line<K: Sink>(lead: &[u8], page: &mut Page, out: &mut K) -> Result<(), Failed>
     ensures room { OnOk result (length page.new + MAX_ROW ≤ PAGE) }
-    ensures said { OnOk result (Says (K.held out.old) (K.held out.new) page.old page.new lead.now) }
-    ensures some { OnErr result ((more : List ℕ) → SaysSome (K.held out.old) (K.held out.new) page.old (lead.now ++ more)) }
-    ensures cause { HasCause (K.faults out.old) (K.faults out.new) result }
+    ensures said { OnOk result (SaysTo K.Sink out.old out.new page.old page.new lead.now) }
+    ensures some { OnErr result ((more : List ℕ) → SaysSomeTo K.Sink out.old out.new page.old (lead.now ++ more)) }
+    ensures cause { IsHonest K.Sink out.old out.new result }
 {
     if lead.len() > PAGE - MAX_ROW {
         page.write(out)?;

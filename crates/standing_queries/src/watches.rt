@@ -1,5 +1,6 @@
 //! The watches that stand.
-ghost use Rattle.std.specs.Prelude.{◌≡◌, ◌↔◌, ◌<◌, ◌≤◌, ◌||◌, IsTrue, [], ◌∷◌, ◌++◌, length, slice_get, IfSome, IsNone, IsSomeAnd, IfOk, OnOk, OnErr, IsErrOf, IsErr};
+ghost use Rattle.std.specs.Prelude.{◌≡◌, ◌↔◌, ◌<◌, ◌≤◌, ◌||◌, [], ◌∷◌, ◌++◌, length, slice_get};
+ghost use Rattle.std.specs.Prelude.{IsTrue, IfSome, IsNone, IsSomeAnd, IfOk, OnOk, OnErr, IsErrOf, IsErr};
 ghost use Rattle.path_ast.specs.Terms.{query_term, path_term};
 ghost use Rattle.path_ast.specs.Sizes.{IsPathInRange};
 ghost use Rattle.relation_rows.specs.Answered.{answered};

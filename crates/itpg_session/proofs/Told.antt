@@ -1,0 +1,70 @@
+-- What is seen of a reply, and the parts of deciding one.
+use Rattle.std.proofs.Common.{◌≡◌, ◌≢◌, ℕ, List, [], true, false, refl, sym, ap, ◌∙◌, subst}
+use Rattle.std.specs.Prelude.{Result, Ok, Err}
+use Rattle.itpg_base.specs.Graphs.{Graph}
+use Rattle.itpg_base.specs.declared.rule_code.RuleCode.{RuleCode}
+use Rattle.itpg_base.specs.declared.text_code.TextCode.{TextCode}
+use Rattle.itpg_session.specs.declared.reply.Seen.{Seen}
+use Rattle.itpg_session.specs.declared.reply.Seen.TheVariants.{Quiet, Answered, Refused as RefusedSeen}
+use Rattle.itpg_session.specs.declared.reply.Reply.{Reply as ReplyValue}
+use Rattle.relation_rows.specs.Answered.{Answered as Answer}
+use Rattle.itpg_session.specs.Replies.{Reply, Silent, Bad, Refused, Wide, Rows, Found, line_reply}
+use Rattle.itpg_session.specs.Texts.{bad_text, refused_text, wide_text, head_text, rows_text, text_of}
+use Rattle.itpg_session.specs.Machine.{Machine, Standing, Turn, told, after}
+use Rattle.itpg_session.specs.Steps.{Sees, IsDecided, Decides}
+
+-- ---- what is seen
+
+pub sees_quiet : Sees Quiet [] false
+sees_quiet = record { quiet = (λ e. refl, λ e. refl); refused = (λ e. cc, λ e. cc) }
+
+pub sees_answered : (text : List ℕ) → text ≢ [] → Sees Answered text false
+sees_answered text some = record { quiet = (λ e. cc, λ e. absurd (some e)); refused = (λ e. cc, λ e. cc) }
+
+pub sees_refused : (text : List ℕ) → text ≢ [] → Sees RefusedSeen text true
+sees_refused text some = record { quiet = (λ e. cc, λ e. absurd (some e)); refused = (λ e. refl, λ e. refl) }
+
+pub refused_seen : (number : ℕ) (rule : RuleCode) → Sees RefusedSeen (refused_text number rule) true
+unfolding refused_text
+refused_seen number rule = sees_refused (refused_text number rule) (λ e. cc)
+
+pub bad_seen : (number : ℕ) (code : TextCode) → Sees RefusedSeen (bad_text number code) true
+unfolding bad_text
+bad_seen number code = sees_refused (bad_text number code) (λ e. cc)
+
+pub wide_seen : (number : ℕ) → Sees RefusedSeen (wide_text number) true
+unfolding wide_text
+wide_seen number = sees_refused (wide_text number) (λ e. cc)
+
+pub rows_seen : (g : Graph) (number : ℕ) (answer : Answer) → Sees Answered (rows_text g number answer) false
+unfolding head_text
+rows_seen g number answer = sees_answered (rows_text g number answer) (λ e. cc)
+
+-- ---- deciding
+
+module _ {P Q : Turn → Type 0} (old new : Standing) where
+  -- a turn of these is one of those
+  pub decided_as : ((t : Turn) → P t → Q t) → (reply : Reply) → IsDecided P old new reply → IsDecided Q old new reply
+  decided_as to reply d = record { turns = to (told new.machine reply) d.turns; waits = d.waits; limit = d.limit }
+
+  pub decides_as : {V W E : Type 0} → ((t : Turn) → P t → Q t) → (V → W) → (result : Result ReplyValue E) → Decides P V old new result → Decides Q W old new result
+  decides_as to wants (Ok reply) d = decided_as to (line_reply reply) d
+  decides_as to wants (Err error) d = (d.0, wants d.1)
+
+module _ {P : Turn → Type 0} where
+  -- something is said, or nothing changes
+  pub said : (s : Standing) (reply : Reply) → P (told s.machine reply) → IsDecided P s s reply
+  said s reply p = record { turns = p; waits = λ some. refl; limit = refl }
+
+  -- nothing is said
+  pub silent : (old new : Standing) → new.limit ≡ old.limit → P (told new.machine Silent) → IsDecided P old new Silent
+  silent old new limit p = record { turns = p; waits = λ some. absurd (some refl); limit = limit }
+
+-- a reply that says something is to the machine that it was decided for, and one that says nothing has no text
+pub same_text : (old new : Standing) (number : ℕ) (reply : Reply) → (reply ≢ Silent → new ≡ old) → text_of new.machine.graph number reply ≡ text_of old.machine.graph number reply
+same_text old new number Silent waits = refl
+same_text old new number (Bad code) waits = refl
+same_text old new number (Refused rule) waits = refl
+same_text old new number Wide waits = refl
+same_text old new number (Rows answer) waits = ap (λ (s : Standing). text_of s.machine.graph number (Rows answer)) (waits (λ e. let no : ⊥ = cc in no))
+same_text old new number (Found found) waits = ap (λ (s : Standing). text_of s.machine.graph number (Found found)) (waits (λ e. let no : ⊥ = cc in no))

@@ -1,0 +1,14 @@
+use Rattle.itpg_session.proofs.Told.{rows_seen, bad_seen, refused_seen, wide_seen}
+use Rattle.itpg_session.proofs.reply.Reply.seen.Goals as goal
+
+pub returns-in-Rows : goal.returns-in-Rows
+returns-in-Rows c = rw (c.in-Rows.is) (λ g number. rows_seen g number _)
+
+pub returns-in-Bad : goal.returns-in-Bad
+returns-in-Bad c = rw (c.in-Bad.is) (λ g number. bad_seen number _)
+
+pub returns-in-Refused : goal.returns-in-Refused
+returns-in-Refused c = rw (c.in-Refused.is) (λ g number. refused_seen number _)
+
+pub returns-in-Wide : goal.returns-in-Wide
+returns-in-Wide c = rw (c.in-Wide.is) (λ g number. wide_seen number)

@@ -1,0 +1,85 @@
+//! The reply to a line, as a value, and what is seen of it.
+ghost use Rattle.std.specs.Prelude.{◌≡◌, ℕ, length, map};
+ghost use Rattle.itpg_base.specs.Graphs.{Graph};
+ghost use Rattle.itpg_session.specs.Ticks.{ticked_of, some_wide};
+ghost use Rattle.itpg_session.specs.Replies.{line_reply};
+ghost use Rattle.itpg_session.specs.Texts.{tick_text, text_of, fails};
+ghost use Rattle.itpg_session.specs.Steps.{Sees};
+
+use crate::asking::Asked;
+use crate::ticking::{Ticked, is_some_wide};
+use itpg_base::{RuleCode, TextCode};
+use relation_rows::Answer;
+
+/// The reply to a line, as a value.
+#[derive(Drop)]
+pub(crate) enum Reply {
+    /// Nothing is said.
+    Silent,
+    /// The first fault of the line, or of its query text.
+    Bad(TextCode),
+    /// The first rule that the line breaks.
+    Refused(RuleCode),
+    /// The query is too wide.
+    Wide,
+    /// The rows of its answer.
+    Rows(Answer),
+    /// What a tick found of each watch.
+    Found(Vec<Ticked>),
+}
+
+impl From<Asked> for Reply {
+    ghost use Rattle.std.specs.Prelude.{◌≡◌};
+    ghost use Rattle.itpg_session.specs.Replies.{reply_of, line_reply};
+
+    ghost from_gives = { λ asked reply. line_reply reply ≡ reply_of asked };
+
+    fn from(asked: Asked) -> Reply {
+        match asked {
+            Asked::Rows(answer) => Reply::Rows(answer),
+            Asked::Wide => Reply::Wide,
+            Asked::Bad(code) => Reply::Bad(code),
+            Asked::Refused(rule) => Reply::Refused(rule),
+        }
+    }
+}
+
+impl Reply {
+    /// What is seen of it.
+    pub(crate) fn seen(&self) -> Seen
+        ensures { (g : Graph) (number : ℕ) → Sees result (text_of g number (line_reply self.now)) (fails (line_reply self.now)) }
+    {
+        match self {
+            Reply::Silent => Seen::Quiet,
+            Reply::Rows(_) => Seen::Answered,
+            Reply::Bad(_) => Seen::Refused,
+            Reply::Refused(_) => Seen::Refused,
+            Reply::Wide => Seen::Refused,
+            Reply::Found(found) => seen_of(found),
+        }
+    }
+}
+
+/// What is seen of a reply.
+#[derive(Clone, Copy, Debug, PartialEq, Eq)]
+pub enum Seen {
+    /// It is empty.
+    Quiet,
+    /// It isn't empty, and no line of it is bad, refused or wide.
+    Answered,
+    /// Some line of it is bad, refused or wide.
+    Refused,
+}
+
+// What is seen of a tick that found this of all watches.
+fn seen_of(found: &[Ticked]) -> Seen
+    ensures { (g : Graph) → Sees result (tick_text g (map ticked_of found.now)) (some_wide (map ticked_of found.now)) }
+{
+    if found.is_empty() {
+        return Seen::Quiet;
+    }
+    if is_some_wide(found) {
+        return Seen::Refused;
+    }
+    Seen::Answered
+}

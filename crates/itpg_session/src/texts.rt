@@ -1,0 +1,110 @@
+//! The texts of replies, each formed on a page without memory, and the rows of an answer behind their head.
+ghost use Rattle.std.specs.Prelude.{◌≡◌, length, OnOk, OnErr};
+ghost use Rattle.itpg_base.specs.Sinks.{Gets, GetsSome, IsHonest};
+ghost use Rattle.relation_rows.specs.Answered.{answered};
+ghost use Rattle.row_printer.specs.Texts.{AreDeclared};
+ghost use Rattle.itpg_session.specs.Texts.{bad_text, refused_text, wide_text, head_text, rows_text, tick_wide_text, tick_head_text};
+
+use itpg_base::{Failed, Name, RuleCode, Sink, TextCode};
+use itpg_graph::Graph;
+use relation_rows::Answer;
+use row_printer::{Page, print_rows};
+
+/// The page of `line N refused RULE`.
+#[tactic(auto, unfolding(crate::specs::Texts::refused_text))]
+pub(crate) fn refused(number: u64, rule: RuleCode) -> Page
+    ensures { result ≡ refused_text number rule }
+{
+    let mut page = Page::new();
+    page.add(b"line ");
+    page.add_number(number);
+    page.add(b" refused ");
+    page.add(rule.word().as_bytes());
+    page.add(b"\n");
+    page
+}
+
+/// The page of `line N bad CODE`.
+#[tactic(auto, unfolding(crate::specs::Texts::bad_text))]
+pub(crate) fn bad(number: u64, code: TextCode) -> Page
+    ensures { result ≡ bad_text number code }
+{
+    let mut page = Page::new();
+    page.add(b"line ");
+    page.add_number(number);
+    page.add(b" bad ");
+    page.add(code.word().as_bytes());
+    page.add(b"\n");
+    page
+}
+
+/// The page of `line N wide`.
+#[tactic(auto, unfolding(crate::specs::Texts::wide_text))]
+pub(crate) fn wide(number: u64) -> Page
+    ensures { result ≡ wide_text number }
+{
+    let mut page = Page::new();
+    page.add(b"line ");
+    page.add_number(number);
+    page.add(b" wide\n");
+    page
+}
+
+// The page of `line N rows K`.
+#[tactic(auto, unfolding(crate::specs::Texts::head_text))]
+fn head(number: u64, count: u64) -> Page
+    ensures { result ≡ head_text number count }
+{
+    let mut page = Page::new();
+    page.add(b"line ");
+    page.add_number(number);
+    page.add(b" rows ");
+    page.add_number(count);
+    page.add(b"\n");
+    page
+}
+
+/// The page of `tick NAME wide`.
+#[tactic(auto, unfolding(crate::specs::Texts::tick_wide_text))]
+pub(crate) fn tick_wide(name: &Name) -> Page
+    ensures { result ≡ tick_wide_text name.now }
+{
+    let mut page = Page::new();
+    page.add(b"tick ");
+    page.add(name.bytes());
+    page.add(b" wide\n");
+    page
+}
+
+/// The page of `tick NAME gained K lost M`.
+#[tactic(auto, unfolding(crate::specs::Texts::tick_head_text))]
+pub(crate) fn tick_head(name: &Name, gained: u64, lost: u64) -> Page
+    ensures { result ≡ tick_head_text name.now gained lost }
+{
+    let mut page = Page::new();
+    page.add(b"tick ");
+    page.add(name.bytes());
+    page.add(b" gained ");
+    page.add_number(gained);
+    page.add(b" lost ");
+    page.add_number(lost);
+    page.add(b"\n");
+    page
+}
+
+/// Writes the rows of an answer behind `line N rows K`.
+pub(crate) fn write_rows<K: Sink>(
+    graph: &Graph,
+    number: u64,
+    answer: &Answer,
+    out: &mut K,
+) -> Result<(), Failed>
+    requires declared { AreDeclared (length graph.now.objects) (answered answer.now) }
+    ensures written { OnOk result (Gets K.Sink out.old out.new (rows_text graph.now number (answered answer.now))) }
+    ensures some { OnErr result (GetsSome K.Sink out.old out.new (rows_text graph.now number (answered answer.now))) }
+    ensures cause { IsHonest K.Sink out.old out.new result }
+{
+    head(number, answer.rows()).write(out)?;
+    print_rows(graph, answer, b"", out)?;
+    Ok(())
+}

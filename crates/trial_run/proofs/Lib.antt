@@ -1,4 +1,0 @@
-pub mod Residues
-pub mod Length
-pub mod Telling
-pub mod Running

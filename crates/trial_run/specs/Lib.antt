@@ -1,4 +1,0 @@
-pub mod Sums
-pub mod Summary
-pub mod SummaryLaws
-pub mod Running
