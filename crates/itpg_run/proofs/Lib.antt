@@ -11,3 +11,13 @@ pub mod Residues
 pub mod Length
 pub mod Telling
 pub mod Underway
+pub mod SpelledTokens
+pub mod LineTokens
+pub mod Spellings
+pub mod EditLines
+pub mod TextTokens
+pub mod QuestionTexts
+pub mod ObjectLists
+pub mod EditSteps
+pub mod GraphSteps
+pub mod ThreeLines

@@ -11,3 +11,7 @@ pub mod Fed
 pub mod Pumped
 pub mod OutputLaws
 pub mod Codes
+pub mod ScriptEdits
+pub mod ScriptQueries
+pub mod ScriptGraph
+pub mod ThreeLines
