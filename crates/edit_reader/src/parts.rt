@@ -1,14 +1,15 @@
 //! The tokens of a line, taken one by one.
-ghost use Rattle.std.specs.Prelude.{◌≡◌, ◌≤◌, List, length, drop, None, IfOk, IfSome, MatchOption, MatchResult, Err, [], ℕ, ℤ};
+ghost use Rattle.std.specs.Prelude.{◌≡◌, ◌<◌, ◌≤◌, List, length, drop, None, IfOk, IfErr, IfSome, MatchOption, MatchResult, Err, [], ℕ, ℤ};
+ghost use Rattle.itpg_base.specs.Spans.{IsMoment};
 ghost use Rattle.itpg_base.specs.Words.{Word};
 ghost use Rattle.script_lex.specs.Lexemes.{Lexeme, lexeme, AWord, ANumber, AQuote};
 ghost use Rattle.script_lex.specs.Lines.{Placed};
-ghost use Rattle.script_lex.specs.Numbers.{HasNumber, IsNumber};
+ghost use Rattle.script_lex.specs.Numbers.{HasNumber, IsNumber, number_value};
 ghost use Rattle.edit_reader.specs.Forms.{lexemes};
-ghost use Rattle.edit_reader.specs.Steps.{Told, word_then, number_then, quoted_then, end_then, moment_then, name_then, span_then, name_and_span_then, only_name_then};
+ghost use Rattle.edit_reader.specs.Steps.{Told, word_then, number_then, quoted_then, end_then, span_then, name_and_span_then, only_name_then};
 ghost use Rattle.edit_reader.specs.Taken.{OfRest, IsTaken};
 
-use itpg_base::{Name, TextCode};
+use itpg_base::{MAX_NAME, Name, TextCode};
 use script_lex::{What, next_token, value_of};
 
 // What stands in a line from a place on.
@@ -147,18 +148,16 @@ impl<'a> Parts<'a> {
 // The moment that a number writes.
 fn moment(number: &[u8]) -> Result<i64, TextCode>
     requires { IsNumber number.now }
-    ensures { (go_on : ℤ → Told) →
-        MatchResult result (λ value. moment_then number.now go_on ≡ go_on value)
-        (λ code. moment_then number.now go_on ≡ Err code) }
+    ensures moment { IfOk result (λ value. IsMoment (number_value number.now) × (value ≡ number_value number.now)) }
+    ensures far { IfErr result (λ code. (code ≡ TextCode.Number) × (¬ IsMoment (number_value number.now))) }
 {
     value_of(number).ok_or(TextCode::Number)
 }
 
 // The name of these bytes.
 pub(crate) fn name(text: &[u8]) -> Result<Name, TextCode>
-    ensures { (go_on : Word → Told) →
-        MatchResult result (λ name. name_then text.now go_on ≡ go_on name)
-        (λ code. name_then text.now go_on ≡ Err code) }
+    ensures name { IfOk result (λ name. (length text.now ≤ MAX_NAME) × (name ≡ text.now)) }
+    ensures long { IfErr result (λ code. (code ≡ TextCode.Name) × (MAX_NAME < length text.now)) }
 {
     Name::new(text).ok_or(TextCode::Name)
 }

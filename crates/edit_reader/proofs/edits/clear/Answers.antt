@@ -5,6 +5,7 @@ use Rattle.itpg_edit.specs.declared.edit.Edit.{Edit}
 use Rattle.edit_reader.specs.Readings.{Changes}
 use Rattle.edit_reader.specs.Steps.{name_then}
 use Rattle.edit_reader.proofs.FormSteps.{clear_steps}
+use Rattle.edit_reader.proofs.PartFaults.{named, overlong}
 use Rattle.edit_reader.proofs.edits.clear.Goals as goal
 
 pub returns-in_err-id-2 : goal.returns-in_err-id-2
@@ -12,14 +13,14 @@ returns-in_err-id-2 c = λ tokens are.
     let p = err_from_is_err_and c.from_residual-in_err-id-2.result c.from_residual-in_err-id-2.ensures.1 in
     let t = c.in_ok-id.ensures tokens are in
     let u = c.in_ok-prop.ensures t.rest t.behind in
-    rw (p.1, p.2) (sym (clear_steps t u c.in_ok-from.from c.in_ok-from.to (c.in_ok-from.ensures u.rest u.behind) ∙ c.in_err-id-2.ensures (λ (a : Word). name_then c.in_ok-prop.prop.now (λ b. Ok (Changes (Edit.Clear a b c.in_ok-from.from c.in_ok-from.to))))))
+    rw (p.1, p.2) (sym (clear_steps t u c.in_ok-from.from c.in_ok-from.to (c.in_ok-from.ensures u.rest u.behind) ∙ overlong _ c.in_err-id-2.ensures.long (λ (a : Word). name_then c.in_ok-prop.prop.now (λ b. Ok (Changes (Edit.Clear a b c.in_ok-from.from c.in_ok-from.to))))))
 
 pub returns-in_err-prop-2 : goal.returns-in_err-prop-2
 returns-in_err-prop-2 c = λ tokens are.
     let p = err_from_is_err_and c.from_residual-in_err-prop-2.result c.from_residual-in_err-prop-2.ensures.1 in
     let t = c.in_ok-id.ensures tokens are in
     let u = c.in_ok-prop.ensures t.rest t.behind in
-    rw (p.1, p.2) (sym (clear_steps t u c.in_ok-from.from c.in_ok-from.to (c.in_ok-from.ensures u.rest u.behind) ∙ c.in_ok-id-2.ensures (λ (a : Word). name_then c.in_ok-prop.prop.now (λ b. Ok (Changes (Edit.Clear a b c.in_ok-from.from c.in_ok-from.to)))) ∙ c.in_err-prop-2.ensures (λ (b : Word). Ok (Changes (Edit.Clear c.in_ok-id-2.id b c.in_ok-from.from c.in_ok-from.to)))))
+    rw (p.1, p.2) (sym (clear_steps t u c.in_ok-from.from c.in_ok-from.to (c.in_ok-from.ensures u.rest u.behind) ∙ named c.in_ok-id-2.ensures.name (λ (a : Word). name_then c.in_ok-prop.prop.now (λ b. Ok (Changes (Edit.Clear a b c.in_ok-from.from c.in_ok-from.to)))) ∙ overlong _ c.in_err-prop-2.ensures.long (λ (b : Word). Ok (Changes (Edit.Clear c.in_ok-id-2.id b c.in_ok-from.from c.in_ok-from.to)))))
 
 pub returns : goal.returns
 returns c = λ tokens are.
@@ -27,4 +28,4 @@ returns c = λ tokens are.
     let u = c.in_ok-prop.ensures t.rest t.behind in
     let from : SFits w64 c.in_ok-from.from = search rules in
     let to : SFits w64 c.in_ok-from.to = search rules in
-    simp to_z-of_z (sym (clear_steps t u c.in_ok-from.from c.in_ok-from.to (c.in_ok-from.ensures u.rest u.behind) ∙ c.in_ok-id-2.ensures (λ (a : Word). name_then c.in_ok-prop.prop.now (λ b. Ok (Changes (Edit.Clear a b c.in_ok-from.from c.in_ok-from.to)))) ∙ c.in_ok-prop-2.ensures (λ (b : Word). Ok (Changes (Edit.Clear c.in_ok-id-2.id b c.in_ok-from.from c.in_ok-from.to)))))
+    simp to_z-of_z (sym (clear_steps t u c.in_ok-from.from c.in_ok-from.to (c.in_ok-from.ensures u.rest u.behind) ∙ named c.in_ok-id-2.ensures.name (λ (a : Word). name_then c.in_ok-prop.prop.now (λ b. Ok (Changes (Edit.Clear a b c.in_ok-from.from c.in_ok-from.to)))) ∙ named c.in_ok-prop-2.ensures.name (λ (b : Word). Ok (Changes (Edit.Clear c.in_ok-id-2.id b c.in_ok-from.from c.in_ok-from.to)))))

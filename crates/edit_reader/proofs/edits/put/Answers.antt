@@ -5,6 +5,7 @@ use Rattle.itpg_edit.specs.declared.edit.Edit.{Edit}
 use Rattle.edit_reader.specs.Readings.{Changes}
 use Rattle.edit_reader.specs.Steps.{name_then}
 use Rattle.edit_reader.proofs.FormSteps.{put_steps}
+use Rattle.edit_reader.proofs.PartFaults.{named, overlong}
 use Rattle.edit_reader.proofs.edits.put.Goals as goal
 
 pub returns-in_err-id-2 : goal.returns-in_err-id-2
@@ -13,7 +14,7 @@ returns-in_err-id-2 c = λ tokens are.
     let t = c.in_ok-id.ensures tokens are in
     let u = c.in_ok-prop.ensures t.rest t.behind in
     let v = c.in_ok-value.ensures u.rest u.behind in
-    rw (p.1, p.2) (sym (put_steps t u v c.in_ok-from.from c.in_ok-from.to (c.in_ok-from.ensures v.rest v.behind) ∙ c.in_err-id-2.ensures (λ (a : Word). name_then c.in_ok-prop.prop.now (λ b. name_then c.in_ok-value.value.now (λ v. Ok (Changes (Edit.Put a b v c.in_ok-from.from c.in_ok-from.to)))))))
+    rw (p.1, p.2) (sym (put_steps t u v c.in_ok-from.from c.in_ok-from.to (c.in_ok-from.ensures v.rest v.behind) ∙ overlong _ c.in_err-id-2.ensures.long (λ (a : Word). name_then c.in_ok-prop.prop.now (λ b. name_then c.in_ok-value.value.now (λ v. Ok (Changes (Edit.Put a b v c.in_ok-from.from c.in_ok-from.to)))))))
 
 pub returns-in_err-prop-2 : goal.returns-in_err-prop-2
 returns-in_err-prop-2 c = λ tokens are.
@@ -21,7 +22,7 @@ returns-in_err-prop-2 c = λ tokens are.
     let t = c.in_ok-id.ensures tokens are in
     let u = c.in_ok-prop.ensures t.rest t.behind in
     let v = c.in_ok-value.ensures u.rest u.behind in
-    rw (p.1, p.2) (sym (put_steps t u v c.in_ok-from.from c.in_ok-from.to (c.in_ok-from.ensures v.rest v.behind) ∙ c.in_ok-id-2.ensures (λ (a : Word). name_then c.in_ok-prop.prop.now (λ b. name_then c.in_ok-value.value.now (λ v. Ok (Changes (Edit.Put a b v c.in_ok-from.from c.in_ok-from.to))))) ∙ c.in_err-prop-2.ensures (λ (b : Word). name_then c.in_ok-value.value.now (λ v. Ok (Changes (Edit.Put c.in_ok-id-2.id b v c.in_ok-from.from c.in_ok-from.to))))))
+    rw (p.1, p.2) (sym (put_steps t u v c.in_ok-from.from c.in_ok-from.to (c.in_ok-from.ensures v.rest v.behind) ∙ named c.in_ok-id-2.ensures.name (λ (a : Word). name_then c.in_ok-prop.prop.now (λ b. name_then c.in_ok-value.value.now (λ v. Ok (Changes (Edit.Put a b v c.in_ok-from.from c.in_ok-from.to))))) ∙ overlong _ c.in_err-prop-2.ensures.long (λ (b : Word). name_then c.in_ok-value.value.now (λ v. Ok (Changes (Edit.Put c.in_ok-id-2.id b v c.in_ok-from.from c.in_ok-from.to))))))
 
 pub returns-in_err-value-2 : goal.returns-in_err-value-2
 returns-in_err-value-2 c = λ tokens are.
@@ -29,7 +30,7 @@ returns-in_err-value-2 c = λ tokens are.
     let t = c.in_ok-id.ensures tokens are in
     let u = c.in_ok-prop.ensures t.rest t.behind in
     let v = c.in_ok-value.ensures u.rest u.behind in
-    rw (p.1, p.2) (sym (put_steps t u v c.in_ok-from.from c.in_ok-from.to (c.in_ok-from.ensures v.rest v.behind) ∙ c.in_ok-id-2.ensures (λ (a : Word). name_then c.in_ok-prop.prop.now (λ b. name_then c.in_ok-value.value.now (λ v. Ok (Changes (Edit.Put a b v c.in_ok-from.from c.in_ok-from.to))))) ∙ c.in_ok-prop-2.ensures (λ (b : Word). name_then c.in_ok-value.value.now (λ v. Ok (Changes (Edit.Put c.in_ok-id-2.id b v c.in_ok-from.from c.in_ok-from.to)))) ∙ c.in_err-value-2.ensures (λ (v : Word). Ok (Changes (Edit.Put c.in_ok-id-2.id c.in_ok-prop-2.prop v c.in_ok-from.from c.in_ok-from.to)))))
+    rw (p.1, p.2) (sym (put_steps t u v c.in_ok-from.from c.in_ok-from.to (c.in_ok-from.ensures v.rest v.behind) ∙ named c.in_ok-id-2.ensures.name (λ (a : Word). name_then c.in_ok-prop.prop.now (λ b. name_then c.in_ok-value.value.now (λ v. Ok (Changes (Edit.Put a b v c.in_ok-from.from c.in_ok-from.to))))) ∙ named c.in_ok-prop-2.ensures.name (λ (b : Word). name_then c.in_ok-value.value.now (λ v. Ok (Changes (Edit.Put c.in_ok-id-2.id b v c.in_ok-from.from c.in_ok-from.to)))) ∙ overlong _ c.in_err-value-2.ensures.long (λ (v : Word). Ok (Changes (Edit.Put c.in_ok-id-2.id c.in_ok-prop-2.prop v c.in_ok-from.from c.in_ok-from.to)))))
 
 pub returns : goal.returns
 returns c = λ tokens are.
@@ -38,4 +39,4 @@ returns c = λ tokens are.
     let v = c.in_ok-value.ensures u.rest u.behind in
     let from : SFits w64 c.in_ok-from.from = search rules in
     let to : SFits w64 c.in_ok-from.to = search rules in
-    simp to_z-of_z (sym (put_steps t u v c.in_ok-from.from c.in_ok-from.to (c.in_ok-from.ensures v.rest v.behind) ∙ c.in_ok-id-2.ensures (λ (a : Word). name_then c.in_ok-prop.prop.now (λ b. name_then c.in_ok-value.value.now (λ v. Ok (Changes (Edit.Put a b v c.in_ok-from.from c.in_ok-from.to))))) ∙ c.in_ok-prop-2.ensures (λ (b : Word). name_then c.in_ok-value.value.now (λ v. Ok (Changes (Edit.Put c.in_ok-id-2.id b v c.in_ok-from.from c.in_ok-from.to)))) ∙ c.in_ok-value-2.ensures (λ (v : Word). Ok (Changes (Edit.Put c.in_ok-id-2.id c.in_ok-prop-2.prop v c.in_ok-from.from c.in_ok-from.to)))))
+    simp to_z-of_z (sym (put_steps t u v c.in_ok-from.from c.in_ok-from.to (c.in_ok-from.ensures v.rest v.behind) ∙ named c.in_ok-id-2.ensures.name (λ (a : Word). name_then c.in_ok-prop.prop.now (λ b. name_then c.in_ok-value.value.now (λ v. Ok (Changes (Edit.Put a b v c.in_ok-from.from c.in_ok-from.to))))) ∙ named c.in_ok-prop-2.ensures.name (λ (b : Word). name_then c.in_ok-value.value.now (λ v. Ok (Changes (Edit.Put c.in_ok-id-2.id b v c.in_ok-from.from c.in_ok-from.to)))) ∙ named c.in_ok-value-2.ensures.name (λ (v : Word). Ok (Changes (Edit.Put c.in_ok-id-2.id c.in_ok-prop-2.prop v c.in_ok-from.from c.in_ok-from.to)))))
