@@ -57,7 +57,10 @@ fn time<'a>(alloc: Global, tokens: &'a [What<'a>]) -> Result<(Test, &'a [What<'a
     if let Some(rest) = skip_mark(tokens, Mark::Equal) {
         let (k, rest) = moment(rest)?;
         let from = from_moment(alloc, k)?;
-        return Ok((build::both(alloc, from, Test::Leaf(Leaf::Before(k + 1)))?, rest));
+        return Ok((
+            build::both(alloc, from, Test::Leaf(Leaf::Before(k + 1)))?,
+            rest,
+        ));
     }
     let rest = expect(tokens, Mark::AtLeast)?;
     let (k, rest) = moment(rest)?;
