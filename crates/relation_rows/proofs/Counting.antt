@@ -217,19 +217,19 @@ module _ (second : List Row) where
     whole_is : sorted ≡ g.counted ++ g.listed
     whole_is = g.parts ∙ append-nil (g.counted ++ g.listed)
 
-    items_either : (x y : Point) → ItemsHold (kept ++ ways) x y ↔ (ItemsHold kept x y ⊎ ItemsHold ways x y)
+    items_either : (x y : Point) → ItemsHold (ways ++ kept) x y ↔ (ItemsHold kept x y ⊎ ItemsHold ways x y)
     items_either x y = (
-      λ h. ⊎_elim (λ i. inl (h.0, i, h.2)) (λ i. inr (h.0, i, h.2)) (among_append kept ways h.0 h.1),
-      λ h. ⊎_elim (λ i. (i.0, append_first kept ways i.0 i.1, i.2)) (λ i. (i.0, append_second kept ways i.0 i.1, i.2)) h,
+      λ h. ⊎_elim (λ i. inr (h.0, i, h.2)) (λ i. inl (h.0, i, h.2)) (among_append ways kept h.0 h.1),
+      λ h. ⊎_elim (λ i. (i.0, append_second ways kept i.0 i.1, i.2)) (λ i. (i.0, append_first ways kept i.0 i.1, i.2)) h,
     )
 
-    pub items_from : (x y : Point) → ItemsHold (kept ++ ways) x y → From rows x y
+    pub items_from : (x y : Point) → ItemsHold (ways ++ kept) x y → From rows x y
     items_from x y h =
         let k = subst (λ (v : List Row). From v x y) (sym whole_is) ((from_either g.counted g.listed x y).1 (⊎_elim (λ a. inl ((g.kept_hold x y).0 a)) (λ a. inr ((g.ways_hold x y).0 a)) ((items_either x y).0 h))) in
         let i = k.1 in
         (k.0, (i.0, (same i.0).0 i.1, i.2), k.2)
 
-    pub from_items : (x y : Point) → From rows x y → ItemsHold (kept ++ ways) x y
+    pub from_items : (x y : Point) → From rows x y → ItemsHold (ways ++ kept) x y
     from_items x y h =
         let i = h.1 in
         let k : From (g.counted ++ g.listed) x y = subst (λ (v : List Row). From v x y) whole_is (h.0, (i.0, (same i.0).1 i.1, i.2), h.2) in

@@ -132,8 +132,8 @@ fn of_source(
         }
         left = later;
     }
-    kept.extend_from_slice(&ways)?;
-    gathered_of(known, kept, room)
+    ways.extend_from_slice(&kept)?;
+    gathered_of(known, ways, room)
 }
 
 /// The relation of the ways that begin with the rows and go on in the second. The legs are those of the second's busy objects.

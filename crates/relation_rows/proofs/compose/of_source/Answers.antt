@@ -65,9 +65,9 @@ returns c =
     let none = none_left c.loop-left.left.now c.loop-left-test.ensures in
     let g = subst (λ (v : List Row). IsUnderway c.args.second.now c.deref.result.now v c.loop-left.kept.items c.loop-left.ways.items c.loop-left.count c.args.room) none c.loop-left.invariant in
     let same = subst (λ (v : List Row). (r : Row) → Among v r ↔ Among c.args.rows.now r) (sym c.deref.ensures.value) c.in_ok-sorted.ensures.same in
-    let is : c.extend_from_slice.new.self.items ≡ c.loop-left.kept.items ++ c.loop-left.ways.items =
-    c.in_ok-extend_from_slice.ensures.items ∙ ap (λ (v : List Item). c.loop-left.kept.items ++ v) c.deref-2.ensures.value in
-    gives_alike (ItemsHold (c.loop-left.kept.items ++ c.loop-left.ways.items)) (HasMiddlePoint c.args.rows.now c.args.second.now)
+    let is : c.extend_from_slice.new.self.items ≡ c.loop-left.ways.items ++ c.loop-left.kept.items =
+    c.in_ok-extend_from_slice.ensures.items ∙ ap (λ (v : List Item). c.loop-left.ways.items ++ v) c.deref-2.ensures.value in
+    gives_alike (ItemsHold (c.loop-left.ways.items ++ c.loop-left.kept.items)) (HasMiddlePoint c.args.rows.now c.args.second.now)
     (items_from c.args.second.now c.deref.result.now c.loop-left.kept.items c.loop-left.ways.items c.loop-left.count c.args.room g c.args.rows.now same)
     (from_items c.args.second.now c.deref.result.now c.loop-left.kept.items c.loop-left.ways.items c.loop-left.count c.args.room g c.args.rows.now same)
     c.args.room c.gathered_of-2.result (subst (λ (v : List Item). Gives c.gathered_of-2.result (ItemsHold v) c.args.room) is c.gathered_of-2.ensures.gives)
