@@ -1,4 +1,4 @@
-// The printed forms of the faults.
+//! The printed forms of the faults.
 use command_words::WordsFault;
 
 #[test]

@@ -1,4 +1,4 @@
-// A set without the moments of another, which no query asks for.
+//! A set without the moments of another, which no query asks for.
 use interval_set::{IntervalSet, Span};
 
 #[test]

@@ -1,4 +1,4 @@
-// A source and a sink over std's streams.
+//! A source and a sink over std's streams.
 use itpg_base::{Sink, Source, StdSink, StdSource};
 
 #[test]

@@ -1,4 +1,4 @@
-// A query text that was read, and its copy, with their printed form by hand from the table of translations.
+//! A query text that was read, and its copy, with their printed form by hand from the table of translations.
 use match_parser::read_query;
 
 const FORM: &str = "Query { first: true, last: true, path: Seq(Seq(Test(And(Node, Exists)), \

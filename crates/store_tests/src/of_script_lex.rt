@@ -1,4 +1,4 @@
-// Lines and pictures of their tokens, drawn by hand from the table of tokens.
+//! Lines and pictures of their tokens, drawn by hand from the table of tokens.
 use itpg_base::TextCode;
 use script_lex::{Token, What, next_token};
 use std::alloc::{AllocError, Global};

@@ -1,4 +1,4 @@
-// Whole scripts, measured. The numbers were worked out by a generator apart from this one.
+//! Whole scripts, measured. The numbers were worked out by a generator apart from this one.
 use std::alloc::Global;
 use std::process::Abort;
 use trial_script::{Trial, asked, trial_line};
