@@ -19,10 +19,9 @@ mod trial;
 
 pub use law::{law_of_summaries, one_output, output_begins, output_grows, some_output};
 pub use run::serve;
+use thiserror::Error;
 pub use trial::run_trial;
 pub use trial_script::{Trial, trial_line};
-
-use thiserror::Error;
 
 /// How a run ended. As a text it is a sentence for people.
 #[derive(Clone, Copy, Debug, PartialEq, Eq, Drop, Error)]
