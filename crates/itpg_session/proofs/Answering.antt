@@ -15,7 +15,7 @@ use Rattle.path_ast.specs.Terms.{QueryTerm}
 use Rattle.match_parser.specs.Reading.{Reads, FaultOf}
 use Rattle.standing_queries.specs.Watches.{Watch, IsWatched, most_watches, new_watch, without}
 use Rattle.itpg_session.specs.Rules.{QueryBreaks, WatchBreaks, NameBreaks, TickBreaks, ask_rules, watch_rules, name_rules, tick_rules}
-use Rattle.itpg_session.specs.Replies.{Reply, Silent, Bad, Refused, IsReply}
+use Rattle.itpg_session.specs.Replies.{Reply, Bad, Refused, IsReply}
 use Rattle.itpg_session.specs.Machine.{Machine, Turn, Refuses, AsksText, WatchesText, WatchesQuery, AddsWatch, ShowsName, DropsWatch, DropsName, TicksOrNot, Answers, TurnOf, Replies, quiet_turn, told}
 
 module _ (limit : ℕ) (m : Machine) where

@@ -16,7 +16,7 @@ use Rattle.row_printer.specs.Texts.{AreDeclared}
 use Rattle.standing_queries.specs.Watches.{Watch, IsOfKind}
 use Rattle.standing_queries.specs.Changes.{AreOfOneKind, IsRest, OneRest, SomeRest}
 use Rattle.itpg_session.specs.Questions.{HasAnswer}
-use Rattle.itpg_session.specs.Replies.{Reply, Silent, Bad, Refused, Wide, Rows, Found, IsFound}
+use Rattle.itpg_session.specs.Replies.{Reply, Silent, Bad, Refused, Wide, Rows, PerWatch, IsFound}
 use Rattle.itpg_session.specs.Ticks.{Ticked, StaysWide, Moves, IsTicked, AreTicked, all_moved}
 use Rattle.itpg_session.specs.Watching.{AsksForOne, BasesDeclared, IsTickDeclared, AreTicksDeclared, AreMovesOfKind}
 use Rattle.itpg_session.proofs.Replying.{declared, one_answered, some_found}
@@ -142,7 +142,7 @@ module _ (g : Graph) (limit : ℕ) where
   ticked_of_found some w kind Silent is = absurd is
   ticked_of_found some w kind (Bad code) is = absurd is
   ticked_of_found some w kind (Refused rule) is = absurd is
-  ticked_of_found some w kind (Found found) is = absurd is
+  ticked_of_found some w kind (PerWatch found) is = absurd is
 
   pub some_tick : SomeRest → (ws : List Watch) → ((w : Watch) → Among ws w → AsksForOne w.query) → ((w : Watch) → Among ws w → IsOfKind w.query w.base) → (xs : List Ticked) × AreTicked g limit ws xs
   some_tick some [] asks kinds = ([], tt)

@@ -21,7 +21,7 @@ use Rattle.standing_queries.specs.Changes.{OneRest, SomeRest}
 use Rattle.itpg_session.specs.Rules.{WatchBreaks, NameBreaks, TickBreaks, watch_rules, name_rules, tick_rules}
 use Rattle.itpg_session.specs.Watching.{AsksForOne}
 use Rattle.itpg_session.specs.Ticks.{Ticked}
-use Rattle.itpg_session.specs.Replies.{Reply, Silent, Bad, Refused, Wide, Rows, Found, IsFound, IsReply}
+use Rattle.itpg_session.specs.Replies.{Reply, Silent, Bad, Refused, Wide, Rows, PerWatch, IsFound, IsReply}
 use Rattle.itpg_session.specs.Machine.{Machine, IsGood, Turn, Refuses, AsksText, WatchesText, WatchesQuery, AddsWatch, ShowsWatch, DropsWatch, TicksAll, Answers, TurnOf, Replies, after, told, quiet_turn}
 use Rattle.itpg_session.specs.MachineLaws.{OneReply, SomeReply, GoodReply, FrontReplies}
 use Rattle.itpg_session.proofs.Decided.{first_or_none, decide_watch, decide_named, decide_tick, some_watch}
@@ -77,7 +77,7 @@ module _ (below : Below) (limit : ℕ) (m : Machine) (good : IsGood m) where
       a.is ∙ ap (told m) (one_found m.graph limit (b.watch).query a.reply b.reply finds b.finds) ∙ sym b.is
 
   one_ticked : (x y : Turn) → TicksAll limit m x → TicksAll limit m y → x ≡ y
-  one_ticked x y a b = a.is ∙ ap (λ (f : List Ticked). told m (Found f)) (one_tick m.graph limit below.one_rest m.watches a.found b.found a.finds b.finds) ∙ sym b.is
+  one_ticked x y a b = a.is ∙ ap (λ (f : List Ticked). told m (PerWatch f)) (one_tick m.graph limit below.one_rest m.watches a.found b.found a.finds b.finds) ∙ sym b.is
 
   one_change : (edit : Edit) (x y : Turn) → Answers limit m (Changes edit) x → Answers limit m (Changes edit) y → x ≡ y
   unfolding Answers
@@ -118,7 +118,7 @@ module _ (below : Below) (limit : ℕ) (m : Machine) (good : IsGood m) where
   found_after q (Refused rule) a = absurd a
   found_after q Wide a = refl
   found_after q (Rows answer) a = refl
-  found_after q (Found found) a = absurd a
+  found_after q (PerWatch found) a = absurd a
 
   asked_after : (text : List ℕ) (reply : Reply) → IsReply m.graph limit text reply → m ≡ after m reply
   asked_after text Silent a = refl
@@ -126,7 +126,7 @@ module _ (below : Below) (limit : ℕ) (m : Machine) (good : IsGood m) where
   asked_after text (Refused rule) a = refl
   asked_after text Wide a = refl
   asked_after text (Rows answer) a = refl
-  asked_after text (Found found) (q, reads, a) = absurd a.1
+  asked_after text (PerWatch found) (q, reads, a) = absurd a.1
 
   good_ask : (text : List ℕ) (t : Turn) → AsksText limit m text t → IsGood t.next
   good_ask text t a = same_good t (asked_after text a.reply a.replies ∙ sym (ap (λ (u : Turn). u.next) a.is))
@@ -222,7 +222,7 @@ module _ (below : Below) (limit : ℕ) (m : Machine) (good : IsGood m) where
       (told m f.0, record { unbroken = none; watch = w.0; among = w.1; named = w.2; reply = f.0; finds = f.1; is = refl })
 
   some_ticked : NoneOf (TickBreaks m.graph) tick_rules → (t : Turn) × TicksAll limit m t
-  some_ticked none = let f = some_tick m.graph limit below.some_rest m.watches good.asks good.kinds in (told m (Found f.0), record { unbroken = none; found = f.0; finds = f.1; is = refl })
+  some_ticked none = let f = some_tick m.graph limit below.some_rest m.watches good.asks good.kinds in (told m (PerWatch f.0), record { unbroken = none; found = f.0; finds = f.1; is = refl })
 
   some_change : (edit : Edit) → (t : Turn) × Answers limit m (Changes edit) t
   some_change edit = elim (below.rules m.graph edit good.graph) [

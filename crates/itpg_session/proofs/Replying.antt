@@ -32,7 +32,7 @@ use Rattle.path_eval.proofs.Finite.{cut_rows, departures, arrivals, fit_or_wide,
 use Rattle.row_printer.specs.Texts.{AreDeclared}
 use Rattle.itpg_session.specs.Questions.{HasAnswer}
 use Rattle.itpg_session.specs.Rules.{QueryBreaks, ask_rules}
-use Rattle.itpg_session.specs.Replies.{Reply, Silent, Bad, Refused, Wide, Rows, Found, IsFound, IsReply, IsReplyTo, NamesDeclared}
+use Rattle.itpg_session.specs.Replies.{Reply, Silent, Bad, Refused, Wide, Rows, PerWatch, IsFound, IsReply, IsReplyTo, NamesDeclared}
 use Rattle.itpg_session.proofs.Decided.{first_or_none, decide_ask}
 
 -- ---- what answers a query
@@ -96,17 +96,17 @@ module _ (g : Graph) (limit : ℕ) (q : QueryTerm) where
   one_found Silent y a b = absurd a
   one_found (Bad c) y a b = absurd a
   one_found (Refused r) y a b = absurd a
-  one_found (Found f) y a b = absurd a
+  one_found (PerWatch f) y a b = absurd a
   one_found Wide Silent a b = absurd b
   one_found Wide (Bad c) a b = absurd b
   one_found Wide (Refused r) a b = absurd b
-  one_found Wide (Found f) a b = absurd b
+  one_found Wide (PerWatch f) a b = absurd b
   one_found Wide Wide a b = refl
   one_found Wide (Rows y) a b = absurd (b.0 a)
   one_found (Rows x) Silent a b = absurd b
   one_found (Rows x) (Bad c) a b = absurd b
   one_found (Rows x) (Refused r) a b = absurd b
-  one_found (Rows x) (Found f) a b = absurd b
+  one_found (Rows x) (PerWatch f) a b = absurd b
   one_found (Rows x) Wide a b = absurd (a.0 b)
   one_found (Rows x) (Rows y) a b = ap Rows (one_answered x y a b)
 
@@ -120,7 +120,7 @@ module _ (g : Graph) (limit : ℕ) (q : QueryTerm) where
   found_declared Silent a = tt
   found_declared (Bad c) a = tt
   found_declared (Refused r) a = tt
-  found_declared (Found f) a = tt
+  found_declared (PerWatch f) a = tt
   found_declared Wide a = tt
   found_declared (Rows x) a = declared g q.path q.first q.last x a.1
 
@@ -139,7 +139,7 @@ module _ (g : Graph) (limit : ℕ) (q : QueryTerm) where
   refused_or_found (Bad c) a = inr a
   refused_or_found Wide a = inr a
   refused_or_found (Rows x) a = inr a
-  refused_or_found (Found f) a = inr a
+  refused_or_found (PerWatch f) a = inr a
 
   one_reply_to : (x y : Reply) → IsReplyTo g limit q x → IsReplyTo g limit q y → x ≡ y
   one_reply_to x y a b = by_cases (refused_or_found x a) (refused_or_found y b)
@@ -158,7 +158,7 @@ module _ (g : Graph) (limit : ℕ) (q : QueryTerm) where
   is_reply unbroken Silent is = absurd is
   is_reply unbroken (Bad c) is = absurd is
   is_reply unbroken (Refused r) is = absurd is
-  is_reply unbroken (Found f) is = absurd is
+  is_reply unbroken (PerWatch f) is = absurd is
   is_reply unbroken Wide is = (unbroken, is)
   is_reply unbroken (Rows x) is = (unbroken, is)
 
@@ -177,7 +177,7 @@ module _ (g : Graph) (limit : ℕ) (text : List ℕ) where
   of_read q reads Silent a = (q, reads, a)
   of_read q reads Wide a = (q, reads, a)
   of_read q reads (Rows x) a = (q, reads, a)
-  of_read q reads (Found f) a = (q, reads, a)
+  of_read q reads (PerWatch f) a = (q, reads, a)
 
   read_or_bad : (reply : Reply) → IsReply g limit text reply → ((q : QueryTerm) × Reads text q × IsReplyTo g limit q reply) ⊎ ((c : TextCode) × FaultOf text c × (reply ≡ Bad c))
   read_or_bad (Bad c) a = inr (c, a, refl)
@@ -185,14 +185,14 @@ module _ (g : Graph) (limit : ℕ) (text : List ℕ) where
   read_or_bad Silent a = inl a
   read_or_bad Wide a = inl a
   read_or_bad (Rows x) a = inl a
-  read_or_bad (Found f) a = inl a
+  read_or_bad (PerWatch f) a = inl a
 
   pub declared_asked : (reply : Reply) → IsReply g limit text reply → NamesDeclared g reply
   declared_asked (Bad c) a = tt
   declared_asked (Refused r) a = tt
   declared_asked Silent a = tt
   declared_asked Wide a = tt
-  declared_asked (Found f) a = tt
+  declared_asked (PerWatch f) a = tt
   declared_asked (Rows x) (q, reads, a) = declared g q.path q.first q.last x a.1.1
 
 -- the laws of query texts

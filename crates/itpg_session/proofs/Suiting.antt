@@ -4,10 +4,9 @@ use Rattle.std.specs.Prelude.{Result, Ok, Err, IfOk}
 use Rattle.itpg_base.specs.Words.{Word}
 use Rattle.itpg_base.specs.declared.rule_code.RuleCode.{RuleCode}
 use Rattle.itpg_base.specs.declared.text_code.TextCode.{TextCode}
-use Rattle.itpg_edit.specs.declared.edit.Edit.{Edit}
 use Rattle.edit_reader.specs.Readings.{Reading, Nothing, Changes, Asks, Watches, Shows, Unwatches, Ticks}
 use Rattle.path_ast.specs.Terms.{QueryTerm}
-use Rattle.itpg_session.specs.Replies.{Reply, Silent, Bad, Refused, Wide, Rows, Found, IsFound, IsReply, line_reply}
+use Rattle.itpg_session.specs.Replies.{Reply, Silent, Bad, Refused, Wide, Rows, PerWatch, IsFound, IsReply, line_reply}
 use Rattle.itpg_session.specs.Machine.{Standing, Turn, Refuses, WatchesText, WatchesQuery, Answers, TurnOf, Replies}
 use Rattle.itpg_session.specs.Steps.{Decides, Suits}
 use Rattle.itpg_session.specs.declared.reply.Reply.{Reply as ReplyValue}
@@ -20,7 +19,7 @@ module _ (s : Standing) where
   asked_suits text (Refused rule) a = tt
   asked_suits text Wide a = tt
   asked_suits text (Rows answer) a = declared_asked s.machine.graph s.limit text (Rows answer) a
-  asked_suits text (Found found) (q, reads, a) = absurd a.1
+  asked_suits text (PerWatch found) (q, reads, a) = absurd a.1
 
   found_suits : (q : QueryTerm) (reply : Reply) → IsFound s.machine.graph s.limit q reply → Suits s reply
   found_suits q Silent a = tt
@@ -28,7 +27,7 @@ module _ (s : Standing) where
   found_suits q (Refused rule) a = tt
   found_suits q Wide a = tt
   found_suits q (Rows answer) a = found_declared s.machine.graph s.limit q (Rows answer) a
-  found_suits q (Found found) a = absurd a
+  found_suits q (PerWatch found) a = absurd a
 
   -- the turn has this reply, and the reply suits
   replied : (t u : Turn) → t ≡ u → Suits s u.reply → Suits s t.reply
@@ -73,7 +72,7 @@ silent_or_not (Bad code) = inl (λ e. let no : ⊥ = cc in no)
 silent_or_not (Refused rule) = inl (λ e. let no : ⊥ = cc in no)
 silent_or_not Wide = inl (λ e. let no : ⊥ = cc in no)
 silent_or_not (Rows answer) = inl (λ e. let no : ⊥ = cc in no)
-silent_or_not (Found found) = inl (λ e. let no : ⊥ = cc in no)
+silent_or_not (PerWatch found) = inl (λ e. let no : ⊥ = cc in no)
 
 -- a reply that says nothing suits every session, any other the one that it was decided for
 suits_new : (old new : Standing) (reply : Reply) → (reply ≡ Silent → ⊥) ⊎ (reply ≡ Silent) → Suits old reply → ((reply ≡ Silent → ⊥) → new ≡ old) → Suits new reply

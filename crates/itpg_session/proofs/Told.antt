@@ -1,16 +1,15 @@
 -- What is seen of a reply, and the parts of deciding one.
-use Rattle.std.proofs.Common.{◌≡◌, ◌≢◌, ℕ, List, [], true, false, refl, sym, ap, ◌∙◌, subst}
+use Rattle.std.proofs.Common.{◌≡◌, ◌≢◌, ℕ, List, [], true, false, refl, ap}
 use Rattle.std.specs.Prelude.{Result, Ok, Err}
 use Rattle.itpg_base.specs.Graphs.{Graph}
 use Rattle.itpg_base.specs.declared.rule_code.RuleCode.{RuleCode}
 use Rattle.itpg_base.specs.declared.text_code.TextCode.{TextCode}
-use Rattle.itpg_session.specs.declared.reply.Seen.{Seen}
 use Rattle.itpg_session.specs.declared.reply.Seen.TheVariants.{Quiet, Answered, Refused as RefusedSeen}
 use Rattle.itpg_session.specs.declared.reply.Reply.{Reply as ReplyValue}
 use Rattle.relation_rows.specs.Answered.{Answered as Answer}
-use Rattle.itpg_session.specs.Replies.{Reply, Silent, Bad, Refused, Wide, Rows, Found, line_reply}
+use Rattle.itpg_session.specs.Replies.{Reply, Silent, Bad, Refused, Wide, Rows, PerWatch, line_reply}
 use Rattle.itpg_session.specs.Texts.{bad_text, refused_text, wide_text, head_text, rows_text, text_of}
-use Rattle.itpg_session.specs.Machine.{Machine, Standing, Turn, told, after}
+use Rattle.itpg_session.specs.Machine.{Standing, Turn, told}
 use Rattle.itpg_session.specs.Steps.{Sees, IsDecided, Decides}
 
 -- ---- what is seen
@@ -67,4 +66,4 @@ same_text old new number (Bad code) waits = refl
 same_text old new number (Refused rule) waits = refl
 same_text old new number Wide waits = refl
 same_text old new number (Rows answer) waits = ap (λ (s : Standing). text_of s.machine.graph number (Rows answer)) (waits (λ e. let no : ⊥ = cc in no))
-same_text old new number (Found found) waits = ap (λ (s : Standing). text_of s.machine.graph number (Found found)) (waits (λ e. let no : ⊥ = cc in no))
+same_text old new number (PerWatch found) waits = ap (λ (s : Standing). text_of s.machine.graph number (PerWatch found)) (waits (λ e. let no : ⊥ = cc in no))

@@ -14,7 +14,7 @@ use Rattle.match_parser.specs.Reading.{Reads, FaultOf}
 use Rattle.itpg_base.specs.Lists.{Among, Ordered}
 use Rattle.standing_queries.specs.Watches.{Watch, IsOfKind, NamesDiffer, new_watch, without}
 use Rattle.itpg_session.specs.Rules.{watch_rules, name_rules, tick_rules, WatchBreaks, NameBreaks, TickBreaks}
-use Rattle.itpg_session.specs.Replies.{Reply, Silent, Bad, Refused, Wide, Rows, Found, IsFound, IsReply}
+use Rattle.itpg_session.specs.Replies.{Reply, Silent, Bad, Refused, Wide, Rows, PerWatch, IsFound, IsReply}
 use Rattle.itpg_session.specs.Ticks.{Ticked, AreTicked, all_moved}
 use Rattle.itpg_session.specs.Watching.{AsksForOne}
 
@@ -52,7 +52,7 @@ after m (Bad code) = m
 after m (Refused rule) = m
 after m Wide = m
 after m (Rows answer) = m
-after m (Found found) = record { graph = m.graph; watches = all_moved m.watches found }
+after m (PerWatch found) = record { graph = m.graph; watches = all_moved m.watches found }
 
 -- the machine gives this reply
 abbrev pub told : Machine → Reply → Turn
@@ -122,7 +122,7 @@ pub record TicksAll (limit : ℕ) (m : Machine) (t : Turn) : Type 0 where
   pub unbroken : NoneOf (TickBreaks m.graph) tick_rules
   pub found : List Ticked
   pub finds : AreTicked m.graph limit m.watches found
-  pub is : t ≡ told m (Found found)
+  pub is : t ≡ told m (PerWatch found)
 
 -- a tick is refused, or told
 abbrev pub TicksOrNot : ℕ → Machine → Turn → Type 0

@@ -24,7 +24,7 @@ pub data Reply : Type 0 where
   Refused : RuleCode → Reply
   Wide : Reply
   Rows : Answered → Reply
-  Found : List Ticked → Reply
+  PerWatch : List Ticked → Reply
 
 -- the reply that a value of the code stands for, where a query text was asked
 abbrev pub reply_of : Asked → Reply
@@ -40,7 +40,7 @@ line_reply (value.Bad code) = Bad code
 line_reply (value.Refused rule) = Refused rule
 line_reply value.Wide = Wide
 line_reply (value.Rows answer) = Rows (answered answer)
-line_reply (value.Found found) = Found (map ticked_of found.items)
+line_reply (value.PerWatch found) = PerWatch (map ticked_of found.items)
 
 -- what is found for a query on the graph, with a limit of rows: that it is too wide, or its answer
 abbrev pub IsFound : Graph → ℕ → QueryTerm → Reply → Type 0
@@ -49,7 +49,7 @@ IsFound g limit q (Bad code) = ⊥
 IsFound g limit q (Refused rule) = ⊥
 IsFound g limit q Wide = IsTooWide g limit q
 IsFound g limit q (Rows answer) = HasAnswer g limit q answer
-IsFound g limit q (Found found) = ⊥
+IsFound g limit q (PerWatch found) = ⊥
 
 -- the reply to a query that is asked: the first rule that this breaks; where none is broken, what is found for it
 abbrev pub IsReplyTo : Graph → ℕ → QueryTerm → Reply → Type 0

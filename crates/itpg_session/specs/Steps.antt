@@ -9,7 +9,7 @@ use Rattle.edit_reader.specs.Lines.{LineOf}
 use Rattle.row_printer.specs.Texts.{AreDeclared}
 use Rattle.itpg_session.specs.Rules.{NameBreaks, TickBreaks, name_rules, tick_rules}
 use Rattle.itpg_session.specs.Ticks.{AreTicked}
-use Rattle.itpg_session.specs.Replies.{Reply, Silent, Rows, Found, line_reply}
+use Rattle.itpg_session.specs.Replies.{Reply, Silent, Rows, PerWatch, line_reply}
 use Rattle.itpg_session.specs.Texts.{text_of, fails}
 use Rattle.itpg_session.specs.Machine.{Machine, Standing, Turn, told}
 use Rattle.itpg_session.specs.declared.reply.Reply.{Reply as ReplyValue}
@@ -69,5 +69,5 @@ Decides Turns wants old new (Err error) = (new ≡ old) × wants
 -- the reply is one of the session: its rows are of declared objects, and it has what a tick finds of the watches
 abbrev pub Suits : Standing → Reply → Type 0
 Suits s (Rows answer) = AreDeclared (length s.machine.graph.objects) answer
-Suits s (Found found) = AreTicked s.machine.graph s.limit s.machine.watches found
+Suits s (PerWatch found) = AreTicked s.machine.graph s.limit s.machine.watches found
 Suits s reply = Unit {0}

@@ -10,7 +10,7 @@ use Rattle.itpg_base.specs.declared.text_code.TextCode.{TextCode}
 use Rattle.relation_rows.specs.Answered.{Answered, row_number}
 use Rattle.row_printer.specs.Texts.{answer_text}
 use Rattle.itpg_session.specs.Ticks.{Ticked, StaysWide, Moves, some_wide}
-use Rattle.itpg_session.specs.Replies.{Reply, Silent, Bad, Refused, Wide, Rows, Found}
+use Rattle.itpg_session.specs.Replies.{Reply, Silent, Bad, Refused, Wide, Rows, PerWatch}
 
 -- `line N refused RULE`
 unfoldable pub refused_text : ℕ → RuleCode → List ℕ
@@ -61,7 +61,7 @@ text_of g number (Bad code) = bad_text number code
 text_of g number (Refused rule) = refused_text number rule
 text_of g number Wide = wide_text number
 text_of g number (Rows answer) = rows_text g number answer
-text_of g number (Found found) = tick_text g found
+text_of g number (PerWatch found) = tick_text g found
 
 -- the reply is bad, refused or wide, or some line of it is
 abbrev pub fails : Reply → Bool
@@ -70,4 +70,4 @@ fails (Bad code) = true
 fails (Refused rule) = true
 fails Wide = true
 fails (Rows answer) = false
-fails (Found found) = some_wide found
+fails (PerWatch found) = some_wide found

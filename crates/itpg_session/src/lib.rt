@@ -9,6 +9,7 @@
 #![tactic(auto)]
 
 mod asking;
+mod deciding;
 mod finding;
 mod laws;
 mod reply;

@@ -25,7 +25,7 @@ pub(crate) enum Reply {
     /// The rows of its answer.
     Rows(Answer),
     /// What a tick found of each watch.
-    Found(Vec<Ticked>),
+    PerWatch(Vec<Ticked>),
 }
 
 impl From<Asked> for Reply {
@@ -55,7 +55,7 @@ impl Reply {
             Reply::Bad(_) => Seen::Refused,
             Reply::Refused(_) => Seen::Refused,
             Reply::Wide => Seen::Refused,
-            Reply::Found(found) => seen_of(found),
+            Reply::PerWatch(found) => seen_of(found),
         }
     }
 }

@@ -22,7 +22,9 @@ use std::alloc::{AllocError, Global};
 #[derive(Drop)]
 pub(crate) enum Ticked {
     /// Its query is too wide, and its base stays.
-    StaysWide { name: Name },
+    StaysWide {
+        name: Name,
+    },
     /// The answer now, which is its next base, and what changed since the one before.
     Moves {
         name: Name,
@@ -72,11 +74,7 @@ fn tick_one(
 }
 
 /// Writes what was found of each watch, in order.
-pub(crate) fn write_all<K: Sink>(
-    graph: &Graph,
-    found: &[Ticked],
-    out: &mut K,
-) -> Result<(), Failed>
+pub(crate) fn write_all<K: Sink>(graph: &Graph, found: &[Ticked], out: &mut K) -> Result<(), Failed>
     requires { AreTicksDeclared graph.now (map ticked_of found.now) }
     ensures written { OnOk result (Gets K.Sink out.old out.new (tick_text graph.now (map ticked_of found.now))) }
     ensures some { OnErr result (GetsSome K.Sink out.old out.new (tick_text graph.now (map ticked_of found.now))) }
@@ -130,7 +128,9 @@ fn write_changes<K: Sink>(
 pub(crate) fn is_some_wide(found: &[Ticked]) -> bool
     ensures { result ≡ list_any (λ one. stays_wide (ticked_of one)) found.now }
 {
-    found.iter().any(|one| matches!(one, Ticked::StaysWide { .. }))
+    found
+        .iter()
+        .any(|one| matches!(one, Ticked::StaysWide { .. }))
 }
 
 /// Makes each answer that was found the base of its watch.

@@ -34,9 +34,9 @@ returns c =
     let asked = subst (λ (s : Standing). NoneOf (QueryBreaks s.machine.graph q) ask_rules) (sym c.self.view_is) c.requires.asked in
     let same : c.add.new.self ≡ c.self.inside.watches → before ≡ after = λ is. ap (λ (ws : List Watch). let s : Standing = record { machine = record { graph = c.self.inside.graph; watches = ws }; limit = c.self.inside.limits } in s) (sym is) in
     let refused : (rule : RuleCode) → FirstOf (WatchBreaks before.machine.graph before.machine.watches c.args.name q) watch_rules rule → before ≡ after → IsDecided (WatchesQuery c.args.self.now.machine c.args.name q) c.args.self.now after (Refused rule) = λ rule first is.
-        subst (λ (s : Standing). IsDecided (WatchesQuery s.machine c.args.name q) s after (Refused rule)) c.self.view_is
-        (subst (λ (s : Standing). IsDecided (WatchesQuery before.machine c.args.name q) before s (Refused rule)) is
-        (said before (Refused rule) (refusal before.machine (WatchBreaks before.machine.graph before.machine.watches c.args.name q) watch_rules (AddsWatch before.machine c.args.name q) rule first _ refl))) in
+    subst (λ (s : Standing). IsDecided (WatchesQuery s.machine c.args.name q) s after (Refused rule)) c.self.view_is
+    (subst (λ (s : Standing). IsDecided (WatchesQuery before.machine c.args.name q) before s (Refused rule)) is
+    (said before (Refused rule) (refusal before.machine (WatchBreaks before.machine.graph before.machine.watches c.args.name q) watch_rules (AddsWatch before.machine c.args.name q) rule first _ refl))) in
     elim c.match-add.branch [
       | in-Ok w ↦
           let free : IsWatched before.machine.watches c.args.name → ⊥ = λ there. let e = w.in-Ok.ensures.taken.1 there in let no_fault : ⊥ = cc in no_fault in

@@ -10,7 +10,7 @@ use Rattle.itpg_session.proofs.session.Session.decide.Goals as goal
 pub returns-in-Ok-clause-decides : goal.returns-in-Ok-clause-decides
 returns-in-Ok-clause-decides c =
     let is = subst (λ r. LineOf c.args.line.now (read_as r)) c.in-Ok.is c.read_line.ensures.line in
-    decides_as c.args.self.now c.answer.new.self (replies_read c.args.self.now.limit c.args.self.now.machine c.args.line.now (reading_of c.in-Ok.reading) is) (λ w. (reading_of c.in-Ok.reading, is, w)) c.answer.result c.answer.ensures
+    decides_as c.args.self.now c.decide_read.new.self (replies_read c.args.self.now.limit c.args.self.now.machine c.args.line.now (reading_of c.in-Ok.reading) is) (λ w. (reading_of c.in-Ok.reading, is, w)) c.decide_read.result c.decide_read.ensures
 
 pub returns-in-Err-clause-decides : goal.returns-in-Err-clause-decides
 returns-in-Err-clause-decides c =
@@ -18,4 +18,4 @@ returns-in-Err-clause-decides c =
     said c.args.self.now (Bad c.in-Err.code) (replies_bad c.args.self.now.limit c.args.self.now.machine c.args.line.now c.in-Err.code is _ refl)
 
 pub returns-in-Ok-clause-suits : goal.returns-in-Ok-clause-suits
-returns-in-Ok-clause-suits c = suits_decided _ c.args.line.now c.args.self.now c.answer.new.self c.answer.result (returns-in-Ok-clause-decides c)
+returns-in-Ok-clause-suits c = suits_decided _ c.args.line.now c.args.self.now c.decide_read.new.self c.decide_read.result (returns-in-Ok-clause-decides c)

@@ -2,7 +2,7 @@ use Rattle.std.proofs.Common.{refl}
 use Rattle.itpg_session.specs.Replies.{Silent, reply_of}
 use Rattle.itpg_session.proofs.Answering.{blank_answers, asks_answers, asked_asks, watches_answers, shows_answers, unwatches_answers, ticks_answers}
 use Rattle.itpg_session.proofs.Told.{decided_as, decides_as, said}
-use Rattle.itpg_session.proofs.session.Session.answer.Goals as goal
+use Rattle.itpg_session.proofs.session.Session.decide_read.Goals as goal
 
 pub returns-in-Blank : goal.returns-in-Blank
 returns-in-Blank c = rw (c.in-Blank.is) (said c.args.self.now Silent (blank_answers c.args.self.now.limit c.args.self.now.machine))
