@@ -1,5 +1,5 @@
 -- The worked members of short paths, listed by hand: each rule of what lies between two parts has a path that only it decides.
-use Rattle.std.specs.Prelude.{ℕ, List, [], ◌∷◌, ◌++◌, Some, None, codes}
+use Rattle.std.specs.Prelude.{ℕ, List, [], ◌∷◌, Some, None, codes}
 use Rattle.path_ast.specs.Terms.{PathTerm, OfTest, Forward, Next, Sequence, Choice, Repetition}
 use Rattle.label_scope.specs.declared.scope.Scope.{Scope}
 use Rattle.label_scope.specs.declared.scope.Scope.TheVariants.{All, These}

@@ -1,13 +1,12 @@
 -- Paths with their scopes, written out by hand: each rule of the definitions has a path that only it decides.
-use Rattle.std.specs.Prelude.{◌≡◌, ℕ, List, [], ◌∷◌, Bool, true, false, Some, None, codes, pos}
-use Rattle.itpg_base.specs.Words.{Word}
+use Rattle.std.specs.Prelude.{◌≡◌, List, [], ◌∷◌, Bool, true, false, Some, None, codes, pos}
 use Rattle.path_ast.specs.Terms.{PathTerm, OfTest, Forward, Backward, Next, Previous, Sequence, Choice, Repetition, TestTerm, IsNode, IsEdge, HasLabel, HasValue, IsBelow, DoesExist, Condition, Conjunction, Disjunction, Negation}
 use Rattle.path_ast.specs.Meaning.{keeps_object}
 use Rattle.label_scope.specs.declared.scope.Scope.{Scope}
 use Rattle.label_scope.specs.declared.scope.Scope.TheVariants.{All, These}
 use Rattle.label_scope.specs.Scopes.{source_scope, target_scope}
 use Rattle.label_scope.specs.Narrowing.{narrowed}
-use Rattle.label_scope.specs.Examples.{persons, rooms, meetings, persons_and_rooms}
+use Rattle.label_scope.specs.Examples.{persons, rooms, persons_and_rooms}
 
 -- a path with its source scope, its target scope, and whether it keeps its object
 pub record ScopedPath : Type 0 where
