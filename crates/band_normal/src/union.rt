@@ -40,7 +40,7 @@ const CUTS: u32 = 48;
 /// 0..4 from Moving(0) to Moving(0), 5..6 from Moving(0) to Fixed(6), 7..9 from Moving(0) to Moving(0)
 /// ```
 ///
-/// An error is want of memory.
+/// An error says that memory ran out.
 pub fn normal(alloc: Global, zones: Vec<Zone>) -> Result<Vec<Band>, AllocError>
     ensures normal { IfOk result (λ rows. Normal (SomeMeets zones.items) rows.items) }
     ensures well_formed { IfOk result (λ rows. (b : Band) → Among rows.items b → IsWellFormed b) }

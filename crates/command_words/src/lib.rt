@@ -1,7 +1,7 @@
 //! The words of the command line.
 //!
 //! It stands on `itpg_base` and on clap, whose own definition says which words fit the command. It promises that the words are
-//! read as the options that they ask for, and are refused exactly where they ask for none (`read_words`), and that they ask for
+//! read as the options that they ask for, and are refused exactly if they ask for none (`read_words`), and that they ask for
 //! no two (`law_of_one_reading`).
 #![tactic(auto)]
 

@@ -5,7 +5,7 @@ ghost use Rattle.command_words.specs.Numbers.{AreDigits, Writes};
 // How many digits a number has at most.
 const MAX_DIGITS: usize = 20;
 
-/// The number that one to twenty decimal digits write; `None` exactly where the text is something else or the number is 2^64 or
+/// The number that one to twenty decimal digits write; `None` exactly if the text is something else or the number is 2^64 or
 /// more.
 pub(crate) fn read_number(text: &str) -> Option<u64>
     ensures { MatchOption result ((n : ℕ) → n < 2 ^ 64 → ¬ Writes text.now n) (λ n. Writes text.now n) }

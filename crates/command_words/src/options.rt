@@ -17,7 +17,7 @@ pub enum WordsFault {
     /// They are no sentence of the command.
     #[error("usage: itpg [--max-rows N] [--trial NUMBER]")]
     Usage,
-    /// Memory was wanting.
+    /// Memory ran out.
     #[error("out of memory")]
     Memory,
 }

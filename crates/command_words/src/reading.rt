@@ -24,7 +24,7 @@ const DEFAULT_ROWS: u32 = 100_000;
 ///
 /// # Errors
 ///
-/// `Usage` only where the words ask for no options; `Memory` where memory was wanting.
+/// `Usage` only if the words ask for no options; `Memory` if memory runs out.
 pub fn read_words(alloc: Global, words: &[String]) -> Result<Options, WordsFault>
     ensures options { IfOk result (λ o. AreOptionsOf (map string_bytes words.now) o) }
     ensures usage { IsErrOf result WordsFault.Usage → (o : PlainOptions) → ¬ AreOptionsOf (map string_bytes words.now) o }
@@ -90,7 +90,7 @@ fn command_of<'a>(alloc: Global) -> Result<Command<'a>, AllocError>
     Ok(named.no_binary_name(true))
 }
 
-// The limit that a value asks for, or the one without a value; `None` exactly where the value is no limit.
+// The limit that a value asks for, or the one without a value; `None` exactly if the value is no limit.
 fn limits_of(value: Option<&str>) -> Option<Limits>
     ensures { let given = option_map (λ s. s.now) value.entry in MatchOption result ((n : ℕ) → ¬ LimitIs given n) (λ limits. LimitIs given limits) }
 {
@@ -100,7 +100,7 @@ fn limits_of(value: Option<&str>) -> Option<Limits>
     }
 }
 
-// The number of the trial that a value asks for, if there is a value; `None` exactly where the value is no such number.
+// The number of the trial that a value asks for, if there is a value; `None` exactly if the value is no such number.
 fn trial_of(value: Option<&str>) -> Option<Option<u64>>
     ensures { let given = option_map (λ s. s.now) value.entry in MatchOption result ((t : Option ℕ) → ¬ TrialIs given t) (λ trial. TrialIs given trial) }
 {

@@ -125,7 +125,7 @@ impl Marks {
         Ok(Marks { marked })
     }
 
-    /// The relation in which each marked point leads to itself. `Wide` exactly where its normal rows are more than
+    /// The relation in which each marked point leads to itself. `Wide` exactly if its normal rows are more than
     /// `max_rows`.
     pub fn as_relation(&self, max_rows: u32) -> Result<Relation, RelFault>
         ensures { Gives result (MarkedToItself self.now) max_rows }

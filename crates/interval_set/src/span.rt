@@ -34,7 +34,7 @@ impl Model for Span {
 }
 
 impl Span {
-    /// The span from `from` to `to`. None exactly where `from` is after `to`.
+    /// The span from `from` to `to`. None exactly if `from` is after `to`.
     pub fn new(from: i64, to: i64) -> Option<Span>
         ensures ordered { IsSome result ↔ (from ≤ℤ to) }
         ensures value { IfSome result (λ s. s ≡ record { from = from; to = to }) }

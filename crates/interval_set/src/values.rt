@@ -56,7 +56,7 @@ impl ValuedSet {
         &self.runs
     }
 
-    /// The value at the moment. `None` exactly where there is none.
+    /// The value at the moment. `None` exactly if there is none.
     pub fn at(&self, t: i64) -> Option<Name>
         ensures none { IsNone result ↔ ((value : Word) → ¬ RunsHave self.now t value) }
         ensures some { (value : Word) → (result ≡ Some value) ↔ RunsHave self.now t value }

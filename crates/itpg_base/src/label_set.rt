@@ -30,7 +30,7 @@ impl Model for LabelSet {
 }
 
 impl LabelSet {
-    /// The set of exactly these labels, each taken once; `None` exactly where there is none or there are more than
+    /// The set of exactly these labels, each taken once; `None` exactly if there is none or there are more than
     /// `MAX_LABELS` different ones.
     pub fn new(labels: &[Name]) -> Option<LabelSet>
         ensures some { IfSome result (λ set. SameNames labels.now set) }

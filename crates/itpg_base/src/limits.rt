@@ -39,7 +39,7 @@ impl Model for Limits {
 }
 
 impl Limits {
-    /// The limits with this number of rows; `None` exactly where it is 0 or above `MAX_ROWS`.
+    /// The limits with this number of rows; `None` exactly if it is 0 or above `MAX_ROWS`.
     pub fn new(max_rows: u32) -> Option<Limits>
         ensures none { IsNone result ↔ ((max_rows ≡ 0) ⊎ (MAX_ROWS < max_rows)) }
         ensures some { IfSome result (λ limits. limits ≡ max_rows) }

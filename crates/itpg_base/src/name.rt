@@ -40,7 +40,7 @@ impl Model for Name {
 }
 
 impl Name {
-    /// The name of these bytes; `None` exactly where there are more than `MAX_NAME`.
+    /// The name of these bytes; `None` exactly if there are more than `MAX_NAME`.
     pub fn new(bytes: &[u8]) -> Option<Name>
         ensures none { IsNone result ↔ (MAX_NAME < length bytes.now) }
         ensures some { IfSome result (λ name. name ≡ bytes.now) }

@@ -23,7 +23,7 @@ pub(crate) fn measure(rt: &HostRuntime, nodes: u32) -> Result<()> {
     let micros = start.elapsed(rt)?.as_micros();
     ensure!(
         status == Status::Done,
-        "some line was refused, or memory was wanting"
+        "some line was refused, or memory ran out"
     );
     let written = sink.bytes();
     println!(rt; "ingest: {nodes} nodes, {read} bytes read, {written} written")?;

@@ -49,7 +49,7 @@ TakesMemory (Begin name lo hi) = ⊥
 TakesMemory (Remove id) = ⊥
 TakesMemory edit = Unit {0}
 
--- why the edit isn't made: the first rule that it breaks; or it breaks none, and memory was wanting
+-- why the edit isn't made: the first rule that it breaks; or it breaks none, and memory ran out
 abbrev pub Excuses : Graph → Edit → EditFault → Type 0
 Excuses g edit (Rule rule) = Broken g edit rule
 Excuses g edit Memory = Unbroken g edit × TakesMemory edit

@@ -15,7 +15,7 @@ use crate::finding::find;
 use itpg_base::{MAX_OBJECTS, RuleCode};
 use itpg_graph::Graph;
 
-/// The first rule, in the order in which they are tried, that the edit breaks on this graph; `None` exactly where it breaks
+/// The first rule, in the order in which they are tried, that the edit breaks on this graph; `None` exactly if it breaks
 /// none. It takes no memory.
 ///
 /// ```text

@@ -9,8 +9,8 @@ use thiserror::Error;
 /// Why an edit wasn't made. The graph is as it was.
 #[derive(Clone, Copy, Debug, PartialEq, Eq, Error)]
 pub enum EditFault {
-    /// Memory was wanting. The edit breaks no rule.
-    #[error("memory was wanting for an edit that breaks no rule")]
+    /// Memory ran out. The edit breaks no rule.
+    #[error("memory ran out; the edit breaks no rule")]
     Memory,
     /// The first rule that the edit breaks.
     #[error("the edit breaks the rule `{}`", .0.word())]

@@ -21,8 +21,8 @@ use std::alloc::AllocError;
 ///
 /// # Errors
 ///
-/// `Rule(c)` exactly where c is the first rule that the edit breaks, and `Memory` where it breaks none and memory was
-/// wanting. Then the graph is as it was. No memory is asked for where a rule is broken, nor for `Begin` and `Remove`.
+/// `Rule(c)` exactly if c is the first rule that the edit breaks, and `Memory` if it breaks none and memory ran out.
+/// Then the graph is as it was. No memory is asked for if a rule is broken, nor for `Begin` and `Remove`.
 pub fn apply(graph: &mut Graph, edit: &Edit) -> Result<Touch, EditFault>
     requires { HasMoments edit.now }
     ensures makes { IfOk result (λ touch. Makes graph.old edit.now graph.new touch) }

@@ -67,7 +67,7 @@ impl Graph {
         }
     }
 
-    /// The graph's span of moments; `None` exactly where it isn't begun.
+    /// The graph's span of moments; `None` exactly if it isn't begun.
     pub fn horizon(&self) -> Option<Span>
         ensures value { result ≡ option_map (λ b. b.horizon) self.now.begun }
         ensures good { Good self.now }
@@ -75,14 +75,14 @@ impl Graph {
         self.opened.as_ref().map(|opened| opened.horizon)
     }
 
-    /// The graph's name; `None` exactly where it isn't begun.
+    /// The graph's name; `None` exactly if it isn't begun.
     pub fn name(&self) -> Option<Name>
         ensures { result ≡ option_map (λ b. b.name) self.now.begun }
     {
         self.opened.as_ref().map(|opened| opened.name)
     }
 
-    /// The number of the standing object with this name; `None` exactly where no standing object has it.
+    /// The number of the standing object with this name; `None` exactly if no standing object has it.
     pub fn find(&self, name: &Name) -> Option<ObjNo>
         ensures found { IfSome result (λ o. Named self.now o.0 name.now) }
         ensures none { IsNone result → (o : ℕ) → Named self.now o name.now → ⊥ }
@@ -151,7 +151,7 @@ impl Graph {
         &self.objects[o.0 as usize].live
     }
 
-    /// The values of a property over time, in at most `MAX_SPANS` runs; `None` exactly where the object has no value of it at any
+    /// The values of a property over time, in at most `MAX_SPANS` runs; `None` exactly if the object has no value of it at any
     /// moment.
     pub fn value(&self, o: ObjNo, prop: &Name) -> Option<&ValuedSet>
         requires { Stands self.now o.0 }

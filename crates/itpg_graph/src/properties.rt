@@ -64,7 +64,7 @@ impl Properties {
         self.list.len()
     }
 
-    /// The values of a property; `None` exactly where it has none.
+    /// The values of a property; `None` exactly if it has none.
     pub(crate) fn get(&self, name: &Name) -> Option<&ValuedSet>
         ensures some { IfSome result (λ values. AreRunsOf (PropertiesHave self.now name.now) values.now) }
         ensures none { IsNone result ↔ ((t : ℤ) (value : Word) → ¬ PropertiesHave self.now name.now t value) }
@@ -150,7 +150,7 @@ impl Properties {
         Ok(Properties { list })
     }
 
-    /// The greatest number of runs of a property without its values in the span; 0 where there is no property.
+    /// The greatest number of runs of a property without its values in the span; 0 if there is no property.
     pub(crate) fn widest_cut(&self, s: Span) -> usize
         ensures { IsWidest self.now s result }
     {

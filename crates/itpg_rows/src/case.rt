@@ -108,7 +108,7 @@ fn way_of(words: Vec<String>, limits: Option<Limits>) -> Way {
     }
 }
 
-// The words of the file, one a line; none where there is no such file.
+// The words of the file, one a line; none if there is no such file.
 fn read_words(rt: &HostRuntime, path: &str) -> Result<Vec<String>> {
     let mut words = Vec::new(rt.alloc());
     if let Some(text) = read_optional(rt, path)? {

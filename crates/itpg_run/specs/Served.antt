@@ -89,7 +89,7 @@ pub record Served (status : Status) (limit : ℕ) (before left held now : Option
 abbrev pub BeginsEach : ℕ → Option (List ℕ) → Option (List ℕ) → Option (List ℕ) → Type 0
 BeginsEach limit before held now = IfSome before (λ all. (t : Output) → IsOut limit all t → AppendsSome held now t.text)
 
--- all was answered, or memory was wanting
+-- all was answered, or memory ran out
 abbrev pub EndsWell : Status → Type 0
 EndsWell Done = Unit {0}
 EndsWell DoneRefused = Unit {0}

@@ -43,7 +43,7 @@ pub enum Status {
     /// The sink failed. A front part of the output was written.
     #[error("write fault")]
     WriteFault,
-    /// Memory was wanting. Some first lines were answered, each whole.
+    /// Memory ran out. Some first lines were answered, each whole.
     #[error("out of memory")]
     Memory,
     /// A byte past the first 268,435,456 was taken. The lines whose end is among those were answered.

@@ -24,10 +24,10 @@ const CHUNK: usize = 65_536;
 /// Does all that the program does: reads a script from the source and writes the plain machine's output to the sink.
 ///
 /// `words` are the command line's words without the program's name: `[--max-rows N] [--trial NUMBER]`. The limit of rows that
-/// they ask for is the machine's. Where they ask for a trial, nothing is read, and the summary of the trial is written in the
-/// place of an output. The output over a script is the replies of the plain machine to its lines, numbered from 1
-/// (`docs/SEMANTICS.md`). What each status means is told by [`Status`]; whatever it is, what was written begins the output over
-/// all that the source had, or the summary. Every call returns, on every source.
+/// they ask for is the machine's. If they ask for a trial, nothing is read, and the summary of the trial is written in place of
+/// an output. The output over a script is the replies of the plain machine to its lines, numbered from 1 (`docs/PROVED.md`).
+/// [`Status`] says what each status means. Whatever it is, what was written begins the output over all that the source had, or
+/// the summary. Every call returns, on every source.
 pub fn serve<S: Source, K: Sink>(
     alloc: Global,
     words: &[String],
@@ -50,11 +50,11 @@ pub fn serve<S: Source, K: Sink>(
     // Whatever the status, a front part of the output over all that the source had was written.
     ensures each { (limit : ℕ) → AskForScript (map string_bytes words.entry.now) limit → BeginsTo S.Source K.Sink source.old sink.old sink.new limit }
 
-    // A fault is told only where its device's count rose in this call.
+    // A fault is told only if its device's count rose in this call.
     ensures read { result ≡ Status.ReadFault → Rose (S.faults source.old) (S.faults source.new) }
     ensures write { result ≡ Status.WriteFault → HasFailed K.Sink sink.old sink.new }
 
-    // With no fault and a script that fits, all was answered, or memory was wanting.
+    // With no fault and a script that fits, all was answered, or memory ran out.
     ensures complete { AskForSome (map string_bytes words.entry.now) → (all : List ℕ) → S.left source.old ≡ Some all → length all ≤ longest
         → ¬ Rose (S.faults source.old) (S.faults source.new) → ¬ HasFailed K.Sink sink.old sink.new → EndsWell result }
 {

@@ -61,7 +61,7 @@ pub record IsDecided (Turns : Turn → Type 0) (old new : Standing) (reply : Rep
   pub waits : reply ≢ Silent → new ≡ old
   pub limit : new.limit ≡ old.limit
 
--- a reply is decided; or memory is wanting, which comes only where this is so, and the session is as it was
+-- a reply is decided; or memory ran out, which comes only if this is so, and the session is as it was
 abbrev pub Decides : {E : Type 0} → (Turn → Type 0) → Type 0 → Standing → Standing → Result ReplyValue E → Type 0
 Decides Turns wants old new (Ok reply) = IsDecided Turns old new (line_reply reply)
 Decides Turns wants old new (Err error) = (new ≡ old) × wants

@@ -24,7 +24,7 @@ use thiserror::Error;
 /// Why a line wasn't answered. The session is as it was.
 #[derive(Clone, Copy, Debug, PartialEq, Eq, Drop, Error)]
 pub enum StepFault {
-    /// Memory was wanting. Nothing was written.
+    /// Memory ran out. Nothing was written.
     #[error("out of memory")]
     Memory,
     /// The sink failed. A front part of the reply was written.
@@ -129,13 +129,13 @@ impl Session {
     /// ```
     ///
     /// `Bad` comes exactly with the first fault of the text; the faults of a script line have no part in it. Of a text that
-    /// reads as a query, `Refused` comes exactly with the first rule that asking it breaks, `Wide` exactly where the relation
+    /// reads as a query, `Refused` comes exactly with the first rule that asking it breaks, `Wide` exactly if the relation
     /// of some worked member of its path has more rows than the limit, and else `Rows` with its answer. Each object of the
     /// rows was declared in the graph.
     ///
     /// # Errors
     ///
-    /// For want of memory.
+    /// If memory runs out.
     pub fn ask(&self, text: &[u8]) -> Result<Asked, AllocError>
         ensures reply { IfOk result (λ asked. IsReply self.now.machine.graph self.now.limit text.now (reply_of asked)) }
         ensures only { IfOk result (λ asked. (reply : PlainReply) → IsReply self.now.machine.graph self.now.limit text.now reply → reply_of asked ≡ reply) }
@@ -151,8 +151,8 @@ impl Session {
     ///
     /// # Errors
     ///
-    /// `Memory` for want of memory: never for a blank line, a comment, a line that has a fault of its own, an edit that is
-    /// refused, `graph`, `drop`, `unwatch`, or a `show` or a `tick` that is refused. `Write` where the sink failed.
+    /// `Memory` if memory runs out: never for a blank line, a comment, a line that has a fault of its own, an edit that is
+    /// refused, `graph`, `drop`, `unwatch`, or a `show` or a `tick` that is refused. `Write` if the sink failed.
     pub fn step<K: Sink>(&mut self, no: u64, line: &[u8], out: &mut K) -> Result<Seen, StepFault>
         ensures stepped { IfOk result (λ seen. Stepped K.Sink out.old out.new (Replies self.old.limit self.old.machine line.now) no self.old self.new seen) }
         ensures same { OnErr result (self.new ≡ self.old) }
@@ -173,7 +173,7 @@ impl Session {
     ///
     /// # Errors
     ///
-    /// For want of memory, where `step` could give `Memory`.
+    /// If memory runs out, and only if `step` could give `Memory`.
     pub fn pass(&mut self, line: &[u8]) -> Result<(), AllocError>
         ensures passed { OnOk result (Passed (Replies self.old.limit self.old.machine line.now) self.old self.new) }
         ensures same { OnErr result (self.new ≡ self.old) }

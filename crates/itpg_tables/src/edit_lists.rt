@@ -71,7 +71,7 @@ fn made(alloc: Global, graph: &mut Graph, line: &str) -> Result<String> {
     match &apply(graph, &edit) {
         Ok(touch) => describe_touch(alloc, touch),
         Err(EditFault::Rule(rule)) => Ok(format!(in alloc; "{}", rule.word())?),
-        Err(EditFault::Memory) => bail!("memory was wanting"),
+        Err(EditFault::Memory) => bail!("memory ran out"),
     }
 }
 

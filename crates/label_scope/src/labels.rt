@@ -97,7 +97,7 @@ impl Labels {
     }
 }
 
-// The place at which the label is missing in a list that rises; `None` where it is in the list.
+// The place at which the label is missing in a list that rises; `None` if it is in the list.
 fn free_place(names: &[Name], label: &Name) -> Option<usize>
     ensures missing { IfSome result (λ place. with_label names.now label.now ≡ insert names.now place label.now) }
     ensures within { IfSome result (λ place. place ≤ length names.now) }

@@ -4,7 +4,7 @@ use Rattle.match_parser.specs.declared.fault.QueryFault.{QueryFault}
 use Rattle.match_parser.specs.declared.fault.QueryFault.TheVariants.{Memory, Bad}
 use Rattle.match_parser.specs.Reading.{FaultOf}
 
--- the text's first fault, or want of memory
+-- the text's first fault, or that memory ran out
 abbrev pub IsQueryFault : List ℕ → QueryFault → Type 0
 IsQueryFault text Memory = Unit {0}
 IsQueryFault text (Bad code) = FaultOf text code

@@ -10,7 +10,7 @@ use Rattle.match_parser.specs.declared.fault.Stop.TheVariants.{Memory, Text}
 abbrev pub lexemes : List What → List Lexeme
 lexemes tokens = map lexeme tokens
 
--- seen so, it is what was found; want of memory is free
+-- seen so, it is what was found; memory may run out
 abbrev pub Gives : {X Y : Type 0} → (X → Y) → Result X Stop → Option Y → Type 0
 Gives view (Ok x) found = found ≡ Some (view x)
 Gives view (Err Memory) found = Unit {0}

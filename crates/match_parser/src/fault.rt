@@ -7,7 +7,7 @@ use thiserror::Error;
 #[derive(Clone, Copy, Debug, PartialEq, Eq, Error)]
 pub enum QueryFault {
     /// There was no memory for it.
-    #[error("memory was wanting for the query")]
+    #[error("memory ran out while the query was read")]
     Memory,
     /// The first fault of the text.
     #[error("the text is no query: `{}`", .0.word())]

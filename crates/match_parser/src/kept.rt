@@ -52,7 +52,7 @@ pub(crate) fn tame_value(bytes: &[u8]) -> Option<i64>
     }
 }
 
-// The number; 0 where it is out of range.
+// The number; 0 if it is out of range.
 #[tactic(auto, unfolding(crate::specs::Kept::kept_value))]
 pub(crate) fn keep_value(bytes: &[u8]) -> i64
     ensures value { result ≡ kept_value bytes.now }
@@ -61,7 +61,7 @@ pub(crate) fn keep_value(bytes: &[u8]) -> i64
     tame_value(bytes).unwrap_or(0)
 }
 
-// The number without its sign; 0 where it is out of range.
+// The number without its sign; 0 if it is out of range.
 #[tactic(auto, unfolding(crate::specs::Kept::kept_count))]
 pub(crate) fn keep_count(bytes: &[u8]) -> u64
     ensures { result ≡ kept_count bytes.now }

@@ -8,7 +8,7 @@ ghost use Rattle.match_parser.specs.declared.checks.TheConstants.{MAX_TERMS};
 
 use script_lex::law_of_tokens;
 
-/// A text reads as at most one query, and as one exactly where it has no fault; and it has at most one first fault.
+/// A text reads as at most one query, and as one exactly if it has no fault; and it has at most one first fault.
 pub fn law_of_queries()
     ensures one { (text : List ℕ) (p q : QueryTerm) → Reads text p → Reads text q → p ≡ q }
     ensures first { (text : List ℕ) (c d : TextCode) → FaultOf text c → FaultOf text d → c ≡ d }

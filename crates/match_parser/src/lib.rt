@@ -2,7 +2,7 @@
 //!
 //! Stands on `script_lex`, whose tokens a text is made of, and on `path_ast`, whose queries it stands for.
 //! Its definitions (`specs/`) are the grammar as trees with their spelling and their translation, and the faults of a text
-//! in order. It promises that a text reads as at most one query, and as one exactly where it has no fault.
+//! in order. It promises that a text reads as at most one query, and as one exactly if it has no fault.
 #![tactic(auto)]
 
 mod build;

@@ -29,7 +29,7 @@ use std::alloc::Global;
 /// # Errors
 ///
 /// `Bad` with the first fault of the text, in the order `Byte`, `Tokens`, `Deep`, `Text`, `Number`, `Name`, `Range`,
-/// `Names`, `Terms`; `Long` never comes. `Memory` for want of memory, and never else.
+/// `Names`, `Terms`; `Long` never comes. `Memory` if memory runs out, and never else.
 pub fn read_query(alloc: Global, text: &[u8]) -> Result<Query, QueryFault>
     ensures query { IfOk result (λ query. Reads text.now (query_term query)) }
     ensures fault { IfErr result (λ fault. IsQueryFault text.now fault) }

@@ -9,7 +9,7 @@ use std::alloc::{AllocError, Global};
 impl Query {
     /// An equal query, in memory of its own.
     ///
-    /// `Err` comes only for want of memory.
+    /// `Err` comes only if memory runs out.
     pub fn copy(&self, alloc: Global) -> Result<Query, AllocError>
         ensures { IfOk result (λ query. query_term query ≡ query_term self.now) }
     {

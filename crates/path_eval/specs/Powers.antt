@@ -82,7 +82,7 @@ GivesPairs g limit R members (Err Memory) = Unit {0}
 GivesPairs g limit R members (Err Wide) = SomeIsWide g limit members
 
 -- the normal rows of the member, which fits, only where each of the others fits too; `Wide` only where it or some other is wide;
--- want of memory is free
+-- memory may run out
 abbrev pub GivesMember : Graph → ℕ → Member → List Member → Result (List Row) RelFault → Type 0
 GivesMember g limit m others (Ok rows) = NormalRows (member_relation g m) rows × (length rows ≤ limit) × AllFit g limit others
 GivesMember g limit m others (Err Memory) = Unit {0}

@@ -18,7 +18,7 @@ use Rattle.condition_eval.specs.Tested.{HoldsAt}
 use Rattle.path_eval.specs.declared.basis.Ground.{Ground}
 use Rattle.path_eval.specs.Evaluated.{AllFit, SomeIsWide}
 
--- the normal rows of the relation, where each of the members fits; `Wide` where one of them doesn't; want of memory is free
+-- the normal rows of the relation, where each of the members fits; `Wide` where one of them doesn't; memory may run out
 abbrev pub WorksOutAs : Result (List Row) RelFault → Relation → Graph → ℕ → List Member → Type 0
 WorksOutAs (Ok rows) R g limit members = NormalRows R rows × AllFit g limit members
 WorksOutAs (Err Memory) R g limit members = Unit {0}

@@ -42,8 +42,8 @@ struct Times {
 ///
 /// # Errors
 ///
-/// `Wide` exactly where some worked member of the path between the two scopes has more than `max_rows` normal rows, by the
-/// graph, the path, the scopes and the limit alone; `Memory` for want of memory.
+/// `Wide` exactly if some worked member of the path between the two scopes has more than `max_rows` normal rows, by the
+/// graph, the path, the scopes and the limit alone; `Memory` if memory runs out.
 pub fn relation_of(
     alloc: Global,
     graph: &Graph,

@@ -108,7 +108,7 @@ pub(crate) fn cut(
 }
 
 impl Powers<'_, '_> {
-    /// Each point of the graph whose object is within the scope, to itself. `Wide` exactly where its normal rows, one for each
+    /// Each point of the graph whose object is within the scope, to itself. `Wide` exactly if its normal rows, one for each
     /// such object, are more than `max_rows`.
     pub(crate) fn identity_within(&self, scope: &Scope) -> Result<Relation, RelFault>
         ensures { Gives result (SamePoint self.now.ground.now.graph.now scope.now) self.now.ground.now.max_rows }
@@ -118,7 +118,7 @@ impl Powers<'_, '_> {
         Relation::identity(ground.alloc, &objects, ground.horizon, ground.max_rows)
     }
 
-    /// The path n times. n is from 1 to 10^12. `Wide` exactly where some power in the chain of n is.
+    /// The path n times. n is from 1 to 10^12. `Wide` exactly if some power in the chain of n is.
     pub(crate) fn exactly(&self, n: u64) -> Result<Relation, RelFault>
         requires some { 1 ≤ n }
         requires small { n ≤ 1000000000000 }
@@ -129,7 +129,7 @@ impl Powers<'_, '_> {
         power(self, self.relation, n)
     }
 
-    /// The path 0 to n times. n is from 1 to 10^12. `Wide` exactly where for some k in the chain of n the path 0 to k times is.
+    /// The path 0 to n times. n is from 1 to 10^12. `Wide` exactly if for some k in the chain of n the path 0 to k times is.
     pub(crate) fn at_most(&self, n: u64) -> Result<Relation, RelFault>
         requires some { 1 ≤ n }
         requires small { n ≤ 1000000000000 }
@@ -140,7 +140,7 @@ impl Powers<'_, '_> {
         up_to(self, self.relation, n)
     }
 
-    /// The path any number of times. `Wide` exactly where for some j from 0 to 60 the path 0 to 2^j times is.
+    /// The path any number of times. `Wide` exactly if for some j from 0 to 60 the path 0 to 2^j times is.
     pub(crate) fn any_number(&self) -> Result<Relation, RelFault>
         requires ready { IsReady self.now }
         ensures { let on = self.now.ground.now in let r = path_term self.now.body.now in let u = self.now.passed.now in

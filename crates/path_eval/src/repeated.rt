@@ -30,8 +30,8 @@ impl Powers<'_, '_> {
     ///
     /// # Errors
     ///
-    /// `Wide` exactly where the repetition between the two scopes has more than `max_rows` normal rows, or within `passed` some
-    /// power in the chain of `least` has, or some union of powers that goes on from there; `Memory` for want of memory.
+    /// `Wide` exactly if the repetition between the two scopes has more than `max_rows` normal rows, or within `passed` some
+    /// power in the chain of `least` has, or some union of powers that goes on from there; `Memory` if memory runs out.
     pub(crate) fn between(
         &self,
         a: &Scope,

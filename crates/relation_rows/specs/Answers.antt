@@ -6,7 +6,7 @@ use Rattle.relation_rows.specs.declared.rows.RelFault.{RelFault}
 use Rattle.relation_rows.specs.declared.rows.RelFault.TheVariants.{Memory, Wide}
 use Rattle.relation_rows.specs.Rows.{NormalRows, IsWide}
 
--- the normal rows of the relation, at most as many as the limit; `Wide` where there are more; want of memory is free
+-- the normal rows of the relation, at most as many as the limit; `Wide` where there are more; memory may run out
 abbrev pub Gives : Result (List Row) RelFault → Relation → ℕ → Type 0
 Gives (Ok rows) R limit = NormalRows R rows × (length rows ≤ limit)
 Gives (Err Memory) R limit = Unit {0}

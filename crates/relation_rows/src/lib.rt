@@ -3,7 +3,7 @@
 //! Stands on `band_normal`, which has the normal list for one source and one target, and on
 //! `zone_core` and `zone_compose`, by which pairs of moments are worked. It promises that each call
 //! gives the normal rows of exactly the relation that it names, and that a call with a limit answers
-//! [`RelFault::Wide`] exactly where these rows are more than the limit.
+//! [`RelFault::Wide`] exactly if these rows are more than the limit.
 #![tactic(auto)]
 
 pub mod answered;

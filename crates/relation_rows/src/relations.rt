@@ -75,7 +75,7 @@ impl Relation {
         self.rows.len() as u64
     }
 
-    /// The row at a place, from 0. None exactly where the place is at least the number of rows.
+    /// The row at a place, from 0. None exactly if the place is at least the number of rows.
     pub fn row(&self, i: u64) -> Option<Row>
         ensures { result ≡ slice_get self.now i }
     {
@@ -101,7 +101,7 @@ impl Relation {
         self.rows == other.rows
     }
 
-    /// Each point of the objects over the horizon leads to itself. `Wide` exactly where its normal rows,
+    /// Each point of the objects over the horizon leads to itself. `Wide` exactly if its normal rows,
     /// one for each object, are more than `max_rows`.
     ///
     /// The objects rise, and the moments of the horizon lie within 4 * 10^12 of zero.
@@ -121,7 +121,7 @@ impl Relation {
     }
 
     /// The relation of items: each leads from its first object to its second, between the moments of
-    /// its zone. `Wide` exactly where its normal rows are more than `max_rows`.
+    /// its zone. `Wide` exactly if its normal rows are more than `max_rows`.
     pub fn from_zones(
         alloc: Global,
         items: Vec<(ObjNo, ObjNo, Zone)>,
@@ -132,7 +132,7 @@ impl Relation {
         gathered_of(&mut Known::new(alloc), items, max_rows as usize)
     }
 
-    /// The pairs of either relation. `Wide` exactly where its normal rows are more than `max_rows`.
+    /// The pairs of either relation. `Wide` exactly if its normal rows are more than `max_rows`.
     pub fn union(&self, other: &Relation, max_rows: u32) -> Result<Relation, RelFault>
         ensures { Gives result (EitherHolds self.now other.now) max_rows }
     {
@@ -141,7 +141,7 @@ impl Relation {
     }
 
     /// The pairs with a middle point, to which this relation leads and from which the other does. `Wide`
-    /// exactly where its normal rows are more than `max_rows`.
+    /// exactly if its normal rows are more than `max_rows`.
     ///
     /// From object 0 to object 1 at the moments 5 to 12, and from there back to 0 at the moments 0 to 9,
     /// leads from 0 to 0 at 5 to 9:

@@ -22,7 +22,7 @@ pub struct Row {
 /// Why a relation isn't given.
 #[derive(Clone, Copy, Debug, PartialEq, Eq, Drop)]
 pub enum RelFault {
-    /// Memory is wanting.
+    /// Memory ran out.
     Memory,
     /// Its normal list has more rows than the limit.
     Wide,

@@ -1,6 +1,6 @@
 //! The ways that begin with a row, or with one of some rows, and go on by a row that departs where that one arrives.
 //!
-//! The rows from one object stand together. A few of them are gone through; where there are more, those that depart in time are
+//! The rows from one object stand together. A few of them are gone through; if there are more, those that depart in time are
 //! searched in a timetable, which has only the rows from such busy objects. Where the ways become many, the zones of their normal
 //! rows stand for them from then on, so that ways that lie within others take no memory for long.
 

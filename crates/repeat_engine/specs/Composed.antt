@@ -10,7 +10,7 @@ Includes Alike algebra x y = Alike (algebra.unite x y) x
 abbrev pub IncludesPowers : {M : Type 0} → (M → M → Type 0) → Algebra M → M → M → Type 0
 IncludesPowers Alike algebra v x = (n : ℕ) → Includes Alike algebra v (nth_power algebra x n)
 
--- Ok only where the condition holds, and a fault that isn't want of memory only where it fails
+-- Ok only where the condition holds, and a fault other than that of memory only if it fails
 abbrev pub IsOkWhere : {T E : Type 0} → (E → Type 0) → Result T E → Type 0 → Type 0
 IsOkWhere WantsMemory result Condition =
     MatchResult result (λ value. Condition) (λ fault. ¬ WantsMemory fault → ¬ Condition)

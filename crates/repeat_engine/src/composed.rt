@@ -19,12 +19,12 @@ ghost use Rattle.repeat_engine.specs.Composed.{IsOkWhere, IsLawful};
 /// distributes over union; union is associative, commutative and idempotent; and the union of the powers 0 to 2^60
 /// includes every further power.
 ///
-/// The calls use the allocator that the value itself keeps. Each may answer want of memory.
+/// The calls use the allocator that the value itself keeps. Each may run out of memory.
 pub trait Composed {
     /// What is composed and united.
     type Value: Drop;
 
-    /// Why a value wasn't made: it doesn't fit, or memory is wanting.
+    /// Why a value wasn't made: it doesn't fit, or memory ran out.
     type Fault: Drop;
 
     ghost Meaning: { Type 0 };
@@ -41,19 +41,19 @@ pub trait Composed {
     /// A value of this meaning fits.
     ghost fits: { Self → Meaning → Type 0 };
 
-    /// The fault is want of memory.
+    /// The fault is that memory ran out.
     ghost wants_memory: { Self.Fault → Type 0 };
 
     /// How meanings are composed and united, and which is neutral.
     ghost algebra: { Self → Algebra Meaning };
 
-    /// The value that is neutral for composition. It answers a fault that isn't want of memory exactly where that
+    /// The value that is neutral for composition. It answers a fault other than running out of memory exactly if that
     /// doesn't fit.
     fn one(&self) -> Result<Self::Value, Self::Fault>
         ensures value { IfOk result (λ v. alike self.now (means v) (algebra self.now).one) }
         ensures exact { IsOkWhere wants_memory result (fits self.now (algebra self.now).one) };
 
-    /// x, and then y. It answers a fault that isn't want of memory exactly where the result doesn't fit.
+    /// x, and then y. It answers a fault other than running out of memory exactly if the result doesn't fit.
     fn compose(&self, x: &Self::Value, y: &Self::Value) -> Result<Self::Value, Self::Fault>
         requires own_x { own self.now (means x.now) }
         requires own_y { own self.now (means y.now) }
@@ -64,7 +64,7 @@ pub trait Composed {
         ensures exact { let both = (algebra self.now).compose (means x.now) (means y.now) in
             IsOkWhere wants_memory result (fits self.now both) };
 
-    /// x together with y. It answers a fault that isn't want of memory exactly where the result doesn't fit.
+    /// x together with y. It answers a fault other than running out of memory exactly if the result doesn't fit.
     fn union(&self, x: &Self::Value, y: &Self::Value) -> Result<Self::Value, Self::Fault>
         requires own_x { own self.now (means x.now) }
         requires own_y { own self.now (means y.now) }

@@ -2,7 +2,7 @@
 //!
 //! Stands on `itpg_base`, for the chain of exponents alone.
 //! Promises: over every [`Composed`], [`power`] gives the n-th power, [`up_to`] the union of the powers 0 to n, and
-//! [`closure`] the union of all powers. Each answers Ok, but for want of memory, exactly where the values fit that its
+//! [`closure`] the union of all powers. Each answers Ok, unless memory runs out, exactly if the values fit that its
 //! comment names.
 #![tactic(auto)]
 

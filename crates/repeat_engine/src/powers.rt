@@ -24,7 +24,7 @@ const ENOUGH: u64 = 1 << 60;
 /// It is worked out along the chain of n, which is that of its half (rounded down), then twice the half, and n:
 /// 1, 2, 3, 6, 6, 12, 13 for 13, and ends where two steps more lead back to the power. So x is squared at most 39 times.
 ///
-/// It answers a fault that isn't want of memory exactly where some power in the chain of n doesn't fit, or, for n = 0,
+/// It answers a fault other than running out of memory exactly if some power in the chain of n doesn't fit, or, for n = 0,
 /// where `one` doesn't fit.
 pub fn power<C: Composed>(c: &C, x: &C::Value, n: u64) -> Result<C::Value, C::Fault>
     requires small { n ≤ 10 ^ 12 }
@@ -53,7 +53,7 @@ pub fn power<C: Composed>(c: &C, x: &C::Value, n: u64) -> Result<C::Value, C::Fa
 /// up to 2    a, b, c and d each to itself,  a ---> b,  b ---> c,  c ---> d,  a ----------> c,  b ----------> d
 /// ```
 ///
-/// It answers a fault that isn't want of memory exactly where `one` doesn't fit, or the union of the powers 0 to k doesn't
+/// It answers a fault other than running out of memory exactly if `one` doesn't fit, or the union of the powers 0 to k doesn't
 /// for some k in the chain of n.
 pub fn up_to<C: Composed>(c: &C, x: &C::Value, n: u64) -> Result<C::Value, C::Fault>
     requires small { n ≤ 10 ^ 12 }
@@ -82,7 +82,7 @@ pub fn up_to<C: Composed>(c: &C, x: &C::Value, n: u64) -> Result<C::Value, C::Fa
 /// closure    what is up to 2,  and a -----------------> d
 /// ```
 ///
-/// It answers a fault that isn't want of memory exactly where `one` doesn't fit, or the union of the powers 0 to 2^j
+/// It answers a fault other than running out of memory exactly if `one` doesn't fit, or the union of the powers 0 to 2^j
 /// doesn't for some j from 0 to 60.
 pub fn closure<C: Composed>(c: &C, x: &C::Value) -> Result<C::Value, C::Fault>
     requires own_x { C.own c.now (C.means x.now) }

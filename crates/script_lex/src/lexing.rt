@@ -13,7 +13,7 @@ use crate::mark::read_mark;
 use crate::token::{Token, What};
 use itpg_base::TextCode;
 
-/// The first token from the place `at` on; `None` exactly where only blanks, spaces and tabs, follow.
+/// The first token from the place `at` on; `None` exactly if only blanks, spaces and tabs, follow.
 ///
 /// Only the bytes from `at` on count, so the place behind a token, its `to`, is where the next one is looked for.
 ///

@@ -11,7 +11,7 @@ use itpg_base::MAX_MOMENT;
 /// The greatest number that a number token may write, which is the greatest moment. The least is as far below zero.
 pub const MAX_NUMBER: u64 = MAX_MOMENT as u64;
 
-/// The number that the bytes of a number token write; `None` exactly where it is further from zero than `MAX_NUMBER`.
+/// The number that the bytes of a number token write; `None` exactly if it is further from zero than `MAX_NUMBER`.
 ///
 /// Leading zeros count for nothing, however many: `007` is 7, and `-0` is 0.
 pub fn value_of(number: &[u8]) -> Option<i64>
@@ -30,7 +30,7 @@ pub fn value_of(number: &[u8]) -> Option<i64>
     }
 }
 
-// The number that the digits write; `None` where it is above `MAX_NUMBER`.
+// The number that the digits write; `None` if it is above `MAX_NUMBER`.
 fn read_digits(digits: &[u8]) -> Option<u64>
     requires { IsTrue (list_all is_ascii_digit digits.now) }
     ensures { SomeIff result (digits_value 10 digits.now ≤ MAX_NUMBER) (digits_value 10 digits.now) }

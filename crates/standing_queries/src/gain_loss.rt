@@ -25,7 +25,7 @@ pub struct GainLoss {
 ///
 /// # Errors
 ///
-/// For want of memory.
+/// If memory runs out.
 pub fn changes(alloc: Global, base: &Answer, now: &Answer) -> Result<GainLoss, AllocError>
     requires { AreOfOneKind (answered base.now) (answered now.now) }
     ensures gained { IfOk result (λ c. IsRest (answered now.now) (answered base.now) (answered c.gained)) }

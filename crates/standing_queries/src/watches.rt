@@ -23,7 +23,7 @@ pub enum WatchFault {
     Taken,
     /// 32 watches stand.
     Full,
-    /// Memory is wanting.
+    /// Memory ran out.
     Memory,
 }
 
@@ -95,7 +95,7 @@ impl Watches {
     ///
     /// # Errors
     ///
-    /// `Taken` where a watch of this name stands, else `Full` where 32 watches stand, and `Memory` for want of memory.
+    /// `Taken` where a watch of this name stands, else `Full` where 32 watches stand, and `Memory` if memory runs out.
     /// Then the watches stay as they are.
     pub fn add(&mut self, name: Name, query: Query) -> Result<(), WatchFault>
         requires in_range { IsPathInRange (path_term query.path) }
@@ -142,7 +142,7 @@ impl Watches {
         self.items.len()
     }
 
-    /// The place of the watch of this name; `None` exactly where none stands.
+    /// The place of the watch of this name; `None` exactly if none stands.
     pub fn find(&self, name: &Name) -> Option<usize>
         ensures some { IfSome result (λ i. IsSomeAnd (slice_get self.now i) (λ w. w.name ≡ name.now)) }
         ensures none { IsNone result ↔ (¬ IsWatched self.now name.now) }

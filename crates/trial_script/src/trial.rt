@@ -76,11 +76,11 @@ impl Trial {
     }
 }
 
-/// Gives the next line of the script, without its end; `None` exactly where none is left.
+/// Gives the next line of the script, without its end; `None` exactly if none is left.
 ///
 /// # Errors
 ///
-/// Want of memory: then nothing was taken.
+/// If memory runs out. Then nothing was taken.
 pub fn trial_line(alloc: Global, state: &mut Trial) -> Result<Option<Vec<u8>>, AllocError>
     ensures taken { IfOk result (λ taken. MatchOption taken ((state.old ≡ []) × (state.new ≡ [])) (λ line. state.old ≡ line.items ∷ state.new)) }
     ensures same { OnErr result (state.new ≡ state.old) }

@@ -24,7 +24,7 @@ struct Middle {
     high: i64,
 }
 
-/// The zone of the pairs that have a middle moment, or `None` exactly where no pair has one.
+/// The zone of the pairs that have a middle moment, or `None` exactly if no pair has one.
 ///
 /// A middle moment of a departure `t` and an arrival `u` is a moment `s` for which `first` has the
 /// pair of `t` and `s`, and `second` the pair of `s` and `u`. Any two zones can be composed.
@@ -133,7 +133,7 @@ pub fn arrivals(z: &Zone) -> (i64, i64)
 }
 
 /// The zone of the pairs that arrive at the moment at which they depart, from `from` to `to`, or
-/// `None` exactly where `from` is above `to`.
+/// `None` exactly if `from` is above `to`.
 ///
 /// Both moments have to lie within 4·10^12 of zero. From 5 to 8:
 ///
@@ -161,7 +161,7 @@ pub fn diagonal(from: i64, to: i64) -> Option<Zone>
 }
 
 /// The zone of the pairs that arrive one moment after they depart, or one before, with both moments
-/// from `from` to `to`, or `None` exactly where there is no such pair.
+/// from `from` to `to`, or `None` exactly if there is no such pair.
 ///
 /// The step is 1 or -1: the arrival is the departure plus the step. Both moments have to lie within
 /// 4·10^12 of zero. By the step 1, from 5 to 8:

@@ -84,7 +84,7 @@ pub record SomePair (R : ℤ → ℤ → Type 0) : Type 0 where
   pub arrival : ℤ
   pub related : R departure arrival
 
--- the zone has exactly the pairs of the relation R, and is missing exactly where R has none
+-- the zone has exactly the pairs of the relation R, and is missing exactly if R has none
 pub record IsZoneOf (R : ℤ → ℤ → Type 0) (o : Option Bounds) : Type 0 where
   pub pairs : (t u : ℤ) → Holds o t u ↔ R t u
   pub some : IsSome o ↔ SomePair R

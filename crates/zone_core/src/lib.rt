@@ -72,7 +72,7 @@ impl Model for Zone {
     ghost inverse = { λ k. record { bounds = k } };
 }
 
-/// The zone of the pairs that meet the bounds, or `None` exactly where no pair does.
+/// The zone of the pairs that meet the bounds, or `None` exactly if no pair does.
 ///
 /// The bounds `a`, `b`, `c` and `d` have to lie within 4·10^12 of zero, and `e` and `f` within
 /// 8·10^12. No sum that is made on the way lies further from zero than 12·10^12.
@@ -127,7 +127,7 @@ impl Zone {
         steps::is_within(self.bounds, other.bounds)
     }
 
-    /// The zone of the pairs that both zones have, or `None` exactly where they share no pair.
+    /// The zone of the pairs that both zones have, or `None` exactly if they share no pair.
     pub fn meet(&self, other: &Zone) -> Option<Zone>
         ensures { IsZoneOf (MeetsBoth self.now other.now) result }
     {
