@@ -1,4 +1,4 @@
-// What the words ask for, and how reading them fails.
+//! What the words ask for, and how reading them fails.
 use itpg_base::Limits;
 use thiserror::Error;
 

@@ -1,4 +1,4 @@
-// Sources in memory.
+//! Sources in memory.
 ghost use Rattle.std.specs.Prelude.{◌≡◌, ◌+◌, ◌-◌, ◌^◌, ◌<◌, ◌≤◌, ◌↔◌, ℕ, List, [], min, length, take, drop, IfOk, OnOk, IsErr, Contains, is_err, if◌then◌else◌};
 ghost use Rattle.std.specs.declared.option.Option.TheVariants.{Some};
 ghost use Rattle.std.specs.Io.{ReadsAtMost};

@@ -1,4 +1,4 @@
-// Where bytes come from, and where they go.
+//! Where bytes come from, and where they go.
 ghost use Rattle.std.specs.Prelude.{◌≡◌, ℕ, List, ◌<◌, length, OnOk, OnErr};
 ghost use Rattle.std.specs.declared.option.Option.{Option};
 ghost use Rattle.std.specs.Io.{ReadsAtMost};

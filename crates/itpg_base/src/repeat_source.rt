@@ -1,4 +1,4 @@
-// A source that repeats a piece.
+//! A source that repeats a piece.
 ghost use Rattle.std.specs.Prelude.{◌≡◌, ◌*◌, ◌^◌, ◌<◌, length};
 ghost use Rattle.std.specs.declared.option.Option.TheVariants.{Some};
 ghost use Rattle.itpg_base.specs.Devices.{repeated};

@@ -1,4 +1,4 @@
-// A source and a sink over std's streams: the trusted edge.
+//! A source and a sink over std's streams: the trusted edge.
 ghost use Rattle.std.specs.Prelude.{◌≡◌};
 
 use crate::outside::{Failed, Sink, Source};

@@ -1,4 +1,4 @@
-// A sink that counts.
+//! A sink that counts.
 ghost use Rattle.std.specs.Prelude.{ℕ, ◌≡◌, ◌+◌, ◌%◌, ◌^◌, length, sum, OnOk, OnErr, IsOk};
 ghost use Rattle.std.specs.declared.option.Option.TheVariants.{None};
 ghost use Rattle.std.specs.Io.KnownBytes.{Appends};

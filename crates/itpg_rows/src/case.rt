@@ -1,4 +1,4 @@
-// One script with what it must write.
+//! One script with what it must write.
 use crate::runs::{sink_for, step_lines};
 use anyhow::{Context, Result, bail};
 use itpg_base::{Limits, MemSource};

@@ -1,4 +1,4 @@
-// Scripts as long as they may be, and longer by a line.
+//! Scripts as long as they may be, and longer by a line.
 ghost use Rattle.std.specs.Prelude.{◌≡◌, length, IfOk};
 
 use crate::case::{Difference, compare};

@@ -1,4 +1,4 @@
-// Runs over devices in memory.
+//! Runs over devices in memory.
 use itpg_base::{Limits, MemSink};
 use itpg_run::Status;
 use itpg_session::{Seen, Session, StepFault};
