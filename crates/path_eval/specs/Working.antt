@@ -26,7 +26,7 @@ WorksOutAs (Err Wide) R g limit members = SomeIsWide g limit members
 
 -- the same for a path between two scopes
 abbrev pub WorksOut : Ground → Result (List Row) RelFault → PathTerm → Scope → Scope → List Member → Type 0
-WorksOut ground result p a b members = WorksOutAs result (Cut ground.graph.now p a b) ground.graph.now ground.max_rows members
+WorksOut basis result p a b members = WorksOutAs result (Cut basis.graph.now p a b) basis.graph.now basis.max_rows members
 
 -- the marks of a test on the objects, in the same way
 abbrev pub MarksOutAs : Result (List Marked) RelFault → TestTerm → List ObjNo → Graph → ℕ → List Member → Type 0
@@ -35,7 +35,7 @@ MarksOutAs (Err Memory) c objects g limit members = Unit {0}
 MarksOutAs (Err Wide) c objects g limit members = SomeIsWide g limit members
 
 abbrev pub MarksOut : Ground → Result (List Marked) RelFault → TestTerm → List ObjNo → List Member → Type 0
-MarksOut ground result c objects members = MarksOutAs result c objects ground.graph.now ground.max_rows members
+MarksOut basis result c objects members = MarksOutAs result c objects basis.graph.now basis.max_rows members
 
 -- the path between the scopes
 abbrev pub member : PathTerm → Scope → Scope → Member
