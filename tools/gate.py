@@ -97,11 +97,11 @@ def page(seconds, whole, took, uses, last):
     lines = [
         "# What the gate takes",
         "",
-        "Written by `tools/gate.py`, which runs the gate from nothing and looks at its processes; not edited by hand.",
+        "Written by `tools/gate.py`; not edited by hand.",
         "",
         f"- {datetime.date.today()}, commit {commit}, `{version}`, {os.cpu_count()} processors: `{last}`",
         f"- {took / 60:.0f} minutes by the clock; {whole:.0f} seconds of the processor in all",
-        f"- {', '.join(f'{kind} {sums[kind]:.0f}' for kind in KINDS)}; the rest is linking, running and `rt` itself",
+        f"- {', '.join(f'{kind} {sums[kind]:.0f}' for kind in KINDS)}; the rest is linking and running",
     ]
     dear, chain = longest(uses, lambda name: seconds[name, "proof"])
     count, deep = longest(uses, lambda name: 1)
