@@ -12,7 +12,7 @@ ghost use Rattle.itpg_session.specs.Steps.{Stepped, StepsWithin, Passed, LineWan
 use crate::asking::{Asked, reply_to};
 use crate::laws::law_of_asked;
 use crate::reply::{Reply, Seen};
-use crate::texts::{bad, refused, wide, write_rows};
+use crate::texts::{write_bad, write_refused, write_rows, write_wide};
 use crate::ticking::{move_bases, write_all};
 use itpg_base::{Failed, Limits, Sink};
 use itpg_graph::Graph;
@@ -194,9 +194,9 @@ impl Session {
     {
         match reply {
             Reply::Silent => Ok(()),
-            Reply::Bad(code) => bad(number, *code).write(out),
-            Reply::Refused(rule) => refused(number, *rule).write(out),
-            Reply::Wide => wide(number).write(out),
+            Reply::Bad(code) => write_bad(number, *code, out),
+            Reply::Refused(rule) => write_refused(number, *rule, out),
+            Reply::Wide => write_wide(number, out),
             Reply::Rows(answer) => write_rows(&self.graph, number, answer, out),
             Reply::PerWatch(found) => write_all(&self.graph, found, out),
         }

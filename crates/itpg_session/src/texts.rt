@@ -10,9 +10,9 @@ use itpg_graph::Graph;
 use relation_rows::Answer;
 use row_printer::{Page, print_rows};
 
-/// The page of `line N refused RULE`.
+// The page of `line N refused RULE`.
 #[tactic(auto, unfolding(crate::specs::Texts::refused_text))]
-pub(crate) fn refused(number: u64, rule: RuleCode) -> Page
+fn refused(number: u64, rule: RuleCode) -> Page
     ensures { result ≡ refused_text number rule }
 {
     let mut page = Page::new();
@@ -24,9 +24,9 @@ pub(crate) fn refused(number: u64, rule: RuleCode) -> Page
     page
 }
 
-/// The page of `line N bad CODE`.
+// The page of `line N bad CODE`.
 #[tactic(auto, unfolding(crate::specs::Texts::bad_text))]
-pub(crate) fn bad(number: u64, code: TextCode) -> Page
+fn bad(number: u64, code: TextCode) -> Page
     ensures { result ≡ bad_text number code }
 {
     let mut page = Page::new();
@@ -38,9 +38,9 @@ pub(crate) fn bad(number: u64, code: TextCode) -> Page
     page
 }
 
-/// The page of `line N wide`.
+// The page of `line N wide`.
 #[tactic(auto, unfolding(crate::specs::Texts::wide_text))]
-pub(crate) fn wide(number: u64) -> Page
+fn wide(number: u64) -> Page
     ensures { result ≡ wide_text number }
 {
     let mut page = Page::new();
@@ -90,6 +90,33 @@ pub(crate) fn tick_head(name: &Name, gained: u64, lost: u64) -> Page
     page.add_number(lost);
     page.add(b"\n");
     page
+}
+
+/// Writes `line N refused RULE`. The page is a local here, so that a quiet line doesn't pay for it.
+pub(crate) fn write_refused<K: Sink>(number: u64, rule: RuleCode, out: &mut K) -> Result<(), Failed>
+    ensures written { OnOk result (Gets K.Sink out.old out.new (refused_text number rule)) }
+    ensures some { OnErr result (GetsSome K.Sink out.old out.new (refused_text number rule)) }
+    ensures cause { IsHonest K.Sink out.old out.new result }
+{
+    refused(number, rule).write(out)
+}
+
+/// Writes `line N bad CODE`. The page is a local here, so that a quiet line doesn't pay for it.
+pub(crate) fn write_bad<K: Sink>(number: u64, code: TextCode, out: &mut K) -> Result<(), Failed>
+    ensures written { OnOk result (Gets K.Sink out.old out.new (bad_text number code)) }
+    ensures some { OnErr result (GetsSome K.Sink out.old out.new (bad_text number code)) }
+    ensures cause { IsHonest K.Sink out.old out.new result }
+{
+    bad(number, code).write(out)
+}
+
+/// Writes `line N wide`. The page is a local here, so that a quiet line doesn't pay for it.
+pub(crate) fn write_wide<K: Sink>(number: u64, out: &mut K) -> Result<(), Failed>
+    ensures written { OnOk result (Gets K.Sink out.old out.new (wide_text number)) }
+    ensures some { OnErr result (GetsSome K.Sink out.old out.new (wide_text number)) }
+    ensures cause { IsHonest K.Sink out.old out.new result }
+{
+    wide(number).write(out)
 }
 
 /// Writes the rows of an answer behind `line N rows K`.
