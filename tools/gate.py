@@ -4,7 +4,8 @@
     tools/gate.py [--log FILE]      runs `rt ci` at the top, keeps what it prints in FILE, and ends with its status
 
 The prover prints no times, so its processes are looked at five times a second: each belongs to a crate by its words, and to the
-proof, the tests or the wrong bodies by its folder. Measure alone, on a machine on which nothing else runs.
+proof, the tests or the wrong bodies by its folder. Measure alone, on a machine on which nothing else runs and
+nothing is kept.
 """
 import argparse
 import collections
@@ -89,7 +90,24 @@ def longest(uses, weight):
     return max(chain(name) for name in uses)
 
 
-def page(seconds, whole, took, uses, last):
+def figures(text):
+    """The seconds that a page has, by crate and kind."""
+    found = collections.Counter()
+    for line in text.splitlines():
+        name, *cells = line.split() or [""]
+        if len(cells) == 5 and all(re.fullmatch(r"\d+|-", cell) for cell in cells):
+            del cells[3]
+            found.update({(name, kind): int(cell) for kind, cell in zip(KINDS, cells) if cell != "-"})
+    return found
+
+
+def filled(seconds, before, uses):
+    """The seconds of a run with those of the page before where the toolchain kept what an earlier run had passed, and where that is."""
+    kept = [(name, kind) for name in uses for kind in KINDS if not round(seconds[name, kind]) and before[name, kind]]
+    return seconds + collections.Counter({it: before[it] for it in kept}), kept
+
+
+def page(seconds, kept, whole, took, uses, last):
     """The text of the page."""
     sums = {kind: sum(seconds[name, kind] for name in uses) for kind in KINDS}
     version = subprocess.run(["rt", "version"], capture_output=True, text=True).stdout.strip()
@@ -100,9 +118,12 @@ def page(seconds, whole, took, uses, last):
         "Written by `tools/gate.py`; not edited by hand.",
         "",
         f"- {datetime.date.today()}, commit {commit}, `{version}`, {os.cpu_count()} processors: `{last}`",
-        f"- {took / 60:.0f} minutes by the clock; {whole:.0f} seconds of the processor in all",
-        f"- {', '.join(f'{kind} {sums[kind]:.0f}' for kind in KINDS)}; the rest is linking and running",
+        f"- this run: {took / 60:.0f} minutes by the clock; {whole:.0f} seconds of the processor",
+        f"- the table: {sum(sums.values()):.0f} seconds: {', '.join(f'{kind} {sums[kind]:.0f}' for kind in KINDS)}",
     ]
+    if kept:
+        of = [f"{kind} of {', '.join(name for name, it in kept if it == kind)}" for kind in KINDS if kind in {it for _, it in kept}]
+        lines.append(f"- kept by the toolchain, so as on the page before: {'; '.join(of)}")
     dear, chain = longest(uses, lambda name: seconds[name, "proof"])
     count, deep = longest(uses, lambda name: 1)
     lines += [
@@ -135,7 +156,9 @@ def main():
     took, used = time.monotonic() - start, resource.getrusage(resource.RUSAGE_CHILDREN)
     said = pathlib.Path(given.log).read_text(errors="replace")
     last = re.findall(r"^\d+ passed, \d+ failed$", said, re.M)
-    PAGE.write_text(page(watch.seconds(), used.ru_utime + used.ru_stime, took, crate_lines(), last[-1] if last else "it broke off"))
+    uses = crate_lines()
+    seconds, kept = filled(watch.seconds(), figures(PAGE.read_text()), uses)
+    PAGE.write_text(page(seconds, kept, used.ru_utime + used.ru_stime, took, uses, last[-1] if last else "it broke off"))
     print(said.splitlines()[-1] if said else "nothing was printed")
     return gate.returncode
 
