@@ -1,9 +1,10 @@
 //! A query text that was read, and its copy, with their printed form by hand from the table of translations.
 use match_parser::read_query;
 
-const FORM: &str = "Query { first: true, last: true, path: Seq(Seq(Test(And(Node, Exists)), \
-    Seq(Seq(Seq(F, Test(Exists)), Test(Label(Name([109, 101, 101, 116, 115])))), Seq(F, Test(Exists)))), \
-    Test(And(Node, Exists))), graph_name: None }";
+const FORM: &str =
+    "Query { first: true, last: true, path: Seq(Seq(Test(And(Leaf(Node), Leaf(Exists))), \
+    Seq(Seq(Seq(F, Test(Leaf(Exists))), Test(Leaf(Label(Name([109, 101, 101, 116, 115]))))), Seq(F, Test(Leaf(Exists))))), \
+    Test(And(Leaf(Node), Leaf(Exists)))), graph_name: None }";
 
 #[test]
 fn a_query_is_copied(rt: HostRuntime) {
