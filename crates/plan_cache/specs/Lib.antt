@@ -1,0 +1,5 @@
+pub mod Operations
+pub mod Nodes
+pub mod Growing
+pub mod Keys
+pub mod Stored
