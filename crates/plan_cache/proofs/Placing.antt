@@ -9,24 +9,24 @@ use Rattle.path_ast.specs.Terms.{PathTerm}
 use Rattle.plan_cache.specs.declared.key.PlanKey.{PlanKey}
 use Rattle.plan_cache.specs.contracts.key.PlanKeyPartialEq.TheImpl as of_key
 use Rattle.plan_cache.specs.Operations.{op_term, op_children}
-use Rattle.plan_cache.specs.Nodes.{PlanNode, MayStand, IsOperation, AreShared, read_back, parts_of}
+use Rattle.plan_cache.specs.Nodes.{PlanNode, MayStand, IsOperation, IsWalkScope, AreShared, read_back, parts_of}
 use Rattle.plan_cache.specs.Growing.{Grows}
-use Rattle.plan_cache.specs.Stored.{node_of, nodes_from, AreStored}
+use Rattle.plan_cache.specs.Stored.{node_of, nodes_from, MayFollow, AreStored}
 use Rattle.plan_cache.specs.declared.nodes.TheConstants.{MAX_NODES}
 use Rattle.plan_cache.proofs.Growing.{still_reads, reading_stays, grows_not, grows_within}
-use Rattle.plan_cache.proofs.Stored.{one_more, as_many, stands_too, stored_at, stands_at, stand_first, first_so_many}
+use Rattle.plan_cache.proofs.Stored.{one_more, as_many, follows_too, stored_at, follows_at, follow_first, first_so_many}
 use Rattle.plan_cache.proofs.Unique.{AreApart, all_one, the_key}
 use Rattle.plan_cache.proofs.AlikeKeys.{key_same, key_alike}
 
 -- the table once the key is there
-pub table_after : (keys : List PlanKey) (k : PlanKey) → AreStored keys → length keys < MAX_NODES → MayStand (nodes_from [] keys) (node_of (nodes_from [] keys) k) → AreStored (insert_key (of_key.ghosts).eq keys k)
-table_after keys k table room stand = by (list_any ((of_key.ghosts).eq k) keys) refl
+pub table_after : (keys : List PlanKey) (k : PlanKey) → AreStored keys → length keys < MAX_NODES → MayFollow (nodes_from [] keys) k → AreStored (insert_key (of_key.ghosts).eq keys k)
+table_after keys k table room follows = by (list_any ((of_key.ghosts).eq k) keys) refl
   where
     by : (b : Bool) → list_any ((of_key.ghosts).eq k) keys ≡ b → AreStored (insert_key (of_key.ghosts).eq keys k)
     by true e = subst AreStored (sym (ap (λ c. if c then keys else keys ++ k ∷ []) e)) table
     by false e = subst AreStored (sym (ap (λ c. if c then keys else keys ++ k ∷ []) e)) (record {
       few = let l = length-append keys (k ∷ []) in omega arith;
-      stand = stands_too [] keys k table.stand stand;
+      follow = follows_too [] keys k table.follow follows;
     })
 
 -- it has at most one node more
@@ -51,12 +51,12 @@ pub placed_at : (old : List PlanNode) (k : PlanKey) → MayStand old (node_of ol
 placed_at old k stand keys table grows i j e h =
     let all = nodes_from [] keys in
     let same = key_same k j h in
-    let children = (stands_at [] keys i i j (omega arith) table.stand e).children in
+    let children = (follows_at [] keys i i j (omega arith) table.follow e).stand.children in
     let whole = ap (λ (v : List PlanNode). read_back v (op_term j.op)) (sym (take-append-drop i (nodes_from [] keys))) ∙ still_reads (take i (nodes_from [] keys)) (drop i (nodes_from [] keys)) (op_term j.op) (parts_of (node_of (take i (nodes_from [] keys)) j).member, children) in
     let before = reading_stays 1 old (nodes_from [] keys) grows (op_term k.op) (parts_of (node_of old k).member, stand.children) in
     let path = sym whole ∙ ap (read_back (nodes_from [] keys)) (sym same.op) ∙ before in
     stored_at [] keys i i j (omega arith) e
-    ∙ ap Some (same_node (read_back (take i (nodes_from [] keys)) (op_term j.op)) (read_back old (op_term k.op)) j.sources.scope j.targets.scope k.sources.scope k.targets.scope (op_children (op_term j.op)) (op_children (op_term k.op)) path (sym same.sources) (sym same.targets) (ap op_children (sym same.op)))
+    ∙ ap Some (same_node (read_back (take i (nodes_from [] keys)) (op_term j.op)) (read_back old (op_term k.op)) j.sources j.targets k.sources k.targets (op_children (op_term j.op)) (op_children (op_term k.op)) path (sym same.sources) (sym same.targets) (ap op_children (sym same.op)))
 
 -- a number of a node is one of a key
 pub number_within : (keys : List PlanKey) (now : List PlanNode) (i : ℕ) → nodes_from [] keys ≡ now → i < length now → i < length keys
@@ -64,18 +64,25 @@ number_within keys now i e l = let c = as_many [] keys in let f = ap length e in
 
 pub operation_at : (keys : List PlanKey) (i : ℕ) (k : PlanKey) → AreStored keys → slice_get keys i ≡ Some k → IsSomeAnd (slice_get (nodes_from [] keys) i) (λ n. IsOperation (nodes_from [] keys) n (op_term k.op))
 operation_at keys i k table e =
-    let children = (stands_at [] keys i i k (omega arith) table.stand e).children in
+    let children = (follows_at [] keys i i k (omega arith) table.follow e).stand.children in
     let whole = ap (λ (v : List PlanNode). read_back v (op_term k.op)) (sym (take-append-drop i (nodes_from [] keys))) ∙ still_reads (take i (nodes_from [] keys)) (drop i (nodes_from [] keys)) (op_term k.op) (parts_of (node_of (take i (nodes_from [] keys)) k).member, children) in
     subst (λ (v : Option PlanNode). IsSomeAnd v (λ n. IsOperation (nodes_from [] keys) n (op_term k.op))) (sym (stored_at [] keys i i k (omega arith) e)) (record { path = sym whole; children = refl })
 
-pub scopes_at : (keys : List PlanKey) (i : ℕ) (k : PlanKey) → slice_get keys i ≡ Some k → IsSomeAnd (slice_get (nodes_from [] keys) i) (λ n. (n.member.sources ≡ k.sources.scope) × (n.member.targets ≡ k.targets.scope))
-scopes_at keys i k e = subst (λ (v : Option PlanNode). IsSomeAnd v (λ n. (n.member.sources ≡ k.sources.scope) × (n.member.targets ≡ k.targets.scope))) (sym (stored_at [] keys i i k (omega arith) e)) (refl, refl)
+pub scopes_at : (keys : List PlanKey) (i : ℕ) (k : PlanKey) → slice_get keys i ≡ Some k → IsSomeAnd (slice_get (nodes_from [] keys) i) (λ n. (n.member.sources ≡ k.sources) × (n.member.targets ≡ k.targets))
+scopes_at keys i k e = subst (λ (v : Option PlanNode). IsSomeAnd v (λ n. (n.member.sources ≡ k.sources) × (n.member.targets ≡ k.targets))) (sym (stored_at [] keys i i k (omega arith) e)) (refl, refl)
+
+pub walk_at : (keys : List PlanKey) (now : List PlanNode) (i : ℕ) (k : PlanKey) (walk : Option Scope) → AreStored keys → nodes_from [] keys ≡ now → slice_get keys i ≡ Some k → walk ≡ k.walk
+    → IsSomeAnd (slice_get now i) (λ n. IsWalkScope n.member walk)
+walk_at keys now i k walk table seen e same =
+    let own = (follows_at [] keys i i k (omega arith) table.follow e).walk in
+    let at = ap (λ (v : List PlanNode). slice_get v i) (sym seen) ∙ stored_at [] keys i i k (omega arith) e in
+    subst (λ (v : Option PlanNode). IsSomeAnd v (λ n. IsWalkScope n.member walk)) (sym at) (same ∙ own)
 
 -- what stays where the last nodes are taken away
 pub table_cut : (keys : List PlanKey) (n : ℕ) → AreStored keys → AreStored (take n keys)
 table_cut keys n table = record {
   few = let l = shorter n keys in let f = table.few in omega arith;
-  stand = stand_first [] keys n table.stand;
+  follow = follow_first [] keys n table.follow;
 }
   where
     shorter : (n : ℕ) (xs : List PlanKey) → length (take n xs) ≤ length xs
@@ -107,20 +114,20 @@ which (suc i) zero = inr (inr (omega arith))
 which (suc i) (suc j) = elim (which i j) [ inl h ↦ inl (omega arith) | inr (inl e) ↦ inr (inl (ap suc e)) | inr (inr h) ↦ inr (inr (omega arith)) ]
 
 pub are_apart : (keys : List PlanKey) → IsDistinct (of_key.ghosts).eq keys → AreApart keys
-are_apart keys d = λ i j k l e f op s t. of i j k l e f op s t (which i j)
+are_apart keys d = λ i j k l e f op s t w. of i j k l e f op s t w (which i j)
   where
-    of : (i j : ℕ) (k l : PlanKey) → slice_get keys i ≡ Some k → slice_get keys j ≡ Some l → op_term k.op ≡ op_term l.op → k.sources.scope ≡ l.sources.scope → k.targets.scope ≡ l.targets.scope → (i < j) ⊎ ((i ≡ j) ⊎ (j < i)) → i ≡ j
-    of i j k l e f op s t (inl h) = absurd (true≢false (sym (key_alike k l (record { op = op; sources = s; targets = t })) ∙ differ keys d i j k l h e f))
-    of i j k l e f op s t (inr (inl g)) = g
-    of i j k l e f op s t (inr (inr h)) = absurd (true≢false (sym (key_alike l k (record { op = sym op; sources = sym s; targets = sym t })) ∙ differ keys d j i l k h f e))
+    of : (i j : ℕ) (k l : PlanKey) → slice_get keys i ≡ Some k → slice_get keys j ≡ Some l → op_term k.op ≡ op_term l.op → k.sources ≡ l.sources → k.targets ≡ l.targets → k.walk ≡ l.walk → (i < j) ⊎ ((i ≡ j) ⊎ (j < i)) → i ≡ j
+    of i j k l e f op s t w (inl h) = absurd (true≢false (sym (key_alike k l (record { op = op; sources = s; targets = t; walk = w })) ∙ differ keys d i j k l h e f))
+    of i j k l e f op s t w (inr (inl g)) = g
+    of i j k l e f op s t w (inr (inr h)) = absurd (true≢false (sym (key_alike l k (record { op = sym op; sources = sym s; targets = sym t; walk = sym w })) ∙ differ keys d j i l k h f e))
 
 -- what a table promises of its nodes
 pub are_shared : (keys : List PlanKey) → AreStored keys → IsDistinct (of_key.ghosts).eq keys → AreShared (nodes_from [] keys)
 are_shared keys table d = record {
   lower = λ i n e.
-      let x = the_key keys table.stand (are_apart keys d) i n e in
-      subst (MayStand (take i (nodes_from [] keys))) (sym x.2) (stands_at [] keys i i x.0 (omega arith) table.stand x.1);
-  one = all_one keys table.stand (are_apart keys d);
+      let x = the_key keys table.follow (are_apart keys d) i n e in
+      subst (MayStand (take i (nodes_from [] keys))) (sym x.2) (follows_at [] keys i i x.0 (omega arith) table.follow x.1).stand;
+  one = all_one keys table.follow (are_apart keys d);
 }
 
 -- a number that is new is that of the node that was placed

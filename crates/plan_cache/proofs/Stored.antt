@@ -3,8 +3,8 @@ use Rattle.std.proofs.Common.{◌≡◌, ℕ, zero, suc, ◌+◌, ◌≤◌, Lis
 use Rattle.std.proofs.lemmas.List.{append_assoc, length-append}
 use Rattle.std.proofs.Math.Seq.{take-append_seam}
 use Rattle.plan_cache.specs.declared.key.PlanKey.{PlanKey}
-use Rattle.plan_cache.specs.Nodes.{PlanNode, MayStand}
-use Rattle.plan_cache.specs.Stored.{node_of, nodes_from, AllMayStand}
+use Rattle.plan_cache.specs.Nodes.{PlanNode}
+use Rattle.plan_cache.specs.Stored.{node_of, nodes_from, MayFollow, AllMayFollow}
 
 pub one_more : (done : List PlanNode) (keys : List PlanKey) (k : PlanKey) → nodes_from done (keys ++ k ∷ []) ≡ nodes_from done keys ++ node_of (nodes_from done keys) k ∷ []
 one_more done [] k = refl
@@ -14,9 +14,9 @@ pub as_many : (done : List PlanNode) (keys : List PlanKey) → length (nodes_fro
 as_many done [] = omega arith
 as_many done (k ∷ keys) = let r = as_many (done ++ node_of done k ∷ []) keys in let l = length-append done (node_of done k ∷ []) in omega arith
 
-pub stands_too : (done : List PlanNode) (keys : List PlanKey) (k : PlanKey) → AllMayStand done keys → MayStand (nodes_from done keys) (node_of (nodes_from done keys) k) → AllMayStand done (keys ++ k ∷ [])
-stands_too done [] k h m = (m, tt)
-stands_too done (j ∷ keys) k h m = (h.0, stands_too (done ++ node_of done j ∷ []) keys k h.1 m)
+pub follows_too : (done : List PlanNode) (keys : List PlanKey) (k : PlanKey) → AllMayFollow done keys → MayFollow (nodes_from done keys) k → AllMayFollow done (keys ++ k ∷ [])
+follows_too done [] k h m = (m, tt)
+follows_too done (j ∷ keys) k h m = (h.0, follows_too (done ++ node_of done j ∷ []) keys k h.1 m)
 
 -- those before the stored ones stay
 pub starts_with : (done : List PlanNode) (keys : List PlanKey) → (more : List PlanNode) × (nodes_from done keys ≡ done ++ more)
@@ -49,11 +49,11 @@ first_so_many done (k ∷ keys) (suc n) b e =
     let l = length-append done (node_of done k ∷ []) in
     first_so_many (done ++ node_of done k ∷ []) keys n b (omega arith)
 
-pub stand_first : (done : List PlanNode) (keys : List PlanKey) (n : ℕ) → AllMayStand done keys → AllMayStand done (take n keys)
-stand_first done [] zero h = tt
-stand_first done [] (suc n) h = tt
-stand_first done (k ∷ keys) zero h = tt
-stand_first done (k ∷ keys) (suc n) h = (h.0, stand_first (done ++ node_of done k ∷ []) keys n h.1)
+pub follow_first : (done : List PlanNode) (keys : List PlanKey) (n : ℕ) → AllMayFollow done keys → AllMayFollow done (take n keys)
+follow_first done [] zero h = tt
+follow_first done [] (suc n) h = tt
+follow_first done (k ∷ keys) zero h = tt
+follow_first done (k ∷ keys) (suc n) h = (h.0, follow_first (done ++ node_of done k ∷ []) keys n h.1)
 
 -- the node of a stored one, among those before it
 pub stored_at : (done : List PlanNode) (keys : List PlanKey) (i b : ℕ) (k : PlanKey) → b ≡ length done + i → slice_get keys i ≡ Some k
@@ -70,15 +70,15 @@ stored_at done (j ∷ keys) (suc i) b k l e =
     let n = length-append done (node_of done j ∷ []) in
     stored_at (done ++ node_of done j ∷ []) keys i b k (omega arith) e
 
--- and it may stand behind them
-pub stands_at : (done : List PlanNode) (keys : List PlanKey) (i b : ℕ) (k : PlanKey) → b ≡ length done + i → AllMayStand done keys → slice_get keys i ≡ Some k
-    → MayStand (take b (nodes_from done keys)) (node_of (take b (nodes_from done keys)) k)
-stands_at done [] i b k l h e = cc
-stands_at done (j ∷ keys) zero b k l h e =
+-- and it may follow them
+pub follows_at : (done : List PlanNode) (keys : List PlanKey) (i b : ℕ) (k : PlanKey) → b ≡ length done + i → AllMayFollow done keys → slice_get keys i ≡ Some k
+    → MayFollow (take b (nodes_from done keys)) k
+follows_at done [] i b k l h e = cc
+follows_at done (j ∷ keys) zero b k l h e =
     let same : j ≡ k = cc in
     let f : length done ≡ b = omega arith in
-    subst (λ (w : ℕ). MayStand (take w (nodes_from done (j ∷ keys))) (node_of (take w (nodes_from done (j ∷ keys))) k)) f
-    (subst (λ (v : List PlanNode). MayStand v (node_of v k)) (sym (whole_start done (j ∷ keys))) (subst (λ (v : PlanKey). MayStand done (node_of done v)) same h.0))
-stands_at done (j ∷ keys) (suc i) b k l h e =
+    subst (λ (w : ℕ). MayFollow (take w (nodes_from done (j ∷ keys))) k) f
+    (subst (λ (v : List PlanNode). MayFollow v k) (sym (whole_start done (j ∷ keys))) (subst (λ (v : PlanKey). MayFollow done v) same h.0))
+follows_at done (j ∷ keys) (suc i) b k l h e =
     let n = length-append done (node_of done j ∷ []) in
-    stands_at (done ++ node_of done j ∷ []) keys i b k (omega arith) h.1 e
+    follows_at (done ++ node_of done j ∷ []) keys i b k (omega arith) h.1 e

@@ -3,10 +3,10 @@ use Rattle.std.proofs.Common.{◌≡◌, ℕ, zero, suc, ◌<◌, ◌≤◌, Lis
 use Rattle.label_scope.specs.Members.{Member}
 use Rattle.plan_cache.specs.declared.key.PlanKey.{PlanKey}
 use Rattle.plan_cache.specs.Operations.{op_term, op_children}
-use Rattle.plan_cache.specs.Nodes.{PlanNode, IsNodeOf, AreNodesOf, read_back, parts_of}
-use Rattle.plan_cache.specs.Stored.{node_of, nodes_from, AllMayStand}
+use Rattle.plan_cache.specs.Nodes.{PlanNode, IsNodeOf, AreNodesOf, read_back, parts_of, walk_between}
+use Rattle.plan_cache.specs.Stored.{node_of, nodes_from, MayFollow, AllMayFollow}
 use Rattle.plan_cache.proofs.Growing.{still_nodes_of, still_reads}
-use Rattle.plan_cache.proofs.Stored.{as_many, stored_at, stands_at}
+use Rattle.plan_cache.proofs.Stored.{as_many, stored_at, follows_at}
 use Rattle.plan_cache.proofs.Rebuilt.{same_operation}
 
 -- nodes of one member have one number
@@ -15,7 +15,7 @@ AreOne nodes = (i j : ℕ) (n m : PlanNode) → slice_get nodes i ≡ Some n →
 
 -- keys that mean the same have one place
 abbrev pub AreApart : List PlanKey → Type 0
-AreApart keys = (i j : ℕ) (k l : PlanKey) → slice_get keys i ≡ Some k → slice_get keys j ≡ Some l → op_term k.op ≡ op_term l.op → k.sources.scope ≡ l.sources.scope → k.targets.scope ≡ l.targets.scope → i ≡ j
+AreApart keys = (i j : ℕ) (k l : PlanKey) → slice_get keys i ≡ Some k → slice_get keys j ≡ Some l → op_term k.op ≡ op_term l.op → k.sources ≡ l.sources → k.targets ≡ l.targets → k.walk ≡ l.walk → i ≡ j
 
 the_node : (nodes : List PlanNode) (k : ℕ) (m : Member) → IsNodeOf nodes k m → (n : PlanNode) × (slice_get nodes k ≡ Some n) × (n.member ≡ m)
 the_node [] k m h = absurd h
@@ -73,7 +73,7 @@ at_most zero (suc i) l = absurd (let none : ⊥ = omega arith in none)
 at_most (suc b) zero l = inr (omega arith)
 at_most (suc b) (suc i) l = elim (at_most b i (omega arith)) [ inl e ↦ inl (ap suc e) | inr h ↦ inr (omega arith) ]
 
-module _ (keys : List PlanKey) (stand : AllMayStand [] keys) (apart : AreApart keys) where
+module _ (keys : List PlanKey) (follow : AllMayFollow [] keys) (apart : AreApart keys) where
   some_same : (x y : PlanNode) → (let o : Option PlanNode = Some x in o) ≡ Some y → x ≡ y
   some_same x y e = cc
 
@@ -94,21 +94,22 @@ module _ (keys : List PlanKey) (stand : AllMayStand [] keys) (apart : AreApart k
       let before = take i (nodes_from [] keys) in
       let done = take b (nodes_from [] keys) in
       let more = take_more (nodes_from [] keys) i b (omega arith) in
-      let first = stands_at [] keys i i x.0 (omega arith) stand x.1 in
-      let second = stands_at [] keys b b y.0 (omega arith) stand y.1 in
-      of x.0 y.0 x.1 y.1 before done more.0 more.1 first.children second.children one (ap (λ (v : PlanNode). v.member) (sym x.2) ∙ same ∙ ap (λ (v : PlanNode). v.member) y.2)
+      let first = follows_at [] keys i i x.0 (omega arith) follow x.1 in
+      let second = follows_at [] keys b b y.0 (omega arith) follow y.1 in
+      of x.0 y.0 x.1 y.1 before done more.0 more.1 first second one (ap (λ (v : PlanNode). v.member) (sym x.2) ∙ same ∙ ap (λ (v : PlanNode). v.member) y.2)
     where
       of : (k l : PlanKey) → slice_get keys i ≡ Some k → slice_get keys b ≡ Some l → (before done more : List PlanNode) → done ≡ before ++ more
-          → AreNodesOf before (op_children (op_term k.op)) (parts_of (node_of before k).member) → AreNodesOf done (op_children (op_term l.op)) (parts_of (node_of done l).member)
+          → MayFollow before k → MayFollow done l
           → AreOne done → (node_of before k).member ≡ (node_of done l).member → i ≡ b
       of k l e f before done more d first second one same =
-          let there = subst (λ (v : List PlanNode). AreNodesOf v (op_children (op_term k.op)) (parts_of (node_of before k).member)) (sym d) (still_nodes_of before more (op_children (op_term k.op)) (parts_of (node_of before k).member) first) in
-          let here = subst (λ (v : Member). AreNodesOf done (op_children (op_term l.op)) (parts_of v)) (sym same) second in
+          let there = subst (λ (v : List PlanNode). AreNodesOf v (op_children (op_term k.op)) (parts_of (node_of before k).member)) (sym d) (still_nodes_of before more (op_children (op_term k.op)) (parts_of (node_of before k).member) first.stand.children) in
+          let here = subst (λ (v : Member). AreNodesOf done (op_children (op_term l.op)) (parts_of v)) (sym same) second.stand.children in
           let children = same_numbers done one (op_children (op_term k.op)) (op_children (op_term l.op)) (parts_of (node_of before k).member) there here in
-          let reads = ap (λ (v : List PlanNode). read_back v (op_term k.op)) d ∙ still_reads before more (op_term k.op) (parts_of (node_of before k).member, first) in
+          let reads = ap (λ (v : List PlanNode). read_back v (op_term k.op)) d ∙ still_reads before more (op_term k.op) (parts_of (node_of before k).member, first.stand.children) in
           let paths = reads ∙ ap (λ (v : Member). v.path) same in
           let ops = same_operation done (op_term k.op) (op_term l.op) paths children in
           apart i b k l e f ops (ap (λ (v : Member). v.sources) same) (ap (λ (v : Member). v.targets) same)
+          (first.walk ∙ ap (λ (v : Member). walk_between v.path v.sources v.targets) same ∙ sym second.walk)
 
   next : (b : ℕ) → AreOne (take b (nodes_from [] keys)) → (i j : ℕ) (n m : PlanNode) → slice_get (nodes_from [] keys) i ≡ Some n → slice_get (nodes_from [] keys) j ≡ Some m → n.member ≡ m.member → (i ≡ b) ⊎ (i < b) → (j ≡ b) ⊎ (j < b) → i ≡ j
   next b before i j n m e f same (inl x) (inl y) = x ∙ sym y

@@ -1,5 +1,4 @@
 pub mod Operations
 pub mod Nodes
 pub mod Growing
-pub mod Keys
 pub mod Stored

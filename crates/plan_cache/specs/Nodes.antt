@@ -1,5 +1,5 @@
 -- The nodes of a plan table: each is a path between two scopes, and the numbers of the nodes of this path's parts.
-use Rattle.std.specs.Prelude.{◌≡◌, ℕ, zero, suc, List, [], ◌∷◌, ◌++◌, slice_get, take, Some, IsSomeAnd}
+use Rattle.std.specs.Prelude.{◌≡◌, ℕ, zero, suc, List, [], ◌∷◌, ◌++◌, slice_get, take, Option, Some, None, IsSomeAnd}
 use Rattle.path_ast.specs.Terms.{PathTerm, OfTest, Forward, Backward, Next, Previous, Sequence, Choice, Repetition, TestTerm, IsNode, IsEdge, HasLabel, HasValue, IsBelow, DoesExist, Condition, Conjunction, Disjunction, Negation, leaf_term}
 use Rattle.path_ast.specs.Sizes.{IsPathInRange}
 use Rattle.label_scope.specs.declared.scope.Scope.{Scope}
@@ -47,6 +47,20 @@ parts (Repetition r n m) a b = let u = passed r (record { sources = a; targets =
 
 abbrev pub parts_of : Member → List Member
 parts_of m = parts m.path m.sources m.targets
+
+-- the scope of all objects that a repetition passes; no other path has one
+abbrev pub walk_between : PathTerm → Scope → Scope → Option Scope
+walk_between (OfTest c) a b = None
+walk_between Forward a b = None
+walk_between Backward a b = None
+walk_between Next a b = None
+walk_between Previous a b = None
+walk_between (Sequence p q) a b = None
+walk_between (Choice p q) a b = None
+walk_between (Repetition r n m) a b = Some (passed r (record { sources = a; targets = b }))
+
+abbrev pub IsWalkScope : Member → Option Scope → Type 0
+IsWalkScope m walk = walk ≡ walk_between m.path m.sources m.targets
 
 -- the node of this number is the member's
 abbrev pub IsNodeOf : List PlanNode → ℕ → Member → Type 0

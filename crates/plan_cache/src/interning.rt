@@ -4,16 +4,16 @@ ghost use Rattle.path_ast.specs.Terms.{path_term, test_term, Sequence, Choice, R
 ghost use Rattle.path_ast.specs.Sizes.{path_size, test_size, IsPathInRange, IsTestInRange};
 ghost use Rattle.label_scope.specs.declared.scope.Scope.TheVariants.{All};
 ghost use Rattle.plan_cache.specs.Operations.{op_term, part_term, op_children, part_children};
-ghost use Rattle.plan_cache.specs.Nodes.{IsNodeOf, narrowed_member};
+ghost use Rattle.plan_cache.specs.Nodes.{IsNodeOf, IsWalkScope, narrowed_member};
 ghost use Rattle.plan_cache.specs.Growing.{Grows, AddsUnder, DoesPath, DoesTest};
 ghost use Rattle.plan_cache.specs.declared.nodes.TheConstants.{MAX_NODES};
 
-use crate::middle::{middle, passed};
+use crate::key::PlanKey;
 use crate::nodes::Nodes;
 use crate::operations::{PlanNo, PlanOp, PlanTest};
-use label_scope::{Scope, narrow};
+use label_scope::{Scope, middle, narrow, passed};
 use path_ast::{Path, Test};
-use std::alloc::AllocError;
+use std::alloc::{AllocError, Global};
 
 impl Nodes {
     /// The node of the path between all objects and all objects. What is missing of it is added.
@@ -51,8 +51,14 @@ impl Nodes {
         ensures few { length self.new ≤ length self.old + (path_size (path_term path.now)) }
     {
         let (sources, targets) = narrow(self.alloc(), path, a, b)?;
+        let walk = walk_of(self.alloc(), path, &sources, &targets)?;
         let op = self.operation_of(path, &sources, &targets)?;
-        self.place(op, sources, targets)
+        self.place(PlanKey {
+            op,
+            sources,
+            targets,
+            walk,
+        })
     }
 
     // What the node of a path between two narrowed scopes does.
@@ -189,5 +195,20 @@ impl Nodes {
         let other = self.test_of(other, a)?;
         let one = Box::new(self.alloc(), one)?;
         Ok((one, Box::new(self.alloc(), other)?))
+    }
+}
+
+// Of a repetition the scope of all objects that it passes; `None` for another path.
+fn walk_of(
+    alloc: Global,
+    path: &Path,
+    sources: &Scope,
+    targets: &Scope,
+) -> Result<Option<Scope>, AllocError>
+    ensures { IfOk result (λ walk. IsWalkScope (record { path = path_term path.now; sources = sources.now; targets = targets.now }) walk) }
+{
+    match path {
+        Path::Repeat { body, .. } => Ok(Some(passed(alloc, body, sources, targets)?)),
+        _ => Ok(None),
     }
 }

@@ -7,7 +7,6 @@
 
 mod interning;
 mod key;
-mod middle;
 mod nodes;
 mod operations;
 mod plans;

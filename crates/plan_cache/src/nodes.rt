@@ -1,11 +1,11 @@
 //! The nodes, each once, in order of first sight.
-ghost use Rattle.std.specs.Prelude.{◌≡◌, ◌+◌, ◌<◌, ◌≤◌, ℕ, [], Some, length, take, slice_get, IfOk, OnErr, IsSomeAnd};
+ghost use Rattle.std.specs.Prelude.{◌≡◌, ◌<◌, ◌≤◌, ℕ, [], Some, length, option_map, take, slice_get, IfOk, OnErr, IsSomeAnd};
 ghost use Rattle.plan_cache.specs.Operations.{op_term};
-ghost use Rattle.plan_cache.specs.Nodes.{PlanNode, MayStand, IsOperation, AreShared};
-ghost use Rattle.plan_cache.specs.Stored.{node_with};
+ghost use Rattle.plan_cache.specs.Nodes.{PlanNode, IsOperation, IsWalkScope, AreShared};
+ghost use Rattle.plan_cache.specs.Stored.{node_of, MayFollow};
 ghost use Rattle.plan_cache.specs.Growing.{Grows};
 
-use crate::key::{KeyScope, PlanKey};
+use crate::key::PlanKey;
 use crate::operations::{PlanNo, PlanOp};
 use indexmap::IndexSet;
 use label_scope::Scope;
@@ -71,32 +71,31 @@ impl Nodes {
         ensures { IsSomeAnd (slice_get self.now no.0) (λ n. (n.member.sources ≡ result.0.now) × (n.member.targets ≡ result.1.now)) }
     {
         let key = &self.keys[no.0 as usize];
-        (&key.sources.scope, &key.targets.scope)
+        (&key.sources, &key.targets)
+    }
+
+    /// Of a repetition the scope of all objects that it passes; `None` for every other operation.
+    pub(crate) fn walk_scope(&self, no: PlanNo) -> Option<&Scope>
+        requires { no.0 < length self.now }
+        ensures { IsSomeAnd (slice_get self.now no.0) (λ n. IsWalkScope n.member (option_map (λ r. r.now) result)) }
+    {
+        self.keys[no.0 as usize].walk.as_ref()
     }
 
     pub(crate) fn alloc(&self) -> Global {
         *self.keys.allocator()
     }
 
-    // The node of this operation between these scopes, which is added if there is none.
-    pub(crate) fn place(
-        &mut self,
-        op: PlanOp,
-        sources: Scope,
-        targets: Scope,
-    ) -> Result<PlanNo, AllocError>
+    // The node of this key, which is added if there is none.
+    pub(crate) fn place(&mut self, key: PlanKey) -> Result<PlanNo, AllocError>
         requires room { length self.old < MAX_NODES }
-        requires stand { MayStand self.old (node_with self.old (op_term op) sources targets) }
-        ensures placed { IfOk result (λ no. slice_get self.new no.0 ≡ Some (node_with self.old (op_term op) sources targets)) }
+        requires follows { MayFollow self.old key }
+        ensures placed { IfOk result (λ no. slice_get self.new no.0 ≡ Some (node_of self.old key)) }
         ensures added { IfOk result (λ no. (k : ℕ) → length self.old ≤ k → k < length self.new → k ≡ no.0) }
         ensures grows { Grows 1 self.old self.new }
         ensures same { OnErr result (self.new ≡ self.old) }
     {
-        let (index, _) = self.keys.insert_full(PlanKey {
-            op,
-            sources: KeyScope { scope: sources },
-            targets: KeyScope { scope: targets },
-        })?;
+        let (index, _) = self.keys.insert_full(key)?;
         Ok(PlanNo(index as u32))
     }
 

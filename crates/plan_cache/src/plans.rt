@@ -1,10 +1,10 @@
 //! The table of plan nodes.
-ghost use Rattle.std.specs.Prelude.{◌≡◌, ◌+◌, ◌<◌, ◌≤◌, ◌∷◌, [], length, slice_get, IfOk, OnErr, IsSomeAnd};
+ghost use Rattle.std.specs.Prelude.{◌≡◌, ◌+◌, ◌<◌, ◌≤◌, ◌∷◌, [], length, option_map, slice_get, IfOk, OnErr, IsSomeAnd};
 ghost use Rattle.path_ast.specs.Terms.{path_term};
 ghost use Rattle.path_ast.specs.Sizes.{path_size, IsPathInRange};
 ghost use Rattle.label_scope.specs.declared.scope.Scope.TheVariants.{All};
 ghost use Rattle.plan_cache.specs.Operations.{op_term};
-ghost use Rattle.plan_cache.specs.Nodes.{IsNodeOf, IsOperation, AreShared, narrowed_member};
+ghost use Rattle.plan_cache.specs.Nodes.{IsNodeOf, IsOperation, IsWalkScope, AreShared, narrowed_member};
 ghost use Rattle.plan_cache.specs.Growing.{Grows, AddsUnder};
 ghost use Rattle.plan_cache.specs.declared.nodes.TheConstants.{MAX_NODES};
 
@@ -79,6 +79,16 @@ impl Plans {
         ensures { IsSomeAnd (slice_get self.now.nodes no.0) (λ n. (n.member.sources ≡ result.0.now) × (n.member.targets ≡ result.1.now)) }
     {
         self.nodes.scopes(no)
+    }
+
+    /// Of a repetition the scope of all objects that it passes; `None` exactly if the node does something else.
+    ///
+    /// The number is below `len`.
+    pub fn walk_scope(&self, no: PlanNo) -> Option<&Scope>
+        requires { no.0 < length self.now.nodes }
+        ensures { IsSomeAnd (slice_get self.now.nodes no.0) (λ n. IsWalkScope n.member (option_map (λ r. r.now) result)) }
+    {
+        self.nodes.walk_scope(no)
     }
 
     /// The node of the query's path between all objects and all objects.
