@@ -7,3 +7,4 @@ mod AlikeOperations
 mod AlikeKeys
 mod Placing
 mod Adding
+mod Footing
