@@ -21,7 +21,7 @@ use Rattle.label_scope.specs.declared.scope.Scope.{Scope}
 use Rattle.label_scope.specs.declared.scope.Scope.TheVariants.{All}
 use Rattle.label_scope.specs.Scopes.{met, source_scope, target_scope}
 use Rattle.label_scope.specs.Narrowing.{Cut, both_where, narrowed}
-use Rattle.label_scope.specs.Members.{Member, worked, worked_conditions, middle, passed}
+use Rattle.label_scope.specs.Members.{Member, worked, worked_conditions, middle, passed, member, axis_members, test_members, sequence_members, choice_members, repeated_members, members_between}
 use Rattle.label_scope.proofs.Within.{narrowed_cut, widened_cut}
 use Rattle.condition_eval.specs.declared.marks.Marked.{Marked}
 use Rattle.condition_eval.specs.Combined.{BothMark, EitherMarks, IsUnmarked, MarkedToItself}
@@ -31,7 +31,7 @@ use Rattle.condition_eval.specs.Within.{AreWithin}
 use Rattle.condition_eval.proofs.Meanings.{negated, both_hold, either_holds, scoped_condition, scoped_test}
 use Rattle.path_eval.specs.Evaluated.{AllFit}
 use Rattle.path_eval.specs.Powers.{GivesMember, repetition_member, repetition_members}
-use Rattle.path_eval.specs.Working.{WorksOutAs, MarksOutAs, member, axis_members, test_members, sequence_members, choice_members, repeated_members, members_between}
+use Rattle.path_eval.specs.Working.{WorksOutAs, MarksOutAs}
 use Rattle.path_eval.proofs.Fitting.{fit_own, works_out, works_out_as}
 use Rattle.path_eval.proofs.MembersWithin.{none_fit, fit_both, wide_first, wide_second, wide_rest}
 use Rattle.path_eval.proofs.Joining.{sequence_from, from_sequence, choice_from, from_choice}
@@ -76,7 +76,7 @@ module _ (g : Graph) (limit : ℕ) (good : Good g) where
   time_out p a b e result h = axis_out p a b result (subst (λ (v : Scope). Gives result (Cut g p a v) limit) e h)
 
   pub test_out : (c : TestTerm) (a : Scope) (objects : List ObjNo) (are : AreWithin a g objects) (marks : List Marked) → AreMarks objects (HoldsAt c g) marks → AllFit g limit (worked_conditions c a)
-      → (result : Result (List Row) RelFault) → Gives result (MarkedToItself marks) limit → WorksOutAs result (Cut g (OfTest c) a a) g limit (test_members c a)
+      → (result : Result (List Row) RelFault) → Gives result (MarkedToItself marks) limit → WorksOutAs result (Cut g (OfTest c) a a) g limit (test_members c a a)
   test_out c a objects are marks is fit =
       works_out g limit (member (OfTest c) a a) (worked_conditions c a) (MarkedToItself marks) (λ x y h. (scoped_test g a objects are c marks is x y).0 h) (λ x y h. (scoped_test g a objects are c marks is x y).1 h) fit
 
