@@ -1,11 +1,12 @@
 -- The objects within a scope, found one after the other.
 use Rattle.std.proofs.Common.{◌≡◌, ◌⊎◌, inl, inr, ⊎_elim, ℕ, ◌+◌, ◌<◌, ◌≤◌, List, [], ◌∷◌, ◌++◌, length, refl, sym, ◌∙◌, ap, subst, arith}
-use Rattle.std.proofs.lemmas.Bool.Decides.{eqb_tells}
+use Rattle.std.proofs.lemmas.Bool.Decides.{eqb_tells, leb_tells}
 use Rattle.std.proofs.lemmas.Option.{slice_get_within}
 use Rattle.itpg_base.specs.declared.object_number.ObjNo.{ObjNo}
 use Rattle.itpg_base.specs.Graphs.{Graph, Stands}
 use Rattle.itpg_base.proofs.Objects.{there}
 use Rattle.itpg_base.proofs.Lists.{among_append, append_first, append_second, append_ordered}
+use Rattle.itpg_graph.specs.GraphParts.{IsNextStanding, NoneStandsBetween, NoneStands}
 use Rattle.relation_rows.specs.Relations.{Rise, IsOneOf}
 use Rattle.label_scope.specs.declared.scope.Scope.{Scope}
 use Rattle.label_scope.specs.Scopes.{IsWithin}
@@ -56,10 +57,43 @@ module _ (scope : Scope) (g : Graph) where
         first : (k : ℕ) → IsOneOf objects k → IsOneOf (objects ++ o ∷ []) k
         first k h = (h.0, append_first objects (o ∷ []) h.0 h.1, h.2)
 
-  pub all_found : (n : ℕ) (objects : List ObjNo) → length g.objects ≤ n → FoundBelow scope g n objects → AreWithin scope g objects
-  all_found n objects le f = record {
+  -- where none stands between, those below the later number are those below the earlier
+  past : (n m : ℕ) (objects : List ObjNo) → FoundBelow scope g n objects → n ≤ m → NoneStandsBetween g n m → FoundBelow scope g m objects
+  past n m objects f le none = record {
     rise = f.rise;
-    whole = λ o s w. f.whole o (let t = there g.objects o _ s in let lt = slice_get_within g.objects o t.0 t.1 in omega arith) s w;
+    below = λ o h. let lt = f.below o h in omega arith;
+    whole = λ o lt s w. elim (leb_tells n o) [ inl more ↦ absurd (none o more.1 lt s) | inr less ↦ f.whole o (let few = less.1 in omega arith) s w ];
     stand = f.stand;
     within = f.within;
   }
+
+  module _ (from : ℕ) (objects : List ObjNo) (f : FoundBelow scope g from objects) (o : ObjNo) (next : IsNextStanding g from o.0) where
+    reached : FoundBelow scope g o.0 objects
+    reached = past from o.0 objects f next.behind next.first
+
+    pub next_not_within : (IsWithin scope g o.0 → ⊥) → FoundBelow scope g (o.0 + 1) objects
+    next_not_within outside = not_within o.0 objects reached (λ both. outside both.1)
+
+    pub next_found : (more : List ObjNo) → more ≡ objects ++ o ∷ [] → IsWithin scope g o.0 → FoundBelow scope g (o.0 + 1) more
+    next_found more e inside = found o.0 objects reached o more refl e (next.stands, inside)
+
+  pub none_found : (objects : List ObjNo) → objects ≡ [] → FoundBelow scope g 0 objects
+  none_found objects e = subst (λ (v : List ObjNo). FoundBelow scope g 0 v) (sym e) (record {
+    rise = tt;
+    below = λ o h. absurd h.1;
+    whole = λ o lt s w. absurd (omega (arith, lt));
+    stand = λ o h. absurd h.1;
+    within = λ o h. absurd h.1;
+  })
+
+  pub all_found : (n : ℕ) (objects : List ObjNo) → NoneStands g n → FoundBelow scope g n objects → AreWithin scope g objects
+  all_found n objects none f = record {
+    rise = f.rise;
+    whole = λ o s w. elim (leb_tells n o) [ inl more ↦ absurd (none o more.1 s) | inr less ↦ f.whole o (let few = less.1 in omega arith) s w ];
+    stand = f.stand;
+    within = f.within;
+  }
+
+  -- a standing object is one of those that were declared
+  pub is_declared : (o : ℕ) → Stands g o → o < length g.objects
+  is_declared o s = let t = there g.objects o _ s in slice_get_within g.objects o t.0 t.1

@@ -13,7 +13,7 @@ use crate::marks::{Marked, Marks};
 use crate::moments::{all_below, all_if};
 use interval_set::{IntervalSet, Span};
 use itpg_base::{Name, ObjNo};
-use itpg_graph::{Graph, Kind};
+use itpg_graph::{Kind, Part};
 use path_ast::Leaf;
 use std::alloc::{AllocError, Global};
 
@@ -29,7 +29,7 @@ use std::alloc::{AllocError, Global};
 /// The graph is begun; the objects rise and stand.
 pub fn leaf_marks(
     alloc: Global,
-    graph: &Graph,
+    graph: &Part<'_>,
     objects: &[ObjNo],
     leaf: &Leaf,
 ) -> Result<Marks, AllocError>
@@ -52,7 +52,7 @@ pub fn leaf_marks(
 // The moments of the horizon at which the test holds of the object.
 fn moments_by(
     alloc: Global,
-    graph: &Graph,
+    graph: &Part<'_>,
     horizon: Span,
     object: ObjNo,
     leaf: &Leaf,
@@ -75,7 +75,7 @@ fn moments_by(
 // The moments at which the property of the object has the value.
 fn moments_with(
     alloc: Global,
-    graph: &Graph,
+    graph: &Part<'_>,
     object: ObjNo,
     prop: &Name,
     value: &Name,

@@ -14,7 +14,7 @@ use crate::marks::{Marked, Marks};
 use crate::moments::all_of;
 use interval_set::IntervalSet;
 use itpg_base::ObjNo;
-use itpg_graph::Graph;
+use itpg_graph::Part;
 use relation_rows::{OneRow, Relation};
 use std::alloc::{AllocError, Global};
 
@@ -24,7 +24,7 @@ use std::alloc::{AllocError, Global};
 /// The graph is begun; the objects rise and stand.
 pub fn starts_of(
     alloc: Global,
-    graph: &Graph,
+    graph: &Part<'_>,
     objects: &[ObjNo],
     rel: &Relation,
 ) -> Result<Marks, AllocError>

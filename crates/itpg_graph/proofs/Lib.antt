@@ -2,11 +2,13 @@ pub mod Asked
 pub mod Cutting
 pub mod Families
 pub mod Goodness
+pub mod GraphParts
 pub mod Kept
 pub mod Linked
 pub mod Lists
 pub mod Losing
 pub mod Names
+pub mod NextNumbers
 pub mod Parts
 pub mod Rising
 pub mod Unique

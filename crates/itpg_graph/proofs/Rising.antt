@@ -1,7 +1,8 @@
 -- Rising lists of numbers.
-use Rattle.std.proofs.Common.{◌≡◌, ◌≢◌, ℕ, zero, suc, ◌<◌, ◌≤◌, List, [], ◌∷◌, ◌++◌, ◌⊎◌, inl, inr, length, get_or, Ok, Err, refl, sym, ◌∙◌, subst, arith}
+use Rattle.std.proofs.Common.{◌≡◌, ◌≢◌, ℕ, zero, suc, ◌<◌, ◌≤◌, List, [], ◌∷◌, ◌++◌, ◌⊎◌, inl, inr, length, get_or, Bool, Result, Ok, Err, refl, sym, ◌∙◌, subst, arith, true≢false}
+use Rattle.std.specs.Prelude.{◌↔◌, IsTrue, is_ok}
 use Rattle.std.specs.List.{remove}
-use Rattle.std.specs.List.Sorted.{IsBinarySearchResult, IsNonDecreasingBy}
+use Rattle.std.specs.List.Sorted.{IsBinarySearchResult, IsNonDecreasingBy, IsSearchInRange}
 use Rattle.std.specs.Ordering.{nat_cmp, ordering_index}
 use Rattle.std.proofs.lemmas.Cmp.{ranked}
 use Rattle.std.proofs.lemmas.Bool.Decides.{nat_tests}
@@ -75,21 +76,22 @@ number_there (x ∷ xs) zero d lt = inl refl
 number_there (x ∷ xs) (suc i) d lt = inr (number_there xs i d (omega arith))
 
 -- rising numbers, place by place
-number_rises : (xs : List ObjNo) (i j : ℕ) (d : ObjNo) → AreRising xs → i ≤ j → j < length xs → (get_or xs i d).0 ≤ (get_or xs j d).0
+pub number_rises : (xs : List ObjNo) (i j : ℕ) (d : ObjNo) → AreRising xs → i ≤ j → j < length xs → (get_or xs i d).0 ≤ (get_or xs j d).0
 number_rises [] i j d r le lt = absurd (omega arith)
 number_rises (x ∷ xs) zero zero d r le lt = omega arith
 number_rises (x ∷ xs) zero (suc j) d r le lt = let less = above x.0 xs (get_or xs j d).0 r.0 (number_there xs j d (omega arith)) in omega arith
 number_rises (x ∷ xs) (suc i) zero d r le lt = absurd (omega arith)
 number_rises (x ∷ xs) (suc i) (suc j) d r le lt = number_rises xs i j d r.1 (omega arith) (omega arith)
 
+-- where a number of a list stands
+pub number_at : (xs : List ObjNo) (k : ℕ) → HasNumber xs k → (i : ℕ) × (i < length xs) × ((d : ObjNo) → (get_or xs i d).0 ≡ k)
+number_at [] k h = absurd h
+number_at (x ∷ xs) k h = elim h [ inl is ↦ (0, omega arith, λ d. is) | inr more ↦ let at = number_at xs k more in (suc at.0, (let lt = at.1 in omega arith), at.2) ]
+
 -- what a binary search for a number finds in a rising list
 module _ (xs : List ObjNo) (e : ℕ) (r : AreRising xs) where
   comparisons_rise : IsNonDecreasingBy (λ x. ordering_index (nat_cmp x.0 e)) xs
   comparisons_rise = λ i j d le lt. let rise = number_rises xs i j d r le lt in grind (arith, nat_tests)
-
-  number_at : (xs : List ObjNo) (k : ℕ) → HasNumber xs k → (i : ℕ) × (i < length xs) × ((d : ObjNo) → (get_or xs i d).0 ≡ k)
-  number_at [] k h = absurd h
-  number_at (x ∷ xs) k h = elim h [ inl is ↦ (0, omega arith, λ d. is) | inr more ↦ let at = number_at xs k more in (suc at.0, (let lt = at.1 in omega arith), at.2) ]
 
   pub search_found : (i : ℕ) → IsBinarySearchResult (λ x. nat_cmp x.0 e) xs (Ok i) → (d : ObjNo) → (get_or xs i d).0 ≡ e
   search_found i found d = ranked _ e _ (sym (found d))
@@ -103,3 +105,7 @@ module _ (xs : List ObjNo) (e : ℕ) (r : AreRising xs) where
       let below : at.0 < i → ⊥ = λ lt. let less = ranked _ e _ (sym (p.0 at.0 d (omega arith) lt)) in omega arith in
       let over : i ≤ at.0 → ⊥ = λ le. let more = ranked _ e _ (sym (p.1 at.0 d le at.1)) in omega arith in
       omega arith
+
+  pub search_told : (found : Result ℕ ℕ) (is : Bool) → IsSearchInRange found (length xs) → IsBinarySearchResult (λ x. nat_cmp x.0 e) xs found → is ≡ is_ok found → IsTrue is ↔ HasNumber xs e
+  search_told (Ok i) is within at same = ((λ h. subst (HasNumber xs) (search_found i at (record { 0 = 0 })) (number_there xs i (record { 0 = 0 }) within)), (λ h. same))
+  search_told (Err i) is within at same = ((λ h. absurd (true≢false (sym h ∙ same))), (λ h. absurd (search_none i at h)))

@@ -6,6 +6,7 @@ ghost use Rattle.itpg_base.specs.Graphs.{Good, Named, Stands, Exists, Val, HasEn
 ghost use Rattle.interval_set.specs.Runs.{AreRunsOf};
 ghost use Rattle.itpg_graph.specs.Edges.{LeadsFrom, LeadsTo, AreNumbers};
 ghost use Rattle.itpg_graph.specs.Families.{HasCutFamily, FitCut, FitPut, FitClear, HasPlace};
+ghost use Rattle.itpg_graph.specs.GraphParts.{IsNextStanding, NoneStands};
 ghost use Rattle.itpg_graph.specs.Changes.{begun_as, with_node, with_edge, without, JoinsLive, FitFamily, CutsLive, PutsValue, ClearsValue};
 
 use crate::links::Links;
@@ -112,6 +113,20 @@ impl Graph {
             Some(object) => object.standing,
             None => false,
         }
+    }
+
+    /// The first object from the number on that stands; `None` exactly if none does.
+    pub fn next_standing(&self, from: usize) -> Option<ObjNo>
+        ensures next { IfSome result (λ o. IsNextStanding self.now from o.0) }
+        ensures none { IsNone result → NoneStands self.now from }
+    {
+        for number in from..self.declared() as usize {
+            let object = ObjNo(number as u32);
+            if self.standing(object) {
+                return Some(object);
+            }
+        }
+        None
     }
 
     /// Whether the object is a node or an edge.

@@ -9,8 +9,10 @@ mod graph;
 mod laws;
 mod links;
 mod numbers;
+mod part;
 mod properties;
 mod stored;
 
 pub use graph::{Graph, Kind};
 pub use laws::law_of_unique_changes;
+pub use part::Part;
