@@ -6,6 +6,7 @@ pub mod FormSteps
 pub mod Ordered
 pub mod PartFaults
 pub mod PartSteps
+pub mod PartsTaken
 pub mod Firsts
 pub mod Whole
 pub mod LongLines

@@ -1,12 +1,12 @@
 -- How reading goes on behind the parts that are there, and that it stops at those that aren't.
-use Rattle.std.proofs.Common.{◌≡◌, ◌⊎◌, inl, inr, ℕ, ℤ, List, [], ◌∷◌, Bool, true, false, Err, refl, sym, ap, ◌∙◌}
+use Rattle.std.proofs.Common.{◌≡◌, inl, inr, ℕ, ℤ, List, [], ◌∷◌, Bool, true, false, Err, refl, sym, ap, ◌∙◌}
 use Rattle.itpg_base.specs.Words.{Word}
 use Rattle.itpg_base.specs.declared.text_code.TextCode.{TextCode}
 use Rattle.script_lex.specs.Lexemes.{Lexeme, AWord, ANumber, AQuote, AMark}
 use Rattle.script_lex.specs.Lines.{Placed}
 use Rattle.edit_reader.specs.Forms.{lexemes}
 use Rattle.edit_reader.specs.Steps.{Told, word_then, number_then, quoted_then, end_then, is_near, moment_then, name_then, span_then, name_and_span_then, only_name_then}
-use Rattle.edit_reader.specs.Taken.{NoWord, NoNumber, NoQuoted, IsFar, AreSpan, NoSpan, AreNameAndSpan, NoNameAndSpan, IsOnlyName, NoOnlyName}
+use Rattle.edit_reader.specs.Taken.{NoWord, NoNumber, NoQuoted, AreSpan, NoSpan, AreNameAndSpan, NoNameAndSpan, IsOnlyName, NoOnlyName}
 use Rattle.edit_reader.proofs.PartFaults.{near_moment, at_moment, at_none, named, overlong}
 
 module _ {code : TextCode} where
@@ -42,6 +42,15 @@ goes_to_end tokens e go_on = ap (λ (ts : List Placed). end_then (lexemes ts) go
 
 -- two numbers
 pub goes_on_span : (parts : List Lexeme) {from to : ℤ} → AreSpan parts from to → (go_on : ℤ → ℤ → Told) → span_then parts go_on ≡ go_on from to
+goes_on_span [] is go_on = absurd is
+goes_on_span (AWord word ∷ rest) is go_on = absurd is
+goes_on_span (AQuote text ∷ rest) is go_on = absurd is
+goes_on_span (AMark mark ∷ rest) is go_on = absurd is
+goes_on_span (ANumber first ∷ []) is go_on = absurd is
+goes_on_span (ANumber first ∷ AWord word ∷ rest) is go_on = absurd is
+goes_on_span (ANumber first ∷ AQuote text ∷ rest) is go_on = absurd is
+goes_on_span (ANumber first ∷ AMark mark ∷ rest) is go_on = absurd is
+goes_on_span (ANumber first ∷ ANumber second ∷ other ∷ rest) is go_on = absurd is
 goes_on_span (ANumber first ∷ ANumber second ∷ []) {from = from} is go_on = at_moment first is.0 (λ a. moment_then second (λ b. go_on a b)) ∙ at_moment second is.1 (go_on from)
 
 pub stops_at_span : (parts : List Lexeme) {code : TextCode} → NoSpan parts code → (go_on : ℤ → ℤ → Told) → span_then parts go_on ≡ Err code
@@ -63,6 +72,10 @@ stops_at_span (ANumber first ∷ ANumber second ∷ []) {code = code} (inr far) 
 
 -- a name and two numbers
 pub goes_on_name_and_span : (parts : List Lexeme) {name : Word} {from to : ℤ} → AreNameAndSpan parts name from to → (go_on : Word → ℤ → ℤ → Told) → name_and_span_then parts go_on ≡ go_on name from to
+goes_on_name_and_span [] is go_on = absurd is
+goes_on_name_and_span (ANumber number ∷ rest) is go_on = absurd is
+goes_on_name_and_span (AQuote text ∷ rest) is go_on = absurd is
+goes_on_name_and_span (AMark mark ∷ rest) is go_on = absurd is
 goes_on_name_and_span (AWord word ∷ rest) {from = from} {to = to} is go_on =
     goes_on_span rest is.1 (λ from to. name_then word (λ name. go_on name from to)) ∙ named is.0 (λ name. go_on name from to)
 
@@ -77,6 +90,11 @@ stops_at_name_and_span (AWord word ∷ rest) (inr (from, to, span, long)) go_on 
 
 -- a name alone
 pub goes_on_only_name : (parts : List Lexeme) {name : Word} → IsOnlyName parts name → (go_on : Word → Told) → only_name_then parts go_on ≡ go_on name
+goes_on_only_name [] is go_on = absurd is
+goes_on_only_name (ANumber number ∷ rest) is go_on = absurd is
+goes_on_only_name (AQuote text ∷ rest) is go_on = absurd is
+goes_on_only_name (AMark mark ∷ rest) is go_on = absurd is
+goes_on_only_name (AWord word ∷ other ∷ rest) is go_on = absurd is
 goes_on_only_name (AWord word ∷ []) is go_on = named is go_on
 
 pub stops_at_only_name : (parts : List Lexeme) {code : TextCode} → NoOnlyName parts code → (go_on : Word → Told) → only_name_then parts go_on ≡ Err code

@@ -1,13 +1,11 @@
 -- What a line is, from what was found out of its tokens and their form.
-use Rattle.std.proofs.Common.{◌≡◌, ℕ, ◌≤◌, List, [], ◌∷◌, false, Option, None, Ok, Err, length, refl, sym, ap, ◌∙◌, subst}
-use Rattle.itpg_base.specs.Words.{Word}
+use Rattle.std.proofs.Common.{◌≡◌, ℕ, ◌≤◌, List, [], ◌∷◌, false, Option, None, Err, length, refl, sym, ap, ◌∙◌, subst}
 use Rattle.itpg_base.specs.declared.text_code.TextCode.{TextCode}
 use Rattle.edit_reader.specs.declared.reading.TheConstants.{MAX_LINE}
 use Rattle.script_lex.specs.declared.token.TheConstants.{MAX_TOKENS}
 use Rattle.script_lex.specs.Lexemes.{Lexeme, AWord, ANumber, AQuote, AMark}
 use Rattle.script_lex.specs.Lines.{Placed, AreTokens}
 use Rattle.script_lex.proofs.OneList.{tokens_exist}
-use Rattle.edit_reader.specs.Readings.{Nothing}
 use Rattle.edit_reader.specs.Forms.{form_of, parts_of, lexemes}
 use Rattle.edit_reader.specs.Faults.{is_silent}
 use Rattle.edit_reader.specs.Lines.{TakenAs}
