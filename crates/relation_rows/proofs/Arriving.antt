@@ -9,7 +9,7 @@ use Rattle.band_normal.specs.declared.band.End.TheVariants.{Fixed, Moving}
 use Rattle.band_normal.specs.declared.band.Band.{Band}
 use Rattle.itpg_base.specs.Lists.{Among}
 use Rattle.band_normal.specs.Bands.{IsWellFormed, end_at}
-use Rattle.itpg_base.proofs.Lists.{among_append, among_at}
+use Rattle.itpg_base.proofs.Lists.{among_append}
 use Rattle.relation_rows.specs.declared.rows.Row.{Row}
 use Rattle.relation_rows.specs.declared.times.OneRow.{OneRow}
 use Rattle.relation_rows.specs.declared.times.Side.{Side}

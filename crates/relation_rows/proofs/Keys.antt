@@ -1,21 +1,20 @@
 -- The first items of a list in order that have one source and one target, and the rows in order that do.
-use Rattle.std.proofs.Common.{◌≡◌, ◌⊎◌, inl, inr, ⊎_elim, ℕ, ◌<◌, ◌≤◌, List, length, get_or, take, drop, Some, refl, sym, ◌∙◌, ap, subst, arith, Bool, true, false, true≢false}
+use Rattle.std.proofs.Common.{◌≡◌, ◌⊎◌, inl, inr, ⊎_elim, ℕ, ◌<◌, ◌≤◌, List, length, get_or, take, drop, Some, refl, sym, ◌∙◌, ap, subst, arith, true, false, true≢false}
 use Rattle.std.specs.Prelude.{slice_get}
 use Rattle.std.specs.List.Sorted.{IsPartitionedBy, IsPartitionPoint}
 use Rattle.std.proofs.lemmas.Bool.Decides.{eqb_tells}
 use Rattle.std.proofs.lemmas.Option.{slice_get_within, get_or_from_slice_get}
 use Rattle.std.proofs.lemmas.Bool.Decides.{Decides-ltb}
-use Rattle.std.proofs.lemmas.List.{take_all, take-append-drop, length-drop}
-use Rattle.std.specs.Prelude.{◌↔◌, ◌-◌, ◌||◌}
+use Rattle.std.specs.Prelude.{◌↔◌, ◌-◌}
 use Rattle.itpg_base.specs.Lists.{Among, Ordered}
-use Rattle.itpg_base.proofs.Lists.{among_at, ordered_by_place, ordered_first}
+use Rattle.itpg_base.proofs.Lists.{among_at, ordered_by_place}
 use Rattle.relation_rows.specs.declared.rows.Row.{Row}
 use Rattle.relation_rows.specs.Rows.{KeyBefore, RowBefore, HasKey}
 use Rattle.relation_rows.specs.Searching.{comes_before, has_key}
 use Rattle.relation_rows.specs.Relations.{Item}
 use Rattle.relation_rows.specs.Gathering.{HaveOneKey, have_one_key, ItemUpTo}
 use Rattle.relation_rows.proofs.Listed.{key_apart, keys_apart, key_tells}
-use Rattle.relation_rows.proofs.Partitions.{among_before, among_behind, among_either, front_among, rest_among, rest_ordered, first_before, front_ordered}
+use Rattle.relation_rows.proofs.Partitions.{among_before, among_behind, rest_among, rest_ordered, first_before, front_ordered}
 use Rattle.relation_rows.proofs.SearchLemmas.{early_partitioned, fits_partitioned, fitting_rows}
 
 one_key_is : (i j : Item) → have_one_key i j ≡ true → HaveOneKey j i

@@ -2,14 +2,14 @@
 use Rattle.std.proofs.Common.{◌≡◌, ◌↔◌, ◌⊎◌, inl, inr, ⊎_elim, ℕ, zero, suc, ◌+◌, ◌-◌, ◌<◌, ◌≤◌, ℤ, List, [], ◌∷◌, ◌++◌, length, map, get_or, take, drop, Some, None, refl, sym, ◌∙◌, ap, subst, arith, Bool, true, false, true≢false}
 use Rattle.std.specs.Prelude.{slice_get}
 use Rattle.std.specs.List.Sorted.{IsPartitionedBy, IsPartitionPoint}
-use Rattle.std.proofs.lemmas.List.{take_all, take-append-drop, length-drop}
+use Rattle.std.proofs.lemmas.List.{take_all, length-drop}
 use Rattle.itpg_base.specs.Points.{Point}
 use Rattle.band_normal.specs.declared.band.Band.{Band}
 use Rattle.itpg_base.specs.Lists.{Among, Ordered}
 use Rattle.band_normal.specs.Bands.{InBand, IsWellFormed}
 use Rattle.band_normal.specs.Normal.{IsRow, IsBefore, Normal}
 use Rattle.band_normal.specs.Zones.{SomeMeets}
-use Rattle.itpg_base.proofs.Lists.{among_at, among_append, ordered_first}
+use Rattle.itpg_base.proofs.Lists.{among_at, among_append}
 use Rattle.band_normal.proofs.Sorting.{normal_like}
 use Rattle.relation_rows.specs.declared.rows.Row.{Row}
 use Rattle.relation_rows.specs.Rows.{between, HasKey, RowsHold, RowBefore, KeyBefore, NormalRows, IsWide, IsRelation, rows_at}

@@ -1,10 +1,9 @@
 -- The first rows of a list in order that have one source, all that have one, and those of busy sources.
-use Rattle.std.proofs.Common.{◌≡◌, ◌↔◌, ◌⊎◌, inl, inr, ⊎_elim, ℕ, ◌-◌, ◌<◌, ◌≤◌, List, [], ◌∷◌, ◌++◌, length, get_or, take, drop, Some, None, refl, sym, ◌∙◌, subst, arith, Bool, true, false, true≢false}
-use Rattle.std.specs.Prelude.{slice_get, ◌==◌, nat_lt}
+use Rattle.std.proofs.Common.{◌≡◌, ◌↔◌, ◌⊎◌, inl, inr, ⊎_elim, ℕ, ◌<◌, ◌≤◌, List, [], ◌∷◌, ◌++◌, length, get_or, take, drop, Some, None, refl, sym, ◌∙◌, subst, arith, Bool, true, false, true≢false}
+use Rattle.std.specs.Prelude.{slice_get, ◌==◌}
 use Rattle.std.specs.List.Sorted.{IsPartitionedBy, IsPartitionPoint}
-use Rattle.std.proofs.lemmas.Bool.{cases_lt}
-use Rattle.std.proofs.lemmas.Bool.Decides.{eqb_tells, Decides-ltb}
-use Rattle.std.proofs.lemmas.List.{take_all, take-append-drop, length-drop}
+use Rattle.std.proofs.lemmas.Bool.Decides.{eqb_tells}
+use Rattle.std.proofs.lemmas.List.{take-append-drop}
 use Rattle.std.proofs.lemmas.Option.{slice_get_within, get_or_from_slice_get}
 use Rattle.itpg_base.specs.Points.{Point}
 use Rattle.itpg_base.specs.Lists.{Among, Ordered}

@@ -1,8 +1,7 @@
 -- A difference, one source and target after the other.
-use Rattle.std.proofs.Common.{◌≡◌, ◌↔◌, ◌⊎◌, inl, inr, ⊎_elim, ℕ, ◌-◌, ◌<◌, ◌≤◌, ℤ, List, [], ◌∷◌, length, get_or, take, drop, Some, None, refl, sym, ◌∙◌, ap, subst, arith, Bool, true, false, true≢false}
+use Rattle.std.proofs.Common.{◌≡◌, ◌↔◌, ◌⊎◌, inl, inr, ⊎_elim, ℕ, ◌<◌, ◌≤◌, ℤ, List, [], length, take, drop, Some, None, refl, sym, ◌∙◌, subst, arith, true, false, true≢false}
 use Rattle.std.specs.Prelude.{slice_get}
 use Rattle.std.specs.List.Sorted.{IsPartitionedBy, IsPartitionPoint}
-use Rattle.std.proofs.lemmas.List.{take_all}
 use Rattle.std.proofs.lemmas.Bool.Decides.{eqb_tells}
 use Rattle.std.proofs.lemmas.Option.{slice_get_within, get_or_from_slice_get}
 use Rattle.itpg_base.specs.Points.{Point}
@@ -10,16 +9,14 @@ use Rattle.zone_core.specs.declared.Bounds.{Bounds}
 use Rattle.itpg_base.specs.Lists.{Among, Ordered}
 use Rattle.band_normal.specs.Bands.{IsWellFormed}
 use Rattle.band_normal.specs.Zones.{SomeMeets}
-use Rattle.itpg_base.proofs.Lists.{among_at}
 use Rattle.relation_rows.specs.declared.rows.Row.{Row}
 use Rattle.relation_rows.specs.Rows.{HasKey, RowsHold, RowBefore}
 use Rattle.relation_rows.specs.Relations.{Item, ItemsHold, OnlyFirstHolds}
-use Rattle.relation_rows.specs.Searching.{has_key, comes_before}
+use Rattle.relation_rows.specs.Searching.{has_key}
 use Rattle.relation_rows.specs.Uniting.{SomeHasBand}
 use Rattle.relation_rows.specs.Minus.{OnlyFirstHasBand}
-use Rattle.relation_rows.proofs.Listed.{key_apart, keys_apart}
-use Rattle.relation_rows.proofs.Keys.{key_is, is_key, key_partitioned, comes_is}
-use Rattle.relation_rows.proofs.Partitions.{among_before, among_either, front_among, rest_among, rest_ordered, first_before, no_first}
+use Rattle.relation_rows.proofs.Keys.{is_key}
+use Rattle.relation_rows.proofs.Partitions.{among_either, front_among, rest_among, rest_ordered, no_first}
 use Rattle.relation_rows.proofs.Merged.{all_up, leading_partitioned, leading_same}
 
 -- ---- the first rows that have one source and target
