@@ -8,7 +8,7 @@ use Rattle.zone_core.specs.Zone.{Meets, Holds as ZoneHolds}
 use Rattle.band_normal.specs.declared.band.Band.{Band}
 use Rattle.itpg_base.specs.Lists.{Among}
 use Rattle.band_normal.specs.Bands.{end_at, IsWellFormed}
-use Rattle.band_normal.specs.Normal.{IsRun, IsRow, IsStrip}
+use Rattle.band_normal.specs.Normal.{IsRow, IsStrip}
 use Rattle.band_normal.specs.Zones.{SomeMeets}
 use Rattle.band_normal.specs.Strips.{Holds}
 use Rattle.band_normal.specs.Rows.{AreApart, AreAll}
@@ -19,6 +19,7 @@ use Rattle.itpg_base.proofs.Lists.{among_append, append_ordered}
 use Rattle.band_normal.proofs.WellFormed.{row-well_formed, held-in_range}
 use Rattle.band_normal.proofs.Zoning.{some-append, holds-append, more_formed}
 use Rattle.band_normal.proofs.Far.{all_like, all-holds}
+use Rattle.band_normal.proofs.Sorting.{run_like}
 
 -- one zone more of those that are cut, for any test of the departure
 pub cut_more : (Test : ℤ → Type 0) (zones : List Bounds) (i : ℕ) (z d : Bounds) (place : Option Bounds) (front front' : List Bounds) → i < length zones → z ≡ get_or zones i d → front' ≡ front ++ option_to_list place
@@ -84,16 +85,13 @@ cut_strips zones front back limit xs ys f g a b = record {
           };
     }
 
-run_same : (R S : ℤ → ℤ → Type 0) → ((t u : ℤ) → R t u ↔ S t u) → (t l h : ℤ) → IsRun R t l h → IsRun S t l h
-run_same R S f t l h r = record { some = r.some; each = λ u a b. (f t u).0 (r.each u a b); below = λ s. r.below ((f t (l -ℤ pos 1)).1 s); above = λ s. r.above ((f t (h +ℤ pos 1)).1 s) }
-
 pub strips-hold : (R : ℤ → ℤ → Type 0) (strips : List Band) → AreStrips R strips → (t u : ℤ) → Holds strips t u ↔ R t u
 strips-hold R strips a t u = (λ h. ((a.each h.0 h.1).runs t h.2.from h.2.to).each u h.2.low h.2.high, a.whole t u)
 
 -- strips of a relation are strips of what they hold
 pub strips_own : (R : ℤ → ℤ → Type 0) (strips : List Band) → AreStrips R strips → AreStrips (Holds strips) strips
 strips_own R strips a = record {
-  each = λ b i. let s = a.each b i in record { span = s.span; runs = λ t p q. run_same R (Holds strips) (λ v u. let f = strips-hold R strips a v u in (f.1, f.0)) t _ _ (s.runs t p q) };
+  each = λ b i. let s = a.each b i in record { span = s.span; runs = λ t p q. run_like R (Holds strips) (λ v u. let f = strips-hold R strips a v u in (f.1, f.0)) t _ _ (s.runs t p q) };
   whole = λ t u h. h;
   apart = a.apart;
 }

@@ -14,9 +14,6 @@ use Rattle.itpg_base.proofs.Lists.{among_append, append_first, append_second, ap
 use Rattle.band_normal.proofs.Unique.{same_run, continued_one, steps_near}
 use Rattle.band_normal.proofs.Sorting.{clamped-end}
 
-flip_apart : (x y : Band) → AreApart x y → AreApart y x
-flip_apart x y h t u i j = h t u j i
-
 pub not_none : (b : Band) → None ≡ Some b → ⊥
 not_none b e = let none : ⊥ = cc in none
 

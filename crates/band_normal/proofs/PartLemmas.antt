@@ -28,6 +28,7 @@ use Rattle.band_normal.proofs.Zoning.{some-append, holds-append, more_formed}
 use Rattle.band_normal.proofs.Sorting.{normal_like, swept_all}
 use Rattle.band_normal.proofs.Sweeping.{holds-permutation}
 use Rattle.band_normal.proofs.Far.{Either, all_like, all_both, all-holds}
+use Rattle.band_normal.proofs.Prolonging.{one_held}
 
 pub some_in : (zones : List Bounds) (t u : ℤ) → SomeMeets zones t u → (z : Bounds) × Among zones z × Meets z t u
 some_in [] t u h = absurd h
@@ -217,11 +218,8 @@ zones_more rows i d z zones zones' lt e one f t u =
     let m = one t u in
     subst P (sym e) (subst Q (sym (take_more rows i d lt)) (
       λ k. y.1 (⊎_elim (λ a. inl (h.0 a)) (λ a. inr (b, inl refl, m.0 (⊎_elim (λ q. q) absurd a))) (x.0 k)),
-      λ k. x.1 (⊎_elim (λ a. inl (h.1 a)) (λ a. inr (inl (m.1 (only_held b t u a)))) (y.0 k)),
+      λ k. x.1 (⊎_elim (λ a. inl (h.1 a)) (λ a. inr (inl (m.1 (one_held b t u a)))) (y.0 k)),
     ))
-  where
-    only_held : (b : Band) (t u : ℤ) → Holds (b ∷ []) t u → InBand b t u
-    only_held b t u h = subst (λ (v : Band). InBand v t u) (⊎_elim (λ e. sym e) absurd h.1) h.2
 
 -- sorted bands can be swept
 pub can_sweep : (bands sorted xs ys : List Band) (s : Stretch) → ((b : Band) → Among bands b → IsWellFormed b) → IsPermutation bands sorted → Ordered BeginsEarlier sorted → xs ≡ sorted → ys ≡ sorted → Covers xs s → CanSweep ys ys s

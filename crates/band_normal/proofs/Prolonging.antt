@@ -32,7 +32,7 @@ in-alone b a t u h i =
 held_one : (b : Band) (t u : ℤ) → InBand b t u → Holds (b ∷ []) t u
 held_one b t u i = (b, inl refl, i)
 
-one_held : (b : Band) (t u : ℤ) → Holds (b ∷ []) t u → InBand b t u
+pub one_held : (b : Band) (t u : ℤ) → Holds (b ∷ []) t u → InBand b t u
 one_held b t u h = ⊎_elim (λ (e : b ≡ h.0). subst (λ (v : Band). InBand v t u) (sym e) h.2) (λ k. absurd k) h.1
 
 only : (b c : Band) → Among (b ∷ []) c → b ≡ c

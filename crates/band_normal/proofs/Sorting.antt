@@ -166,7 +166,7 @@ swept_all held bands s complete reaching c h =
       all = rows_all (Holds bands) s.to complete reaching (λ t u w. let a = c.covers.to w.0 w.1 in let b = w.2.to in omega (arith, ints)) (subst P c.same h);
     })
 
-run_like : (R S : ℤ → ℤ → Type 0) → ((t u : ℤ) → R t u ↔ S t u) → (t l h : ℤ) → IsRun R t l h → IsRun S t l h
+pub run_like : (R S : ℤ → ℤ → Type 0) → ((t u : ℤ) → R t u ↔ S t u) → (t l h : ℤ) → IsRun R t l h → IsRun S t l h
 run_like R S f t l h r = record { some = r.some; each = λ u a b. (f t u).0 (r.each u a b); below = λ s. r.below ((f t (l -ℤ pos 1)).1 s); above = λ s. r.above ((f t (h +ℤ pos 1)).1 s) }
 
 pub row_like : (R S : ℤ → ℤ → Type 0) (b : Band) → ((t u : ℤ) → R t u ↔ S t u) → IsRow R b → IsRow S b

@@ -13,6 +13,7 @@ use Rattle.band_normal.specs.declared.band.End.TheVariants.{Fixed, Moving}
 use Rattle.band_normal.specs.declared.band.Band.{Band}
 use Rattle.band_normal.proofs.Unique.{same_run}
 use Rattle.band_normal.proofs.WellFormed.{near-in_range, row-well_formed}
+use Rattle.band_normal.proofs.Extended.{run_as}
 
 -- the run of a tight zone at a departure
 pub zone_run : (k : Bounds) → IsTight k → (t : ℤ) → k.a ≤ℤ t → t ≤ℤ k.b → IsRun (Meets k) t (int_max k.c (t +ℤ k.e)) (int_min k.d (t +ℤ k.f))
@@ -60,9 +61,6 @@ high_at k from to low high f t a b = by_lt_z from to
     let one : from ≡ to = let s = f.span in omega (arith, ints) in
     let here : from ≡ t = omega (arith, ints) in
     at_end high (Fixed (int_min k.d (from +ℤ k.f))) t (f.high_single one) ∙ ap (λ (v : ℤ). int_min k.d (v +ℤ k.f)) here)
-
-run_as : (R : ℤ → ℤ → Type 0) (t l l' h h' : ℤ) → l ≡ l' → h ≡ h' → IsRun R t l' h' → IsRun R t l h
-run_as R t l l' h h' p q r = subst (λ (v : ℤ). IsRun R t v h) (sym p) (subst (λ (v : ℤ). IsRun R t l' v) (sym q) r)
 
 stops_there : (k : Bounds) (from to : ℤ) (low high : End) → IsTight k → Facts k from to low high → (l h : ℤ) → IsRun (Meets k) (to +ℤ pos 1) l h
     → (from <ℤ to) × (¬ ((end_at low (to +ℤ pos 1) ≡ l) × (end_at high (to +ℤ pos 1) ≡ h)))

@@ -13,7 +13,7 @@ use crate::links::link;
 use crate::rows::push_some;
 use crate::strips::Stretch;
 use std::alloc::{AllocError, Global};
-use zone_core::{Bounds, Zone, tight};
+use zone_core::{Bounds, Zone, after, tight};
 
 // With fewer begins and ends than these, zones are cut in the middle of all departures.
 const FEW_TURNS: u64 = 16;
@@ -34,19 +34,6 @@ fn up_to(mut k: Bounds, limit: Cut) -> Option<Zone>
     tight(k)
 }
 
-// What it has after the cut.
-fn after(mut k: Bounds, limit: Cut) -> Option<Zone>
-    requires k_near { IsNear k }
-    requires limit_near { Within moment_reach limit.last }
-    ensures { (t : ℤ) → (u : ℤ) → Holds result t u ↔ (Meets k t u × (limit.last <ℤ t)) }
-{
-    if k.b <= limit.last {
-        return None;
-    }
-    k.a = k.a.max(limit.last + 1);
-    tight(k)
-}
-
 // The zones' pairs up to a departure, and those after it.
 fn parts_at(alloc: Global, zones: &[Zone], limit: Cut) -> Result<(Vec<Zone>, Vec<Zone>), AllocError>
     requires { Within moment_reach limit.last }
@@ -58,7 +45,7 @@ fn parts_at(alloc: Global, zones: &[Zone], limit: Cut) -> Result<(Vec<Zone>, Vec
     for zone in zones {
         let bounds = zone.bounds();
         push_some(&mut front, up_to(bounds, limit))?;
-        push_some(&mut back, after(bounds, limit))?;
+        push_some(&mut back, after(bounds, limit.last))?;
     }
     Ok((front, back))
 }

@@ -5,7 +5,8 @@
 //! never have low ends that differ by one or not at all, so of all rows under way a strip can continue only the one at the first
 //! place that isn't before its corner: two searches a strip, and no row is moved.
 
-ghost use Rattle.std.specs.Prelude.{◌≡◌, ◌↔◌, ◌++◌, ◌≤◌, ◌<◌, ℕ, ℤ, List, Option, None, Some, [], IsTrue, IfOk, IfSome, IfNone, length, get_or, slice_set, pos, ◌-ℤ◌, FitsSigned};
+ghost use Rattle.std.specs.Prelude.{◌≡◌, ◌↔◌, ◌++◌, ◌≤◌, ◌<◌, [], ◌-ℤ◌};
+ghost use Rattle.std.specs.Prelude.{ℕ, ℤ, List, Option, None, Some, IsTrue, IfOk, IfSome, IfNone, length, get_or, slice_set, pos, FitsSigned};
 ghost use Rattle.std.specs.Int.{w64};
 ghost use Rattle.std.specs.Option.{option_to_list};
 ghost use Rattle.std.specs.List.Sorted.{IsPermutation};

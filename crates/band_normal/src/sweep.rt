@@ -49,7 +49,7 @@ pub enum Effort {
 
 ghost use Rattle.band_normal.specs.declared.sweep.Effort.{Effort};
 
-/// Adds the bands that there are.
+/// Adds the bands that there are. An error says that memory ran out; the first of them may have been added.
 pub fn push_present(bands: &mut Vec<Band>, more: [Option<Band>; 3]) -> Result<(), AllocError>
     ensures { OnOk result (bands.new.items ≡ bands.old.items ++ present more) }
 {

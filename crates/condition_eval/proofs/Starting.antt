@@ -19,72 +19,10 @@ use Rattle.condition_eval.specs.Tested.{StartsAt, HasHorizon}
 use Rattle.condition_eval.proofs.Marked.{point}
 use Rattle.condition_eval.proofs.Points.{in_horizon}
 
-abbrev pub comes_before : ℕ → OneRow → Bool
-comes_before o r = nat_lt r.object.0 o
-
-abbrev pub is_of : ℕ → OneRow → Bool
-is_of o r = r.object.0 == o
-
-before_is : (o : ℕ) (r : OneRow) → comes_before o r ≡ true → r.object.0 < o
-before_is o r e = grind (arith, Decides-ltb)
-
-is_before : (o : ℕ) (r : OneRow) → r.object.0 < o → comes_before o r ≡ true
-is_before o r l = grind (arith, Decides-ltb)
-
-of_is : (o : ℕ) (r : OneRow) → is_of o r ≡ true → r.object.0 ≡ o
-of_is o r e = ⊎_elim (λ k. k.1) (λ k. absurd (true≢false (sym e ∙ k.0))) (eqb_tells r.object.0 o)
-
-is_of_it : (o : ℕ) (r : OneRow) → r.object.0 ≡ o → is_of o r ≡ true
-is_of_it o r e = ⊎_elim (λ k. k.0) (λ k. absurd (k.1 e)) (eqb_tells r.object.0 o)
-
-up : (r s : OneRow) → TimeBefore r s → r.object.0 ≤ s.object.0
-up r s (inl l) = omega arith
-up r s (inr b) = let e = b.0 in omega arith
-
-module _ (rows : List OneRow) (o : ℕ) (order : Ordered TimeBefore rows) where
-  pub before_partitioned : IsPartitionedBy (comes_before o) rows
-  before_partitioned i j d le lt e = elim (eqb_tells i j) [
-    | inl s ↦ subst (λ (v : ℕ). comes_before o (get_or rows v d) ≡ true) (sym s.1) e
-    | inr n ↦ (
-        let b = before_is o (get_or rows j d) e in
-        let u = up (get_or rows i d) (get_or rows j d) (ordered_by_place TimeBefore rows order i j d (let ne = n.1 in omega arith) lt) in
-        is_before o (get_or rows i d) (omega arith)
-        )
-  ]
-
-  module _ (n : ℕ) (bound : n ≤ length rows) (point : IsPartitionPoint (λ (r : OneRow). comes_before o r ≡ true) (λ (r : OneRow). comes_before o r ≡ false) rows n)
-      (from : List OneRow) (is : from ≡ take (length rows - n) (drop n rows)) where
-    from_is : from ≡ drop n rows
-    from_is = is ∙ take_all (length rows - n) (drop n rows) (omega (arith, length-drop n rows))
-
-    late : (r : OneRow) → Among from r → o ≤ r.object.0
-    late r a =
-        let f = among_behind (λ (s : OneRow). comes_before o s ≡ false) rows n bound point.1 r (subst (λ (v : List OneRow). Among v r) from_is a) in
-        grind (arith, Decides-ltb)
-
-    order_from : Ordered TimeBefore from
-    order_from = subst (λ (v : List OneRow). Ordered TimeBefore v) (sym from_is) (rest_ordered TimeBefore rows n order)
-
-    pub of_partitioned : IsPartitionedBy (is_of o) from
-    of_partitioned i j d le lt e = elim (eqb_tells i j) [
-      | inl s ↦ subst (λ (v : ℕ). is_of o (get_or from v d) ≡ true) (sym s.1) e
-      | inr m ↦ (
-          let here = of_is o (get_or from j d) e in
-          let u = up (get_or from i d) (get_or from j d) (ordered_by_place TimeBefore from order_from i j d (let ne = m.1 in omega arith) lt) in
-          let l = late (get_or from i d) (among_at from i d (omega arith)) in
-          is_of_it o (get_or from i d) (omega arith)
-          )
-    ]
-
-    pub object_rows : (m : ℕ) → m ≤ length from → IsPartitionPoint (λ (r : OneRow). is_of o r ≡ true) (λ (r : OneRow). is_of o r ≡ false) from m → (r : OneRow) → Among (take m from) r ↔ (Among rows r × (r.object.0 ≡ o))
-    object_rows m within split r = (
-      λ a. (rest_among rows n r (subst (λ (v : List OneRow). Among v r) from_is (front_among from m r a)), of_is o r (among_before (λ (s : OneRow). is_of o s ≡ true) from m within split.0 r a)),
-      λ h. ⊎_elim
-          (λ t. absurd (let b = before_is o r (among_before (λ (s : OneRow). comes_before o s ≡ true) rows n bound point.0 r t) in let e = h.1 in omega arith))
-          (λ d. ⊎_elim (λ f. f) (λ l. absurd (true≢false (sym (is_of_it o r h.1) ∙ among_behind (λ (s : OneRow). is_of o s ≡ false) from m within split.1 r l)))
-          (among_either from m r (subst (λ (v : List OneRow). Among v r) (sym from_is) d)))
-          (among_either rows n r h.0),
-    )
+-- objects never fall along the list
+pub object_up : (r s : OneRow) → TimeBefore r s → r.object.0 ≤ s.object.0
+object_up r s (inl l) = omega arith
+object_up r s (inr b) = let e = b.0 in omega arith
 
 -- some row of the list has the moment
 abbrev pub SomeHas : List OneRow → ℤ → Type 0

@@ -5,6 +5,8 @@ pub mod Stepping
 pub mod FormSteps
 pub mod Ordered
 pub mod PartFaults
+pub mod PartSteps
+pub mod PartsTaken
 pub mod Firsts
 pub mod Whole
 pub mod LongLines

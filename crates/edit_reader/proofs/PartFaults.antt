@@ -13,6 +13,7 @@ use Rattle.script_lex.specs.Lexemes.{Lexeme, AWord, ANumber, AQuote, AMark}
 use Rattle.script_lex.specs.Numbers.{digits_of, number_value}
 use Rattle.edit_reader.specs.Faults.{HasFarNumber, HasLongName}
 use Rattle.edit_reader.specs.Steps.{Told, is_near, moment_then, name_then}
+use Rattle.edit_reader.specs.Taken.{Writes, IsFar, Names, IsLong}
 use Rattle.edit_reader.specs.Telling.{near, short}
 
 -- a number is a moment where its digits write no more than the greatest number, and only there
@@ -31,24 +32,24 @@ pub far_moment : (number : List ℕ) → is_near number ≡ false → ¬ IsMomen
 far_moment number e = great_moment (nat_eq (slice_index number 0) 45) (digits_value 10 (digits_of number)) (leb-false _ _ e)
 
 -- how reading goes on with a number, and with a text that is to be a name
-pub at_moment : (number : List ℕ) {value : ℤ} → IsMoment (number_value number) × (value ≡ number_value number) → (go_on : ℤ → Told) → moment_then number go_on ≡ go_on value
+pub at_moment : (number : List ℕ) {value : ℤ} → Writes number value → (go_on : ℤ → Told) → moment_then number go_on ≡ go_on value
 at_moment number {value = value} is go_on = by_test (is_near number) refl
   where
     by_test : (t : Bool) → is_near number ≡ t → moment_then number go_on ≡ go_on value
     by_test true e = rw e (ap go_on (sym is.1))
     by_test false e = absurd (far_moment number e is.0)
 
-pub at_none : (number : List ℕ) {code : TextCode} → (code ≡ TextCode.Number) × (¬ IsMoment (number_value number)) → (go_on : ℤ → Told) → moment_then number go_on ≡ Err code
+pub at_none : (number : List ℕ) {code : TextCode} → IsFar number code → (go_on : ℤ → Told) → moment_then number go_on ≡ Err code
 at_none number {code = code} is go_on = by_test (is_near number) refl
   where
     by_test : (t : Bool) → is_near number ≡ t → moment_then number go_on ≡ Err code
     by_test true e = absurd (is.1 (near_moment number e))
     by_test false e = rw e (ap Err (sym is.0))
 
-pub named : {text name : Word} → (length text ≤ MAX_NAME) × (name ≡ text) → (go_on : Word → Told) → name_then text go_on ≡ go_on name
+pub named : {text name : Word} → Names text name → (go_on : Word → Told) → name_then text go_on ≡ go_on name
 named {text = text} is go_on = rw (le-leb (length text) MAX_NAME is.0) (ap go_on (sym is.1))
 
-pub overlong : (text : Word) {code : TextCode} → (code ≡ TextCode.Name) × (MAX_NAME < length text) → (go_on : Word → Told) → name_then text go_on ≡ Err code
+pub overlong : (text : Word) {code : TextCode} → IsLong text code → (go_on : Word → Told) → name_then text go_on ≡ Err code
 overlong text is go_on = rw (lt-leb (length text) MAX_NAME is.1) (ap Err (sym is.0))
 
 -- some number is too far, or none is

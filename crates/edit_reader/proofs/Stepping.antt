@@ -16,3 +16,7 @@ module _ {line left : List ℕ} {at : ℕ} {tokens : List Placed} {bytes : List 
 
   pub quoted_step : (t : IsTaken line tokens (AQuote bytes) left at) (go_on : Word → List Lexeme → Told) → quoted_then (lexemes tokens) go_on ≡ go_on bytes (lexemes t.rest)
   quoted_step t go_on = ap (λ (ts : List Placed). quoted_then (lexemes ts) go_on) t.are ∙ ap (λ (w : Lexeme). quoted_then (w ∷ lexemes t.rest) go_on) t.what_is
+
+-- the tokens are the one that was taken, and those behind it
+pub taken_parts : {line left : List ℕ} {at : ℕ} {tokens : List Placed} {what : Lexeme} → (t : IsTaken line tokens what left at) → lexemes tokens ≡ what ∷ lexemes t.rest
+taken_parts t = ap (λ (ts : List Placed). lexemes ts) t.are ∙ ap (λ (w : Lexeme). w ∷ lexemes t.rest) t.what_is

@@ -1,18 +1,17 @@
 -- What a line is, from what was found out of its tokens and their form.
-use Rattle.std.proofs.Common.{◌≡◌, ℕ, ◌≤◌, List, [], ◌∷◌, false, Option, None, Ok, Err, length, refl, sym, ap, ◌∙◌, subst}
-use Rattle.itpg_base.specs.Words.{Word}
+use Rattle.std.proofs.Common.{◌≡◌, ℕ, ◌≤◌, List, [], ◌∷◌, false, Option, None, Err, length, refl, sym, ap, ◌∙◌, subst}
 use Rattle.itpg_base.specs.declared.text_code.TextCode.{TextCode}
 use Rattle.edit_reader.specs.declared.reading.TheConstants.{MAX_LINE}
 use Rattle.script_lex.specs.declared.token.TheConstants.{MAX_TOKENS}
 use Rattle.script_lex.specs.Lexemes.{Lexeme, AWord, ANumber, AQuote, AMark}
 use Rattle.script_lex.specs.Lines.{Placed, AreTokens}
 use Rattle.script_lex.proofs.OneList.{tokens_exist}
-use Rattle.edit_reader.specs.Readings.{Nothing}
 use Rattle.edit_reader.specs.Forms.{form_of, parts_of, lexemes}
 use Rattle.edit_reader.specs.Faults.{is_silent}
 use Rattle.edit_reader.specs.Lines.{TakenAs}
 use Rattle.edit_reader.specs.Scans.{IsScanFault}
-use Rattle.edit_reader.specs.Steps.{Told, word_then}
+use Rattle.edit_reader.specs.Steps.{Told}
+use Rattle.edit_reader.specs.Taken.{NoWord}
 use Rattle.edit_reader.specs.Telling.{form_told}
 use Rattle.edit_reader.proofs.Firsts.{told_line}
 use Rattle.edit_reader.proofs.Counting.{good_told}
@@ -32,12 +31,12 @@ module _ (body : List ℕ) (few : length body ≤ MAX_LINE) (loud : is_silent bo
       subst (TakenAs body) (good_told t.1.0 (length t.0) (form_told (form_of body t.0) (parts_of t.0)) g.0 g.1 ∙ sym (form t.0 (subst (AreTokens body 0 t.0) g.0 t.1.1))) line
 
 -- where the tokens begin with no word they are no form
-pub no_word : (line : List ℕ) (tokens : List Placed) (code : TextCode) → ((go_on : Word → List Lexeme → Told) → word_then (lexemes tokens) go_on ≡ Err code) → Err code ≡ form_told (form_of line tokens) (parts_of tokens)
-no_word line [] code err = sym (err (λ w rest. Ok Nothing))
-no_word line (t ∷ ts) code err = by_what t.what refl
+pub no_word : (line : List ℕ) (tokens : List Placed) (code : TextCode) → (code ≡ TextCode.Text) × NoWord (lexemes tokens) → Err code ≡ form_told (form_of line tokens) (parts_of tokens)
+no_word line [] code is = ap Err is.0
+no_word line (t ∷ ts) code is = by_what t.what refl
   where
     by_what : (w : Lexeme) → t.what ≡ w → Err code ≡ form_told (form_of line (t ∷ ts)) (parts_of (t ∷ ts))
-    by_what (AWord word) e = let h : word_then (AWord word ∷ lexemes ts) (λ w rest. Ok Nothing) ≡ Err code = ap (λ (w : Lexeme). word_then (w ∷ lexemes ts) (λ w rest. Ok Nothing)) (sym e) ∙ err (λ w rest. Ok Nothing) in absurd (let none : ⊥ = cc in none)
-    by_what (ANumber number) e = sym (err (λ w rest. Ok Nothing)) ∙ rw e refl
-    by_what (AQuote text) e = sym (err (λ w rest. Ok Nothing)) ∙ rw e refl
-    by_what (AMark mark) e = sym (err (λ w rest. Ok Nothing)) ∙ rw e refl
+    by_what (AWord word) e = absurd (subst (λ (w : Lexeme). NoWord (w ∷ lexemes ts)) e is.1)
+    by_what (ANumber number) e = rw e (ap Err is.0)
+    by_what (AQuote text) e = rw e (ap Err is.0)
+    by_what (AMark mark) e = rw e (ap Err is.0)

@@ -1,13 +1,10 @@
 //! The tokens of a line, taken one by one.
-ghost use Rattle.std.specs.Prelude.{◌≡◌, ◌<◌, ◌≤◌, List, length, drop, None, IfOk, IfErr, IfSome, MatchOption, MatchResult, Err, [], ℕ, ℤ};
-ghost use Rattle.itpg_base.specs.Spans.{IsMoment};
-ghost use Rattle.itpg_base.specs.Words.{Word};
-ghost use Rattle.script_lex.specs.Lexemes.{Lexeme, lexeme, AWord, ANumber, AQuote};
-ghost use Rattle.script_lex.specs.Lines.{Placed};
-ghost use Rattle.script_lex.specs.Numbers.{HasNumber, IsNumber, number_value};
+ghost use Rattle.std.specs.Prelude.{◌≡◌, ◌≢◌, ◌≤◌, length, drop, IfOk, IfErr, IfSome, MatchOption, MatchResult, []};
+ghost use Rattle.script_lex.specs.Lexemes.{lexeme, AWord, ANumber, AQuote};
+ghost use Rattle.script_lex.specs.Numbers.{HasNumber, IsNumber};
 ghost use Rattle.edit_reader.specs.Forms.{lexemes};
-ghost use Rattle.edit_reader.specs.Steps.{Told, word_then, number_then, quoted_then, end_then, span_then, name_and_span_then, only_name_then};
-ghost use Rattle.edit_reader.specs.Taken.{OfRest, IsTaken};
+ghost use Rattle.edit_reader.specs.Taken.{OfRest, IsTaken, NoWord, NoNumber, NoQuoted, Writes, IsFar, Names, IsLong};
+ghost use Rattle.edit_reader.specs.Taken.{AreSpan, NoSpan, AreNameAndSpan, NoNameAndSpan, IsOnlyName, NoOnlyName};
 
 use itpg_base::{MAX_NAME, Name, TextCode};
 use script_lex::{What, next_token, value_of};
@@ -59,7 +56,7 @@ impl<'a> Parts<'a> {
         ensures { OfRest self.entry.line.now self.entry.at (λ tokens.
             MatchResult result
             (λ r. IsTaken self.entry.line.now tokens (AWord r.0.now) r.1.line.now r.1.at)
-            (λ code. (go_on : Word → List Lexeme → Told) → word_then (lexemes tokens) go_on ≡ Err code)) }
+            (λ code. (code ≡ TextCode.Text) × NoWord (lexemes tokens))) }
     {
         match self.token() {
             Some((What::Word(word), rest)) => Ok((word, rest)),
@@ -72,7 +69,7 @@ impl<'a> Parts<'a> {
         ensures taken { OfRest self.entry.line.now self.entry.at (λ tokens.
             MatchResult result
             (λ r. IsTaken self.entry.line.now tokens (ANumber r.0.now) r.1.line.now r.1.at)
-            (λ code. (go_on : List ℕ → List Lexeme → Told) → number_then (lexemes tokens) go_on ≡ Err code)) }
+            (λ code. (code ≡ TextCode.Text) × NoNumber (lexemes tokens))) }
         ensures number { IfOk result (λ r. IsNumber r.0.now) }
     {
         match self.token() {
@@ -86,7 +83,7 @@ impl<'a> Parts<'a> {
         ensures { OfRest self.entry.line.now self.entry.at (λ tokens.
             MatchResult result
             (λ r. IsTaken self.entry.line.now tokens (AQuote r.0.now) r.1.line.now r.1.at)
-            (λ code. (go_on : Word → List Lexeme → Told) → quoted_then (lexemes tokens) go_on ≡ Err code)) }
+            (λ code. (code ≡ TextCode.Text) × NoQuoted (lexemes tokens))) }
     {
         match self.token() {
             Some((What::Quoted(text), rest)) => Ok((text, rest)),
@@ -97,9 +94,7 @@ impl<'a> Parts<'a> {
     // That nothing but blanks stands here.
     pub(crate) fn end(self) -> Result<(), TextCode>
         ensures { OfRest self.entry.line.now self.entry.at (λ tokens.
-            (go_on : Told) →
-            MatchResult result (λ _. end_then (lexemes tokens) go_on ≡ go_on)
-            (λ code. end_then (lexemes tokens) go_on ≡ Err code)) }
+            MatchResult result (λ _. tokens ≡ []) (λ code. (code ≡ TextCode.Text) × (tokens ≢ []))) }
     {
         match self.token() {
             Some(_) => Err(TextCode::Text),
@@ -110,9 +105,8 @@ impl<'a> Parts<'a> {
     // Two numbers, and nothing behind them.
     pub(crate) fn span(self) -> Result<(i64, i64), TextCode>
         ensures { OfRest self.entry.line.now self.entry.at (λ tokens.
-            (go_on : ℤ → ℤ → Told) →
-            MatchResult result (λ r. span_then (lexemes tokens) go_on ≡ go_on r.0 r.1)
-            (λ code. span_then (lexemes tokens) go_on ≡ Err code)) }
+            MatchResult result (λ r. AreSpan (lexemes tokens) r.0 r.1)
+            (λ code. NoSpan (lexemes tokens) code)) }
     {
         let (from, rest) = self.number()?;
         let (to, rest) = rest.number()?;
@@ -123,9 +117,8 @@ impl<'a> Parts<'a> {
     // A name and two numbers, and nothing behind them.
     pub(crate) fn name_and_span(self) -> Result<(Name, i64, i64), TextCode>
         ensures { OfRest self.entry.line.now self.entry.at (λ tokens.
-            (go_on : Word → ℤ → ℤ → Told) →
-            MatchResult result (λ r. name_and_span_then (lexemes tokens) go_on ≡ go_on r.0 r.1 r.2)
-            (λ code. name_and_span_then (lexemes tokens) go_on ≡ Err code)) }
+            MatchResult result (λ r. AreNameAndSpan (lexemes tokens) r.0 r.1 r.2)
+            (λ code. NoNameAndSpan (lexemes tokens) code)) }
     {
         let (word, rest) = self.word()?;
         let (from, to) = rest.span()?;
@@ -135,9 +128,8 @@ impl<'a> Parts<'a> {
     // A name, and nothing behind it.
     pub(crate) fn only_name(self) -> Result<Name, TextCode>
         ensures { OfRest self.entry.line.now self.entry.at (λ tokens.
-            (go_on : Word → Told) →
-            MatchResult result (λ name. only_name_then (lexemes tokens) go_on ≡ go_on name)
-            (λ code. only_name_then (lexemes tokens) go_on ≡ Err code)) }
+            MatchResult result (λ name. IsOnlyName (lexemes tokens) name)
+            (λ code. NoOnlyName (lexemes tokens) code)) }
     {
         let (word, rest) = self.word()?;
         rest.end()?;
@@ -148,16 +140,16 @@ impl<'a> Parts<'a> {
 // The moment that a number writes.
 fn moment(number: &[u8]) -> Result<i64, TextCode>
     requires { IsNumber number.now }
-    ensures moment { IfOk result (λ value. IsMoment (number_value number.now) × (value ≡ number_value number.now)) }
-    ensures far { IfErr result (λ code. (code ≡ TextCode.Number) × (¬ IsMoment (number_value number.now))) }
+    ensures moment { IfOk result (λ value. Writes number.now value) }
+    ensures far { IfErr result (λ code. IsFar number.now code) }
 {
     value_of(number).ok_or(TextCode::Number)
 }
 
 // The name of these bytes.
 pub(crate) fn name(text: &[u8]) -> Result<Name, TextCode>
-    ensures name { IfOk result (λ name. (length text.now ≤ MAX_NAME) × (name ≡ text.now)) }
-    ensures long { IfErr result (λ code. (code ≡ TextCode.Name) × (MAX_NAME < length text.now)) }
+    ensures name { IfOk result (λ name. Names text.now name) }
+    ensures long { IfErr result (λ code. IsLong text.now code) }
 {
     Name::new(text).ok_or(TextCode::Name)
 }

@@ -1,5 +1,5 @@
 -- Sets of moments as lists of spans, and values over time as lists of runs.
-use Rattle.std.specs.Prelude.{◌≡◌, ℤ, ◌≤ℤ◌, List, ◌⊎◌, Option, Some}
+use Rattle.std.specs.Prelude.{◌≡◌, ℤ, ◌≤ℤ◌, List, ◌⊎◌, Option, Some, Bool, IsTrue}
 use Rattle.itpg_base.specs.Spans.{Span, Within, Covers, IsCoalesced}
 use Rattle.itpg_base.specs.Words.{Word}
 use Rattle.itpg_base.specs.Graphs.{Valued, RunsHave, AreRunsOfValues}
@@ -15,6 +15,10 @@ pub record AreRunsOf (H : ℤ → Word → Type 0) (runs : List Valued) : Type 0
   pub whole : (t : ℤ) (value : Word) → H t value → RunsHave runs t value
   pub only : (t : ℤ) (value : Word) → RunsHave runs t value → H t value
   pub coalesced : AreRunsOfValues runs
+
+-- the test holds only between the two moments
+abbrev pub HoldsBetween : ℤ → ℤ → (ℤ → Bool) → Type 0
+HoldsBetween low high test = (t : ℤ) → IsTrue (test t) → (low ≤ℤ t) × (t ≤ℤ high)
 
 -- what has a value at a moment alone has one between the two moments
 abbrev pub LiesBetween : ℤ → ℤ → (ℤ → Option Word) → Type 0

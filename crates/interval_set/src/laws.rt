@@ -1,9 +1,9 @@
 //! The laws of coalesced lists.
-ghost use Rattle.std.specs.Prelude.{◌≡◌, ◌↔◌, ◌⊎◌, ℤ, ◌≤ℤ◌, List, Bool, IsTrue, Option, Some};
+ghost use Rattle.std.specs.Prelude.{◌≡◌, ◌↔◌, ◌⊎◌, ℤ, List, Bool, IsTrue, Option, Some};
 ghost use Rattle.itpg_base.specs.Spans.{Span as PlainSpan, Within, Covers, IsCoalesced};
 ghost use Rattle.itpg_base.specs.Words.{Word};
 ghost use Rattle.itpg_base.specs.Graphs.{Valued, RunsHave, AreRunsOfValues};
-ghost use Rattle.interval_set.specs.Runs.{AreRuns, AreRunsOf, LiesBetween, HasPut, HasCleared};
+ghost use Rattle.interval_set.specs.Runs.{AreRuns, AreRunsOf, HoldsBetween, LiesBetween, HasPut, HasCleared};
 
 /// Two coalesced lists with the same moments are equal.
 pub fn law_of_uniqueness()
@@ -17,7 +17,7 @@ pub fn law_of_unique_values()
 
 /// Each set of moments that a test gives, and that lies between two moments, has a coalesced list.
 pub fn law_of_existence()
-    ensures { (test : ℤ → Bool) (low high : ℤ) → ((t : ℤ) → IsTrue (test t) → low ≤ℤ t) → ((t : ℤ) → IsTrue (test t) → t ≤ℤ high) → (spans : List PlainSpan) × AreRuns (λ t. IsTrue (test t)) spans }
+    ensures { (test : ℤ → Bool) (low high : ℤ) → HoldsBetween low high test → (spans : List PlainSpan) × AreRuns (λ t. IsTrue (test t)) spans }
 {}
 
 /// Values at moments, at most one at each, that lie between two moments have a list of runs.

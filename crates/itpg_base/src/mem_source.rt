@@ -1,5 +1,6 @@
 //! Sources in memory.
-ghost use Rattle.std.specs.Prelude.{◌≡◌, ◌+◌, ◌-◌, ◌^◌, ◌<◌, ◌≤◌, ◌↔◌, ℕ, List, [], min, length, take, drop, IfOk, OnOk, IsErr, Contains, is_err, if◌then◌else◌};
+ghost use Rattle.std.specs.Prelude.{◌≡◌, ◌+◌, ◌-◌, ◌^◌, ◌<◌, ◌≤◌, ◌↔◌, [], if◌then◌else◌};
+ghost use Rattle.std.specs.Prelude.{ℕ, List, min, length, take, drop, IfOk, OnOk, IsErr, Contains, is_err};
 ghost use Rattle.std.specs.declared.option.Option.TheVariants.{Some};
 ghost use Rattle.std.specs.Io.{ReadsAtMost};
 ghost use Rattle.std.specs.Io.KnownBytes.{ReadConsumes};

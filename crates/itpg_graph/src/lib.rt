@@ -5,6 +5,7 @@
 //! and all lists are coalesced.
 #![tactic(auto)]
 
+mod changing;
 mod graph;
 mod laws;
 mod links;

@@ -9,7 +9,7 @@ use Rattle.band_normal.specs.declared.band.End.TheVariants.{Fixed, Moving}
 use Rattle.band_normal.specs.declared.band.Band.{Band}
 use Rattle.itpg_base.specs.Lists.{Among}
 use Rattle.band_normal.specs.Bands.{IsWellFormed, end_at}
-use Rattle.itpg_base.proofs.Lists.{among_append, among_at}
+use Rattle.itpg_base.proofs.Lists.{among_append}
 use Rattle.relation_rows.specs.declared.rows.Row.{Row}
 use Rattle.relation_rows.specs.declared.times.OneRow.{OneRow}
 use Rattle.relation_rows.specs.declared.times.Side.{Side}
@@ -133,9 +133,6 @@ push_time side rows i d lt times so x same span next e = subst (λ (v : List One
 
 pub all_holds : (side : Side) (rows : List Row) (i : ℕ) (times : List OneRow) → length rows ≤ i → TimesSoFar side rows i times → (o : ℕ) (t : ℤ) → TimesHold times o t ↔ HaveTime side rows o t
 all_holds side rows i times le so o t = subst (λ (v : List Row). TimesHold times o t ↔ HaveTime side v o t) (take_all i rows le) (so.holds o t)
-
-pub formed_row : (rows : List Row) (k : ℕ) (d : Row) → k < length rows → ((r : Row) → Among rows r → IsWellFormed r.band) → IsWellFormed (slice_index_or rows k d).band
-formed_row rows k d lt formed = formed (slice_index_or rows k d) (among_at rows k d lt)
 
 module _ {E : Type 0} (side : Side) (rows : List Row) (i : ℕ) (times : List OneRow) where
   pub all_times : length rows ≤ i → TimesSoFar side rows i times → (result : Result (List OneRow) E) → IfOk result (λ runs. AreTimes (TimesHold times) runs) → IfOk result (λ runs. AreTimes (HaveTime side rows) runs)

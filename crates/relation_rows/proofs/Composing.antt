@@ -1,5 +1,5 @@
 -- Rows of a composition, one source after the other.
-use Rattle.std.proofs.Common.{◌≡◌, ◌↔◌, ◌⊎◌, inl, inr, ⊎_elim, ℕ, ◌-◌, ◌<◌, ◌≤◌, List, [], ◌∷◌, ◌++◌, length, take, drop, Some, None, Err, refl, sym, ◌∙◌, subst, arith, length-append}
+use Rattle.std.proofs.Common.{◌≡◌, ◌↔◌, ◌⊎◌, inl, inr, ⊎_elim, ℕ, ◌-◌, ◌<◌, ◌≤◌, List, [], ◌++◌, length, take, drop, Some, None, Err, refl, sym, ◌∙◌, subst, arith, length-append}
 use Rattle.std.specs.Prelude.{slice_get}
 use Rattle.itpg_base.specs.Points.{Point, Relation}
 use Rattle.itpg_base.proofs.Searches.{same_number}
@@ -15,7 +15,7 @@ use Rattle.relation_rows.specs.Relations.{HasMiddlePoint}
 use Rattle.relation_rows.proofs.Listed.{Listed, join, goes_further, normal_of, listed_of, carried, row_apart, ordered_fewer}
 use Rattle.relation_rows.proofs.Alike.{row_alike, rows_alike, row_start, in_relation}
 use Rattle.relation_rows.proofs.Keeping.{kept_exists, kept_normal}
-use Rattle.relation_rows.proofs.Partitions.{among_either, front_among, rest_among, rest_ordered, first_among}
+use Rattle.relation_rows.proofs.Partitions.{among_either, front_among, rest_among, rest_ordered, first_among, no_first}
 
 -- the rows of one source
 pub at_source : (R S : Relation) (o : ℕ) → ((x y : Point) → S x y ↔ (R x y × (x.object ≡ o))) → (rows : List Row) → NormalRows S rows → Listed R (λ (q r : ℕ). q ≡ o) rows
@@ -148,10 +148,6 @@ module _ (rows : List Row) (second : List Row) (left done : List Row) (g : HasCo
 
 pub within_limit : (limit count : ℕ) (done more next : List Row) → next ≡ done ++ more → count ≡ length done → length done ≤ limit → length more ≤ limit - count → length next ≤ limit
 within_limit limit count done more next e f few room = subst (λ (v : List Row). length v ≤ limit) (sym e) (omega (arith, length-append {A = Row} done more))
-
-no_first : (left : List Row) → None ≡ slice_get left 0 → left ≡ []
-no_first [] e = refl
-no_first (i ∷ is) e = let none : ⊥ = cc in absurd none
 
 pub all_composed : (rows : List Row) (second : List Row) (left done : List Row) → None ≡ slice_get left 0 → HasComposed rows second left done → NormalRows (HasMiddlePoint rows second) done
 all_composed rows second left done none g =

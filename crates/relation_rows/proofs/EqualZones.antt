@@ -1,5 +1,5 @@
 -- Whether two zones are equal.
-use Rattle.std.proofs.Common.{◌≡◌, ℤ, Bool, true, false, ◌&&◌, refl, sym, ap, true≢false}
+use Rattle.std.proofs.Common.{◌≡◌, ℤ, ap}
 use Rattle.std.specs.Bool.{Decides}
 use Rattle.std.proofs.lemmas.Bool.Decides.{Decides-int_eq}
 use Rattle.zone_core.specs.declared.Bounds.{Bounds}

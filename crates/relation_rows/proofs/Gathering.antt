@@ -15,7 +15,7 @@ use Rattle.relation_rows.specs.Rows.{between, KeyBefore, NormalRows, IsWide, row
 use Rattle.relation_rows.specs.Relations.{Item, ItemsHold}
 use Rattle.relation_rows.specs.Gathering.{HaveOneKey, ItemUpTo}
 use Rattle.relation_rows.proofs.Listed.{Listed, normal_of, with_key, wide_early, key_apart, at_among}
-use Rattle.relation_rows.proofs.Partitions.{among_either, front_among, rest_among, rest_ordered, first_among}
+use Rattle.relation_rows.proofs.Partitions.{among_either, front_among, rest_among, rest_ordered, first_among, no_first}
 
 -- the key comes before those of the items
 abbrev pub Ahead : List Item → ℕ → ℕ → Type 0
@@ -140,10 +140,6 @@ module _ (items left : List Item) (rows : List Row) (g : HasGathered items left 
 
   pub step_wide : (limit : ℕ) → limit < length next → IsWide (ItemsHold items) limit
   step_wide limit many = next_wide items left rows g first (sym is) n same behind bands of_group formed limit (subst (λ (v : List Row). limit < length v) all_rows many)
-
-no_first : (left : List Item) → None ≡ slice_get left 0 → left ≡ []
-no_first [] e = refl
-no_first (i ∷ is) e = let none : ⊥ = cc in absurd none
 
 pub all_gathered : (items left : List Item) (rows : List Row) → None ≡ slice_get left 0 → HasGathered items left rows → NormalRows (ItemsHold items) rows
 all_gathered items left rows none g =

@@ -18,7 +18,7 @@ use Rattle.relation_rows.specs.Rows.{KeyBefore, NormalRows, IsWide, rows_at}
 use Rattle.relation_rows.specs.Relations.{Item, ItemsHold, Rise, IsItself}
 use Rattle.relation_rows.specs.Gathering.{HaveOneKey, ItemUpTo}
 use Rattle.relation_rows.proofs.Gathering.{HasGathered, start, step_gathered, step_wide, all_gathered}
-use Rattle.relation_rows.proofs.Partitions.{rest_ordered}
+use Rattle.relation_rows.proofs.Partitions.{rest_ordered, none_dropped}
 
 module _ (zone : Bounds) where
   abbrev pub to_itself : ObjNo → Item
@@ -84,10 +84,6 @@ zone_there o zone from to horizon e is f g t u =
 none_taken : (items : List Item) → take 0 items ≡ []
 none_taken [] = refl
 none_taken (i ∷ is) = refl
-
-none_dropped : {X : Type 0} (xs : List X) → drop 0 xs ≡ xs
-none_dropped [] = refl
-none_dropped (x ∷ xs) = refl
 
 -- the rows of the objects that were read
 abbrev pub HasEach : Bounds → List ObjNo → ℕ → List Row → Type 0

@@ -1,21 +1,21 @@
 -- The first items of a list in order that have one source and one target, and the rows in order that do.
-use Rattle.std.proofs.Common.{◌≡◌, ◌⊎◌, inl, inr, ⊎_elim, ℕ, ◌<◌, ◌≤◌, List, length, get_or, take, drop, Some, refl, sym, ◌∙◌, ap, subst, arith, Bool, true, false, true≢false}
+use Rattle.std.proofs.Common.{◌≡◌, ◌⊎◌, inl, inr, ⊎_elim, ℕ, ◌<◌, ◌≤◌, List, length, get_or, take, drop, Some, refl, sym, ◌∙◌, ap, subst, arith, true, false, true≢false}
 use Rattle.std.specs.Prelude.{slice_get}
 use Rattle.std.specs.List.Sorted.{IsPartitionedBy, IsPartitionPoint}
 use Rattle.std.proofs.lemmas.Bool.Decides.{eqb_tells}
 use Rattle.std.proofs.lemmas.Option.{slice_get_within, get_or_from_slice_get}
 use Rattle.std.proofs.lemmas.Bool.Decides.{Decides-ltb}
-use Rattle.std.proofs.lemmas.List.{take_all, take-append-drop, length-drop}
-use Rattle.std.specs.Prelude.{◌↔◌, ◌-◌, ◌||◌}
+use Rattle.std.specs.Prelude.{◌↔◌, ◌-◌}
 use Rattle.itpg_base.specs.Lists.{Among, Ordered}
-use Rattle.itpg_base.proofs.Lists.{among_at, ordered_by_place, ordered_first}
+use Rattle.itpg_base.proofs.Lists.{among_at, ordered_by_place}
 use Rattle.relation_rows.specs.declared.rows.Row.{Row}
 use Rattle.relation_rows.specs.Rows.{KeyBefore, RowBefore, HasKey}
 use Rattle.relation_rows.specs.Searching.{comes_before, has_key}
 use Rattle.relation_rows.specs.Relations.{Item}
 use Rattle.relation_rows.specs.Gathering.{HaveOneKey, have_one_key, ItemUpTo}
 use Rattle.relation_rows.proofs.Listed.{key_apart, keys_apart, key_tells}
-use Rattle.relation_rows.proofs.Partitions.{among_before, among_behind, among_either, front_among, rest_among, rest_ordered, first_before}
+use Rattle.relation_rows.proofs.Partitions.{among_before, among_behind, rest_among, rest_ordered, first_before, front_ordered}
+use Rattle.relation_rows.proofs.SearchLemmas.{early_partitioned, fits_partitioned, fitting_rows}
 
 one_key_is : (i j : Item) → have_one_key i j ≡ true → HaveOneKey j i
 one_key_is i j e = ⊎_elim (λ k. (sym k.1, sym k.2)) (λ k. absurd (true≢false (sym e ∙ k.0))) (key_tells i.0.0 i.1.0 j.0.0 j.1.0)
@@ -62,11 +62,6 @@ module _ (items : List Item) (first : Item) (order : Ordered ItemUpTo items) (is
       | inr e ↦ (let ne = e.1 in omega arith)
     ]
 
--- a test that is one of two
-either_true : (a b : Bool) → (a || b) ≡ true → (a ≡ true) ⊎ (b ≡ true)
-either_true true b e = inl refl
-either_true false b e = inr e
-
 pub comes_is : (r : Row) (o p : ℕ) → comes_before r o p ≡ true → KeyBefore r.source.0 r.target.0 o p
 comes_is r o p e = grind (arith, Decides-ltb)
 
@@ -93,58 +88,38 @@ key_trans o p q r s t (inl a) (inr (e, b)) = inl (omega arith)
 key_trans o p q r s t (inr (e, a)) (inl b) = inl (omega arith)
 key_trans o p q r s t (inr (e, a)) (inr (f, b)) = inr (e ∙ f, omega arith)
 
+coming_down : (o p : ℕ) (r s : Row) → RowBefore r s → comes_before s o p ≡ true → comes_before r o p ≡ true
+coming_down o p r s b e =
+    let k = comes_is s o p e in
+    is_coming r o p (⊎_elim
+    (λ l. key_trans _ _ _ _ _ _ l k)
+    (λ l. subst (λ (v : ℕ). KeyBefore v r.target.0 o p) (sym l.0) (subst (λ (v : ℕ). KeyBefore s.source.0 v o p) (sym l.1) k))
+    (key_before_row r s b))
+
+key_down : (o p : ℕ) (r s : Row) → RowBefore r s → has_key s o p ≡ true → comes_before r o p ≡ false → has_key r o p ≡ true
+key_down o p r s b e f =
+    let here = key_is s o p e in
+    is_key r o p (⊎_elim
+    (λ k. absurd (not_coming r o p f (subst (λ (v : ℕ). KeyBefore r.source.0 r.target.0 v p) here.0 (subst (λ (v : ℕ). KeyBefore r.source.0 r.target.0 s.source.0 v) here.1 k))))
+    (λ k. (k.0 ∙ here.0, k.1 ∙ here.1))
+    (key_before_row r s b))
+
+not_both : (o p : ℕ) (r : Row) → has_key r o p ≡ true → comes_before r o p ≡ true → ⊥
+not_both o p r e f = let k = key_is r o p e in key_apart _ _ _ _ (comes_is r o p f) k.0 k.1
+
 module _ (rows : List Row) (o p : ℕ) (order : Ordered RowBefore rows) where
   pub coming_partitioned : IsPartitionedBy (λ (r : Row). comes_before r o p) rows
-  coming_partitioned i j d le lt e = elim (eqb_tells i j) [
-    | inl s ↦ subst (λ (v : ℕ). comes_before (get_or rows v d) o p ≡ true) (sym s.1) e
-    | inr n ↦ (
-        let r = get_or rows i d in let s = get_or rows j d in
-        let b = comes_is (get_or rows j d) o p e in
-        let up = ordered_by_place RowBefore rows order i j d (let ne = n.1 in omega arith) lt in
-        is_coming (get_or rows i d) o p (⊎_elim
-        (λ k. key_trans _ _ _ _ _ _ k b)
-        (λ k. subst (λ (v : ℕ). KeyBefore v (get_or rows i d).target.0 o p) (sym k.0) (subst (λ (v : ℕ). KeyBefore (get_or rows j d).source.0 v o p) (sym k.1) b))
-        (key_before_row (get_or rows i d) (get_or rows j d) up))
-        )
-  ]
+  coming_partitioned = early_partitioned RowBefore (λ (r : Row). comes_before r o p) (λ (r : Row). has_key r o p) (coming_down o p) (key_down o p) (not_both o p) rows order
 
   module _ (n : ℕ) (bound : n ≤ length rows) (point : IsPartitionPoint (λ (r : Row). comes_before r o p ≡ true) (λ (r : Row). comes_before r o p ≡ false) rows n)
       (from : List Row) (is : from ≡ take (length rows - n) (drop n rows)) where
-    from_is : from ≡ drop n rows
-    from_is = is ∙ take_all (length rows - n) (drop n rows) (omega (arith, length-drop n rows))
-
-    not_before : (r : Row) → Among from r → comes_before r o p ≡ false
-    not_before r a = among_behind (λ (s : Row). comes_before s o p ≡ false) rows n bound point.1 r (subst (λ (v : List Row). Among v r) from_is a)
-
-    order_from : Ordered RowBefore from
-    order_from = subst (λ (v : List Row). Ordered RowBefore v) (sym from_is) (rest_ordered RowBefore rows n order)
-
     pub key_partitioned : IsPartitionedBy (λ (r : Row). has_key r o p) from
-    key_partitioned i j d le lt e = elim (eqb_tells i j) [
-      | inl s ↦ subst (λ (v : ℕ). has_key (get_or from v d) o p ≡ true) (sym s.1) e
-      | inr m ↦ (
-          let here = key_is (get_or from j d) o p e in
-          let up = ordered_by_place RowBefore from order_from i j d (let ne = m.1 in omega arith) lt in
-          is_key (get_or from i d) o p (⊎_elim
-          (λ k. absurd (not_coming (get_or from i d) o p (not_before (get_or from i d) (among_at from i d (omega arith)))
-          (subst (λ (v : ℕ). KeyBefore (get_or from i d).source.0 (get_or from i d).target.0 v p) here.0 (subst (λ (v : ℕ). KeyBefore (get_or from i d).source.0 (get_or from i d).target.0 (get_or from j d).source.0 v) here.1 k))))
-          (λ k. (k.0 ∙ here.0, k.1 ∙ here.1))
-          (key_before_row (get_or from i d) (get_or from j d) up))
-          )
-    ]
+    key_partitioned = fits_partitioned RowBefore (λ (r : Row). comes_before r o p) (λ (r : Row). has_key r o p) (coming_down o p) (key_down o p) (not_both o p) rows order n bound point from is
 
     pub key_rows : (m : ℕ) → m ≤ length from → IsPartitionPoint (λ (r : Row). has_key r o p ≡ true) (λ (r : Row). has_key r o p ≡ false) from m → (r : Row) → Among (take m from) r ↔ (Among rows r × HasKey r o p)
-    key_rows m within split r = (
-      λ a. (rest_among rows n r (subst (λ (v : List Row). Among v r) from_is (front_among from m r a)), key_is r o p (among_before (λ (s : Row). has_key s o p ≡ true) from m within split.0 r a)),
-      λ h. ⊎_elim
-          (λ t. absurd (key_apart _ _ _ _ (comes_is r o p (among_before (λ (s : Row). comes_before s o p ≡ true) rows n bound point.0 r t)) (h.1).0 (h.1).1))
-          (λ d. ⊎_elim (λ f. f) (λ l. absurd (true≢false (sym (is_key r o p h.1) ∙ among_behind (λ (s : Row). has_key s o p ≡ false) from m within split.1 r l)))
-          (among_either from m r (subst (λ (v : List Row). Among v r) (sym from_is) d)))
-          (among_either rows n r h.0),
-    )
-
-front_ordered : (rows : List Row) (m : ℕ) → Ordered RowBefore rows → Ordered RowBefore (take m rows)
-front_ordered rows m o = ordered_first RowBefore (take m rows) (drop m rows) (subst (λ (v : List Row). Ordered RowBefore v) (sym (take-append-drop m rows)) o)
+    key_rows m within split r =
+        let k = fitting_rows RowBefore (λ (r : Row). comes_before r o p) (λ (r : Row). has_key r o p) (coming_down o p) (key_down o p) (not_both o p) rows order n bound point from is m within split r in
+        (λ a. let h = k.0 a in (h.0, key_is r o p h.1), λ h. k.1 (h.0, is_key r o p h.1))
 
 pub key_order : (rows : List Row) (n m : ℕ) → Ordered RowBefore rows → Ordered RowBefore (take m (take (length rows - n) (drop n rows)))
-key_order rows n m o = front_ordered (take (length rows - n) (drop n rows)) m (front_ordered (drop n rows) (length rows - n) (rest_ordered RowBefore rows n o))
+key_order rows n m o = front_ordered RowBefore (take (length rows - n) (drop n rows)) m (front_ordered RowBefore (drop n rows) (length rows - n) (rest_ordered RowBefore rows n o))

@@ -15,17 +15,11 @@ use Rattle.relation_rows.specs.Relations.{Item, ItemsHold}
 use Rattle.relation_rows.specs.Uniting.{SomeHasBand}
 use Rattle.relation_rows.specs.Minus.{OnlyFirstMeets, OnlyFirstHasBand}
 use Rattle.relation_rows.proofs.Pushing.{items_more}
-
-meets_append : (xs ys : List Bounds) (t u : ℤ) → SomeMeets (xs ++ ys) t u ↔ (SomeMeets xs t u ⊎ SomeMeets ys t u)
-meets_append [] ys t u = (λ h. inr h, λ h. ⊎_elim (λ a. absurd a) (λ a. a) h)
-meets_append (x ∷ xs) ys t u = (
-  λ h. ⊎_elim (λ a. inl (inl a)) (λ a. ⊎_elim (λ b. inl (inr b)) (λ b. inr b) ((meets_append xs ys t u).0 a)) h,
-  λ h. ⊎_elim (λ a. ⊎_elim (λ b. inl b) (λ b. inr ((meets_append xs ys t u).1 (inl b))) a) (λ a. inr ((meets_append xs ys t u).1 (inr a))) h,
-)
+use Rattle.band_normal.proofs.Zoning.{some-append}
 
 pub meets_more : (zs : List Bounds) (z : Bounds) (t u : ℤ) → SomeMeets (zs ++ z ∷ []) t u ↔ (SomeMeets zs t u ⊎ Meets z t u)
 meets_more zs z t u =
-    let k = meets_append zs (z ∷ []) t u in (
+    let k = some-append zs (z ∷ []) t u in (
       λ h. ⊎_elim (λ a. inl a) (λ a. ⊎_elim (λ b. inr b) (λ b. absurd b) a) (k.0 h),
       λ h. k.1 (⊎_elim (λ a. inl a) (λ a. inr (inl a)) h),
     )
@@ -234,7 +228,7 @@ left_by_parts part zones cuts inside cuts_inside outside cuts_outside zi ci zo c
 -- all that is left is added
 pub left_added : (zones cuts old left copied new : List Bounds) → AreLeft zones cuts left → copied ≡ left → new ≡ old ++ copied → (t : ℤ) (u : ℤ) → SomeMeets new t u ↔ (SomeMeets old t u ⊎ OnlyFirstMeets zones cuts t u)
 left_added zones cuts old left copied new is e f t u =
-    let both = meets_append old copied t u in
+    let both = some-append old copied t u in
     let so = subst (λ (v : List Bounds). SomeMeets v t u ↔ OnlyFirstMeets zones cuts t u) (sym e) (is t u) in
     subst (λ (v : List Bounds). SomeMeets v t u ↔ (SomeMeets old t u ⊎ OnlyFirstMeets zones cuts t u)) (sym f) (
       λ h. ⊎_elim (λ a. inl a) (λ a. inr (so.0 a)) (both.0 h),

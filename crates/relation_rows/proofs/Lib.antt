@@ -5,6 +5,7 @@ pub mod Restricting
 pub mod Diagonals
 pub mod Finite
 pub mod Partitions
+pub mod SearchLemmas
 pub mod Objects
 pub mod Equal
 pub mod EqualZones

@@ -61,7 +61,7 @@ row_apart r s (inl a) (inr b) = key_apart _ _ _ _ a (sym b.0) (sym b.1)
 row_apart r s (inr a) (inl b) = key_apart _ _ _ _ b (sym a.0) (sym a.1)
 row_apart r s (inr a) (inr b) = before_apart r.band s.band a.2 b.2
 
-same_rows : {o p q r : ℕ} {a b : Band} → o ≡ q → p ≡ r → a ≡ b
+pub same_rows : {o p q r : ℕ} {a b : Band} → o ≡ q → p ≡ r → a ≡ b
     → let x : Row = record { source = record { 0 = o }; target = record { 0 = p }; band = a } in x ≡ record { source = record { 0 = q }; target = record { 0 = r }; band = b }
 same_rows e f g = cc
 

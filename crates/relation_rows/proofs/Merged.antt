@@ -2,25 +2,25 @@
 use Rattle.std.proofs.Common.{◌≡◌, ◌↔◌, ◌⊎◌, inl, inr, ⊎_elim, ℕ, zero, suc, ◌+◌, ◌-◌, ◌<◌, ◌≤◌, ℤ, List, [], ◌∷◌, ◌++◌, length, map, get_or, take, drop, Some, None, refl, sym, ◌∙◌, ap, subst, arith, Bool, true, false, true≢false}
 use Rattle.std.specs.Prelude.{slice_get}
 use Rattle.std.specs.List.Sorted.{IsPartitionedBy, IsPartitionPoint}
-use Rattle.std.proofs.lemmas.List.{take_all, take-append-drop, length-drop}
+use Rattle.std.proofs.lemmas.List.{take_all, length-drop}
 use Rattle.itpg_base.specs.Points.{Point}
 use Rattle.band_normal.specs.declared.band.Band.{Band}
 use Rattle.itpg_base.specs.Lists.{Among, Ordered}
 use Rattle.band_normal.specs.Bands.{InBand, IsWellFormed}
 use Rattle.band_normal.specs.Normal.{IsRow, IsBefore, Normal}
 use Rattle.band_normal.specs.Zones.{SomeMeets}
-use Rattle.itpg_base.proofs.Lists.{among_at, among_append, ordered_first}
+use Rattle.itpg_base.proofs.Lists.{among_at, among_append}
 use Rattle.band_normal.proofs.Sorting.{normal_like}
 use Rattle.relation_rows.specs.declared.rows.Row.{Row}
 use Rattle.relation_rows.specs.Rows.{between, HasKey, RowsHold, RowBefore, KeyBefore, NormalRows, IsWide, IsRelation, rows_at}
 use Rattle.relation_rows.specs.Relations.{Item, ItemsHold, EitherHolds}
 use Rattle.relation_rows.specs.Searching.{has_key, comes_before}
 use Rattle.relation_rows.specs.Uniting.{KeyUpTo, IsNext, SomeHasBand, EitherHas, IsPart, HasPushed}
-use Rattle.relation_rows.proofs.Listed.{Listed, normal_of, with_key, wide_early, key_apart, keys_apart, key_either, at_among}
+use Rattle.relation_rows.proofs.Listed.{Listed, normal_of, with_key, wide_early, key_apart, keys_apart, key_either, at_among, same_rows}
 use Rattle.relation_rows.proofs.Alike.{row_alike}
 use Rattle.relation_rows.proofs.Keys.{comes_is, is_coming, key_is, is_key, key_partitioned}
 use Rattle.relation_rows.proofs.Gathering.{some_meets, meets_some}
-use Rattle.relation_rows.proofs.Partitions.{among_before, among_behind, among_either, front_among, rest_among, rest_ordered, first_among, first_before}
+use Rattle.relation_rows.proofs.Partitions.{among_before, among_behind, among_either, front_among, rest_among, rest_ordered, first_among, first_before, front_ordered, none_dropped, no_first}
 
 -- ---- the next row
 
@@ -44,15 +44,11 @@ up_trans r s t (inl a) (inr b) = inl (subst (λ (v : ℕ). KeyBefore r.source.0 
 up_trans r s t (inr a) (inl b) = inl (subst (λ (v : ℕ). KeyBefore v r.target.0 t.source.0 t.target.0) a.0 (subst (λ (v : ℕ). KeyBefore s.source.0 v t.source.0 t.target.0) a.1 b))
 up_trans r s t (inr a) (inr b) = inr (b.0 ∙ a.0, b.1 ∙ a.1)
 
-all_up : (rows : List Row) (r : Row) → Ordered RowBefore rows → Some r ≡ slice_get rows 0 → (s : Row) → Among rows s → KeyUpTo r s
+pub all_up : (rows : List Row) (r : Row) → Ordered RowBefore rows → Some r ≡ slice_get rows 0 → (s : Row) → Among rows s → KeyUpTo r s
 all_up rows r o e s a = row_up r s (first_before RowBefore rows r o (sym e) s a)
 
-none_there : (rows : List Row) → None ≡ slice_get rows 0 → rows ≡ []
-none_there [] e = refl
-none_there (r ∷ rs) e = let none : ⊥ = cc in absurd none
-
 none_up : (rows : List Row) → None ≡ slice_get rows 0 → (r s : Row) → Among rows s → KeyUpTo r s
-none_up rows e r s a = absurd (subst (λ (v : List Row). Among v s) (none_there rows e) a)
+none_up rows e r s a = absurd (subst (λ (v : List Row). Among v s) (no_first rows e) a)
 
 pub next_first : (first second : List Row) (r : Row) → Ordered RowBefore first → Some r ≡ slice_get first 0 → ((s : Row) → Among second s → KeyUpTo r s) → IsNext first second r
 next_first first second r o e up = record { there = inl (first_among first r (sym e)); first_up = all_up first r o e; second_up = up }
@@ -99,10 +95,6 @@ module _ (rows : List Row) (key : Row) (order : Ordered RowBefore rows) (up : (r
   start_point : IsPartitionPoint (λ (r : Row). comes_before r o p ≡ true) (λ (r : Row). comes_before r o p ≡ false) rows 0
   start_point = (λ k d a b. absurd (omega arith), λ k d a lt. none_before (get_or rows k d) (among_at rows k d lt))
 
-  none_dropped : (xs : List Row) → drop 0 xs ≡ xs
-  none_dropped [] = refl
-  none_dropped (x ∷ xs) = refl
-
   pub leading_partitioned : IsPartitionedBy (λ (r : Row). has_key r o p) rows
   leading_partitioned = key_partitioned rows o p order 0 (omega arith) start_point rows
       (sym (take_all (length rows - 0) (drop 0 rows) (subst (λ (v : List Row). length v ≤ length rows - 0) (sym (none_dropped rows)) (omega arith)) ∙ none_dropped rows))
@@ -115,9 +107,6 @@ module _ (rows : List Row) (key : Row) (order : Ordered RowBefore rows) (up : (r
     leading_later r a = ⊎_elim (λ b. b)
         (λ k. absurd (true≢false (sym (is_key r o p k) ∙ among_behind (λ (s : Row). has_key s o p ≡ false) rows n bound point.1 r a)))
         (up r (rest_among rows n r a))
-
-front_ordered : (rows : List Row) (m : ℕ) → Ordered RowBefore rows → Ordered RowBefore (take m rows)
-front_ordered rows m o = ordered_first RowBefore (take m rows) (drop m rows) (subst (λ (v : List Row). Ordered RowBefore v) (sym (take-append-drop m rows)) o)
 
 -- ---- the bands of one source and target
 
@@ -144,10 +133,6 @@ bands_ordered (r ∷ rs) o p order same = (
       subst (λ (v : Band). IsBefore r.band v) w.2 (⊎_elim (λ c. absurd (key_apart _ _ _ _ c (k.0 ∙ sym l.0) (k.1 ∙ sym l.1))) (λ c. c.2) (order.0 w.0 w.1)),
   bands_ordered rs o p order.1 (λ s a. same s (inr a)),
 )
-
-same_rows : {o p q r : ℕ} {a b : Band} → o ≡ q → p ≡ r → a ≡ b
-    → let x : Row = record { source = record { 0 = o }; target = record { 0 = p }; band = a } in x ≡ record { source = record { 0 = q }; target = record { 0 = r }; band = b }
-same_rows e f g = cc
 
 -- rows of one source and target are its bands as rows
 pub rows_are : (rows : List Row) (o p : ℕ) → ((r : Row) → Among rows r → HasKey r o p) → rows_at o p (map band_of rows) ≡ rows
@@ -386,11 +371,11 @@ module _ (first second left right rows : List Row) (g : HasUnited first second l
     (here later there others : List Row) (front : here ≡ take n left) (back : later ≡ drop n left) (front' : there ≡ take m right) (back' : others ≡ drop m right) where
   pub here_part : IsRelation first → IsPart key here
   here_part is = subst (λ (v : List Row). IsPart key v) (sym front)
-      (part_of key first (take n left) is (front_ordered left n g.left_order) (left_group first second left right rows g key next n m left_same left_later right_same right_later))
+      (part_of key first (take n left) is (front_ordered RowBefore left n g.left_order) (left_group first second left right rows g key next n m left_same left_later right_same right_later))
 
   pub there_part : IsRelation second → IsPart key there
   there_part is = subst (λ (v : List Row). IsPart key v) (sym front')
-      (part_of key second (take m right) is (front_ordered right m g.right_order) (right_group first second left right rows g key next n m left_same left_later right_same right_later))
+      (part_of key second (take m right) is (front_ordered RowBefore right m g.right_order) (right_group first second left right rows g key next n m left_same left_later right_same right_later))
 
   module _ (new : List Row) (pushed : HasPushed key here there rows new) where
     pushed_groups : HasPushed key (take n left) (take m right) rows new

@@ -1,10 +1,10 @@
 -- What holds of the elements before and after a place of a list.
-use Rattle.std.proofs.Common.{◌≡◌, ◌⊎◌, inl, inr, ⊎_elim, ℕ, zero, suc, ◌+◌, ◌<◌, ◌≤◌, List, [], ◌∷◌, length, slice_index_or, take, drop, Some, sym, ◌∙◌, subst, arith}
+use Rattle.std.proofs.Common.{◌≡◌, ◌⊎◌, inl, inr, ⊎_elim, ℕ, zero, suc, ◌+◌, ◌<◌, ◌≤◌, List, [], ◌∷◌, length, slice_index_or, take, drop, Some, None, refl, sym, ◌∙◌, subst, arith}
 use Rattle.std.specs.Prelude.{slice_get}
 use Rattle.std.specs.List.{AllWithin}
 use Rattle.std.proofs.lemmas.List.{length-take, length-drop, get_or-take, get_or-drop, take_more, take-append-drop}
 use Rattle.itpg_base.specs.Lists.{Among, Ordered}
-use Rattle.itpg_base.proofs.Lists.{all_among, among_append, append_first, append_second, among_at}
+use Rattle.itpg_base.proofs.Lists.{all_among, among_append, append_first, append_second, among_at, ordered_first}
 
 pub among_before : {X : Type 0} (P : X → Type 0) (xs : List X) (n : ℕ) → n ≤ length xs → AllWithin P xs 0 n → (x : X) → Among (take n xs) x → P x
 among_before P xs n le all = all_among P (take n xs) (λ k d lt. let below : k < n = omega (arith, length-take n xs) in subst P (sym (get_or-take n xs k d below)) (all k d (omega arith) below))
@@ -27,7 +27,18 @@ rest_ordered Before xs zero o = o
 rest_ordered Before [] (suc n) o = o
 rest_ordered Before (x ∷ xs) (suc n) o = rest_ordered Before xs n o.1
 
--- the first element
+pub front_ordered : {X : Type 0} (Before : X → X → Type 0) (xs : List X) (n : ℕ) → Ordered Before xs → Ordered Before (take n xs)
+front_ordered {X} Before xs n o = ordered_first Before (take n xs) (drop n xs) (subst (λ (v : List X). Ordered Before v) (sym (take-append-drop n xs)) o)
+
+pub none_dropped : {X : Type 0} (xs : List X) → drop 0 xs ≡ xs
+none_dropped [] = refl
+none_dropped (x ∷ xs) = refl
+
+-- the first element, and that there is none
+pub no_first : {X : Type 0} (xs : List X) → None ≡ slice_get xs 0 → xs ≡ []
+no_first [] e = refl
+no_first (x ∷ xs) e = let none : ⊥ = cc in absurd none
+
 pub first_among : {X : Type 0} (xs : List X) (x : X) → slice_get xs 0 ≡ Some x → Among xs x
 first_among [] x e = let none : ⊥ = cc in absurd none
 first_among (y ∷ ys) x e = inl (cc)

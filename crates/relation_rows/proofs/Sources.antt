@@ -1,10 +1,9 @@
 -- The first rows of a list in order that have one source, all that have one, and those of busy sources.
-use Rattle.std.proofs.Common.{◌≡◌, ◌↔◌, ◌⊎◌, inl, inr, ⊎_elim, ℕ, ◌-◌, ◌<◌, ◌≤◌, List, [], ◌∷◌, ◌++◌, length, get_or, take, drop, Some, None, refl, sym, ◌∙◌, subst, arith, Bool, true, false, true≢false}
-use Rattle.std.specs.Prelude.{slice_get, ◌==◌, nat_lt}
+use Rattle.std.proofs.Common.{◌≡◌, ◌↔◌, ◌⊎◌, inl, inr, ⊎_elim, ℕ, ◌<◌, ◌≤◌, List, [], ◌∷◌, ◌++◌, length, get_or, take, drop, Some, None, refl, sym, ◌∙◌, subst, arith, Bool, true, false, true≢false}
+use Rattle.std.specs.Prelude.{slice_get, ◌==◌}
 use Rattle.std.specs.List.Sorted.{IsPartitionedBy, IsPartitionPoint}
-use Rattle.std.proofs.lemmas.Bool.{cases_lt}
-use Rattle.std.proofs.lemmas.Bool.Decides.{eqb_tells, Decides-ltb}
-use Rattle.std.proofs.lemmas.List.{take_all, take-append-drop, length-drop}
+use Rattle.std.proofs.lemmas.Bool.Decides.{eqb_tells}
+use Rattle.std.proofs.lemmas.List.{take-append-drop}
 use Rattle.std.proofs.lemmas.Option.{slice_get_within, get_or_from_slice_get}
 use Rattle.itpg_base.specs.Points.{Point}
 use Rattle.itpg_base.specs.Lists.{Among, Ordered}
@@ -69,69 +68,6 @@ module _ (rows : List Row) (first : Row) (order : Ordered RowBefore rows) (is : 
           )
       | inr e ↦ (let ne = e.1 in omega arith)
     ]
-
--- ---- all rows of one source
-
-abbrev pub comes_before_source : ℕ → Row → Bool
-comes_before_source o r = nat_lt r.source.0 o
-
-abbrev pub is_of_source : ℕ → Row → Bool
-is_of_source o r = r.source.0 == o
-
-before_is : (o : ℕ) (r : Row) → comes_before_source o r ≡ true → r.source.0 < o
-before_is o r e = grind (arith, Decides-ltb)
-
-is_before : (o : ℕ) (r : Row) → r.source.0 < o → comes_before_source o r ≡ true
-is_before o r e = grind (arith, Decides-ltb)
-
-of_is : (o : ℕ) (r : Row) → is_of_source o r ≡ true → r.source.0 ≡ o
-of_is o r e = ⊎_elim (λ k. k.1) (λ k. absurd (true≢false (sym e ∙ k.0))) (eqb_tells r.source.0 o)
-
-is_of : (o : ℕ) (r : Row) → r.source.0 ≡ o → is_of_source o r ≡ true
-is_of o r e = ⊎_elim (λ k. k.0) (λ k. absurd (k.1 e)) (eqb_tells r.source.0 o)
-
-module _ (rows : List Row) (o : ℕ) (order : Ordered RowBefore rows) where
-  pub before_partitioned : IsPartitionedBy (comes_before_source o) rows
-  before_partitioned i j d le lt e = elim (eqb_tells i j) [
-    | inl s ↦ subst (λ (v : ℕ). comes_before_source o (get_or rows v d) ≡ true) (sym s.1) e
-    | inr n ↦ (
-        let there = before_is o (get_or rows j d) e in
-        let up = source_up (get_or rows i d) (get_or rows j d) (ordered_by_place RowBefore rows order i j d (let ne = n.1 in omega arith) lt) in
-        is_before o (get_or rows i d) (omega arith)
-        )
-  ]
-
-  module _ (n : ℕ) (bound : n ≤ length rows) (point : IsPartitionPoint (λ (r : Row). comes_before_source o r ≡ true) (λ (r : Row). comes_before_source o r ≡ false) rows n)
-      (from : List Row) (is : from ≡ take (length rows - n) (drop n rows)) where
-    from_is : from ≡ drop n rows
-    from_is = is ∙ take_all (length rows - n) (drop n rows) (omega (arith, length-drop n rows))
-
-    not_before : (r : Row) → Among from r → r.source.0 < o → ⊥
-    not_before r a l = true≢false (sym (is_before o r l) ∙ among_behind (λ (s : Row). comes_before_source o s ≡ false) rows n bound point.1 r (subst (λ (v : List Row). Among v r) from_is a))
-
-    order_from : Ordered RowBefore from
-    order_from = subst (λ (v : List Row). Ordered RowBefore v) (sym from_is) (rest_ordered RowBefore rows n order)
-
-    pub from_partitioned : IsPartitionedBy (is_of_source o) from
-    from_partitioned i j d le lt e = elim (eqb_tells i j) [
-      | inl s ↦ subst (λ (v : ℕ). is_of_source o (get_or from v d) ≡ true) (sym s.1) e
-      | inr m ↦ (
-          let there = of_is o (get_or from j d) e in
-          let up = source_up (get_or from i d) (get_or from j d) (ordered_by_place RowBefore from order_from i j d (let ne = m.1 in omega arith) lt) in
-          let low = not_before (get_or from i d) (among_at from i d (omega arith)) in
-          is_of o (get_or from i d) (⊎_elim (λ l. absurd (low l)) (λ g. omega arith) (cases_lt (get_or from i d).source.0 o))
-          )
-    ]
-
-    pub source_rows : (m : ℕ) → m ≤ length from → IsPartitionPoint (λ (r : Row). is_of_source o r ≡ true) (λ (r : Row). is_of_source o r ≡ false) from m → (r : Row) → Among (take m from) r ↔ (Among rows r × (r.source.0 ≡ o))
-    source_rows m within split r = (
-      λ a. (rest_among rows n r (subst (λ (v : List Row). Among v r) from_is (front_among from m r a)), of_is o r (among_before (λ (s : Row). is_of_source o s ≡ true) from m within split.0 r a)),
-      λ h. ⊎_elim
-          (λ t. let l = before_is o r (among_before (λ (s : Row). comes_before_source o s ≡ true) rows n bound point.0 r t) in let e = h.1 in absurd (omega arith))
-          (λ d. ⊎_elim (λ f. f) (λ l. absurd (true≢false (sym (is_of o r h.1) ∙ among_behind (λ (s : Row). is_of_source o s ≡ false) from m within split.1 r l)))
-          (among_either from m r (subst (λ (v : List Row). Among v r) (sym from_is) d)))
-          (among_either rows n r h.0),
-    )
 
 -- ---- the rows of busy sources, one source after the other
 

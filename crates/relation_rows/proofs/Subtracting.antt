@@ -1,8 +1,7 @@
 -- A difference, one source and target after the other.
-use Rattle.std.proofs.Common.{◌≡◌, ◌↔◌, ◌⊎◌, inl, inr, ⊎_elim, ℕ, ◌-◌, ◌<◌, ◌≤◌, ℤ, List, [], ◌∷◌, length, get_or, take, drop, Some, None, refl, sym, ◌∙◌, ap, subst, arith, Bool, true, false, true≢false}
+use Rattle.std.proofs.Common.{◌≡◌, ◌↔◌, ◌⊎◌, inl, inr, ⊎_elim, ℕ, ◌<◌, ◌≤◌, ℤ, List, [], length, take, drop, Some, None, refl, sym, ◌∙◌, subst, arith, true, false, true≢false}
 use Rattle.std.specs.Prelude.{slice_get}
 use Rattle.std.specs.List.Sorted.{IsPartitionedBy, IsPartitionPoint}
-use Rattle.std.proofs.lemmas.List.{take_all}
 use Rattle.std.proofs.lemmas.Bool.Decides.{eqb_tells}
 use Rattle.std.proofs.lemmas.Option.{slice_get_within, get_or_from_slice_get}
 use Rattle.itpg_base.specs.Points.{Point}
@@ -10,22 +9,17 @@ use Rattle.zone_core.specs.declared.Bounds.{Bounds}
 use Rattle.itpg_base.specs.Lists.{Among, Ordered}
 use Rattle.band_normal.specs.Bands.{IsWellFormed}
 use Rattle.band_normal.specs.Zones.{SomeMeets}
-use Rattle.itpg_base.proofs.Lists.{among_at}
 use Rattle.relation_rows.specs.declared.rows.Row.{Row}
 use Rattle.relation_rows.specs.Rows.{HasKey, RowsHold, RowBefore}
 use Rattle.relation_rows.specs.Relations.{Item, ItemsHold, OnlyFirstHolds}
-use Rattle.relation_rows.specs.Searching.{has_key, comes_before}
+use Rattle.relation_rows.specs.Searching.{has_key}
 use Rattle.relation_rows.specs.Uniting.{SomeHasBand}
 use Rattle.relation_rows.specs.Minus.{OnlyFirstHasBand}
-use Rattle.relation_rows.proofs.Listed.{key_apart, keys_apart}
-use Rattle.relation_rows.proofs.Keys.{key_is, is_key, key_partitioned, comes_is}
-use Rattle.relation_rows.proofs.Partitions.{among_before, among_either, front_among, rest_among, rest_ordered, first_before}
+use Rattle.relation_rows.proofs.Keys.{is_key}
+use Rattle.relation_rows.proofs.Partitions.{among_either, front_among, rest_among, rest_ordered, no_first}
+use Rattle.relation_rows.proofs.Merged.{all_up, leading_partitioned, leading_same}
 
 -- ---- the first rows that have one source and target
-
-none_dropped : (rows : List Row) → drop 0 rows ≡ rows
-none_dropped [] = refl
-none_dropped (r ∷ rs) = refl
 
 module _ (rows : List Row) (first : Row) (order : Ordered RowBefore rows) (is : slice_get rows 0 ≡ Some first) where
   abbrev o : ℕ
@@ -34,28 +28,12 @@ module _ (rows : List Row) (first : Row) (order : Ordered RowBefore rows) (is : 
   abbrev p : ℕ
   p = first.target.0
 
-  none_before : (r : Row) → Among rows r → comes_before r o p ≡ false
-  none_before r a = test (comes_before r o p) refl
-    where
-      test : (b : Bool) → comes_before r o p ≡ b → comes_before r o p ≡ false
-      test false e = e
-      test true e = absurd (
-          let k = comes_is r o p e in
-          ⊎_elim
-          (λ (g : first ≡ r). key_apart _ _ _ _ k (ap (λ (v : Row). v.source.0) (sym g)) (ap (λ (v : Row). v.target.0) (sym g)))
-          (λ b. ⊎_elim (λ l. keys_apart _ _ _ _ k l) (λ m. key_apart _ _ _ _ k (sym m.0) (sym m.1)) b)
-          (first_before RowBefore rows first order is r a)
-          )
-
-  start_point : IsPartitionPoint (λ (r : Row). comes_before r o p ≡ true) (λ (r : Row). comes_before r o p ≡ false) rows 0
-  start_point = (λ k d a b. absurd (omega arith), λ k d a lt. none_before (get_or rows k d) (among_at rows k d lt))
-
   pub group_partitioned : IsPartitionedBy (λ (r : Row). has_key r o p) rows
-  group_partitioned = key_partitioned rows o p order 0 (omega arith) start_point rows (sym (take_all (length rows - 0) (drop 0 rows) (subst (λ (v : List Row). length v ≤ length rows - 0) (sym (none_dropped rows)) (omega arith)) ∙ none_dropped rows))
+  group_partitioned = leading_partitioned rows first order (all_up rows first order (sym is))
 
   module _ (n : ℕ) (bound : n ≤ length rows) (point : IsPartitionPoint (λ (r : Row). has_key r o p ≡ true) (λ (r : Row). has_key r o p ≡ false) rows n) where
     pub group_same : (r : Row) → Among (take n rows) r → HasKey r o p
-    group_same r a = key_is r o p (among_before (λ (s : Row). has_key s o p ≡ true) rows n bound point.0 r a)
+    group_same = leading_same rows first order (all_up rows first order (sym is)) n bound point
 
     pub group_some : 0 < n
     group_some = elim (eqb_tells n 0) [
@@ -139,10 +117,6 @@ module _ (first second left : List Row) (items : List Item) (g : HasSubtracted f
           ((g.holds x y).1 h),
     );
   }
-
-no_first : (left : List Row) → None ≡ slice_get left 0 → left ≡ []
-no_first [] e = refl
-no_first (i ∷ is) e = let none : ⊥ = cc in absurd none
 
 pub all_subtracted : (first second left : List Row) (items : List Item) → None ≡ slice_get left 0 → HasSubtracted first second left items → (x y : Point) → ItemsHold items x y ↔ OnlyFirstHolds first second x y
 all_subtracted first second left items none g x y =

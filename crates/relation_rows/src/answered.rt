@@ -23,7 +23,7 @@ impl Answer {
         ensures { result ≡ row_number (answered self.now) }
     {
         match self {
-            Answer::Pairs(relation) => relation.row_count(),
+            Answer::Pairs(relation) => relation.rows().len() as u64,
             Answer::Times(times) => times.rows().len() as u64,
         }
     }

@@ -13,7 +13,7 @@ ghost use Rattle.relation_rows.specs.declared.rows.Row.{Row as PlainRow};
 ghost use Rattle.relation_rows.specs.Rows.{RowBefore, HasKey};
 ghost use Rattle.relation_rows.specs.Relations.{ItemsHold, OnlyFirstHolds};
 ghost use Rattle.relation_rows.specs.Uniting.{SomeHasBand};
-ghost use Rattle.relation_rows.specs.Minus.{OnlyFirstMeets, OnlyFirstHasBand};
+ghost use Rattle.relation_rows.specs.Minus.{OnlyFirstMeets, OnlyFirstHasBand, HasAcross};
 
 use crate::gather::Item;
 use crate::parting::parting;
@@ -146,7 +146,7 @@ fn left_of(alloc: Global, rows: &[Row], cuts: &[Row]) -> Result<Vec<Zone>, Alloc
 
 // Adds the zones from the row's source to its target.
 fn push_items(items: &mut Vec<Item>, row: &Row, zones: &[Zone]) -> Result<(), AllocError>
-    ensures { OnOk result ((x : Point) → (y : Point) → ItemsHold items.new.items x y ↔ (ItemsHold items.old.items x y ⊎ (HasKey row.now x.object y.object × SomeMeets zones.now x.moment y.moment))) }
+    ensures { OnOk result ((x : Point) → (y : Point) → ItemsHold items.new.items x y ↔ (ItemsHold items.old.items x y ⊎ HasAcross row.now zones.now x y)) }
 {
     for zone in zones {
         items.push((row.source, row.target, *zone))?;

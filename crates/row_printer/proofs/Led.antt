@@ -1,7 +1,6 @@
 -- The texts of rows, one behind the other.
-use Rattle.std.proofs.Common.{◌≡◌, ℕ, zero, suc, ◌+◌, ◌<◌, inl, inr, arith, Some, List, [], ◌∷◌, ◌++◌, length, take, drop, get_or, refl, sym, ap, ◌∙◌, append_assoc, append-nil, take-append-drop}
+use Rattle.std.proofs.Common.{◌≡◌, ℕ, zero, suc, ◌+◌, ◌<◌, inl, inr, arith, List, [], ◌∷◌, ◌++◌, length, take, drop, get_or, refl, sym, ap, ◌∙◌, append_assoc, append-nil, take-append-drop}
 use Rattle.std.proofs.lemmas.List.{take_more}
-use Rattle.std.specs.Prelude.{slice_get}
 use Rattle.itpg_base.specs.Lists.{Among}
 use Rattle.row_printer.specs.Texts.{led}
 
@@ -10,17 +9,6 @@ pub at_among : {X : Type 0} (xs : List X) (i : ℕ) (x : X) → i < length xs �
 at_among [] i x h e = absurd (omega arith)
 at_among (y ∷ ys) zero x h e = inl e
 at_among (y ∷ ys) (suc i) x h e = inr (at_among ys i x (omega arith) e)
-
-pub found_among : {X : Type 0} (xs : List X) (i : ℕ) (x : X) → slice_get xs i ≡ Some x → Among xs x
-found_among [] i x e = let no : ⊥ = cc in absurd no
-found_among (y ∷ ys) zero x e = inl (let same : y ≡ x = cc in same)
-found_among (y ∷ ys) (suc i) x e = inr (found_among ys i x e)
-
--- and something stands at each place
-pub there : {X : Type 0} (xs : List X) (i : ℕ) → i < length xs → (x : X) × (slice_get xs i ≡ Some x) × (get_or xs i x ≡ x)
-there [] i h = absurd (omega arith)
-there (x ∷ xs) zero h = (x, refl, refl)
-there (x ∷ xs) (suc i) h = there xs i (omega arith)
 
 module _ {X : Type 0} (lead : List ℕ) (text : X → List ℕ) where
   pub led_none : (xs : List X) → led lead text (take 0 xs) ≡ []

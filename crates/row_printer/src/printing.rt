@@ -1,7 +1,6 @@
 //! Printing an answer.
-ghost use Rattle.std.specs.Prelude.{◌≡◌, ◌+◌, ◌≤◌, ◌<◌, ◌++◌, ℕ, List, Some, length, slice_get, OnOk, OnErr};
+ghost use Rattle.std.specs.Prelude.{◌+◌, ◌≤◌, ◌<◌, ◌++◌, ℕ, List, length, OnOk, OnErr};
 ghost use Rattle.itpg_base.specs.Sinks.{Gets, GetsSome, IsHonest};
-ghost use Rattle.relation_rows.specs.declared.rows.Row.{Row as PlainRow};
 ghost use Rattle.relation_rows.specs.Answered.{answered, pairs, times};
 ghost use Rattle.row_printer.specs.Texts.{answer_text, led, pair_text, time_text, AreDeclared};
 ghost use Rattle.row_printer.specs.Said.{SaysTo, SaysSomeTo};
@@ -10,7 +9,7 @@ use crate::lines::{MAX_ROW, add_pair, add_time};
 use crate::page::{PAGE, Page};
 use itpg_base::{Failed, Sink};
 use itpg_graph::Graph;
-use relation_rows::{Answer, OneRow, Relation, Row};
+use relation_rows::{Answer, OneRow, Row};
 
 /// Writes a line for each row of the answer, in order, each after the lead.
 ///
@@ -57,49 +56,28 @@ fn say_answer<K: Sink>(
     ensures cause { IsHonest K.Sink out.old out.new result }
 {
     match answer {
-        Answer::Pairs(relation) => say_pairs(graph, relation, lead, page, out),
-        Answer::Times(rows) => say_times(graph, rows.rows(), lead, page, out),
+        Answer::Pairs(relation) => say_pairs(graph, relation.rows(), lead, page, out),
+        Answer::Times(times) => say_times(graph, times.rows(), lead, page, out),
     }
 }
 
 // Says the rows of two times.
 fn say_pairs<K: Sink>(
     graph: &Graph,
-    relation: &Relation,
+    rows: &[Row],
     lead: &[u8],
     page: &mut Page,
     out: &mut K,
 ) -> Result<(), Failed>
-    requires declared { AreDeclared (length graph.now.objects) (pairs relation.now) }
-    ensures said { OnOk result (SaysTo K.Sink out.old out.new page.old page.new (led lead.now (pair_text graph.now) relation.now)) }
-    ensures some { OnErr result (SaysSomeTo K.Sink out.old out.new page.old (led lead.now (pair_text graph.now) relation.now)) }
+    requires declared { AreDeclared (length graph.now.objects) (pairs rows.now) }
+    ensures said { OnOk result (SaysTo K.Sink out.old out.new page.old page.new (led lead.now (pair_text graph.now) rows.now)) }
+    ensures some { OnErr result (SaysSomeTo K.Sink out.old out.new page.old (led lead.now (pair_text graph.now) rows.now)) }
     ensures cause { IsHonest K.Sink out.old out.new result }
 {
-    for number in 0..relation.row_count() {
-        say_numbered(graph, relation, number, lead, page, out)?;
+    for row in rows {
+        say_pair(graph, row, lead, page, out)?;
     }
     Ok(())
-}
-
-// Says the row at a place.
-fn say_numbered<K: Sink>(
-    graph: &Graph,
-    relation: &Relation,
-    number: u64,
-    lead: &[u8],
-    page: &mut Page,
-    out: &mut K,
-) -> Result<(), Failed>
-    requires there { number < length relation.now }
-    requires declared { AreDeclared (length graph.now.objects) (pairs relation.now) }
-    ensures said { OnOk result ((r : PlainRow) → slice_get relation.now number ≡ Some r → SaysTo K.Sink out.old out.new page.old page.new (lead.now ++ pair_text graph.now r)) }
-    ensures some { OnErr result ((r : PlainRow) → slice_get relation.now number ≡ Some r → SaysSomeTo K.Sink out.old out.new page.old (lead.now ++ pair_text graph.now r)) }
-    ensures cause { IsHonest K.Sink out.old out.new result }
-{
-    match relation.row(number) {
-        Some(row) => say_pair(graph, &row, lead, page, out),
-        None => Ok(()),
-    }
 }
 
 // Says the rows of one time.

@@ -1,5 +1,5 @@
 -- Which lines of a script ask.
-use Rattle.std.proofs.Common.{◌≡◌, ℕ, zero, suc, ◌+◌, Bool, true, false, List, [], ◌∷◌, ◌++◌, codes, refl, ap, sym, subst, arith, get_or, nat_eq, if◌then◌else◌}
+use Rattle.std.proofs.Common.{◌≡◌, ℕ, zero, suc, ◌+◌, Bool, true, false, List, [], ◌∷◌, ◌++◌, refl, ap, sym, subst, arith, get_or, nat_eq, if◌then◌else◌}
 use Rattle.trial_script.specs.Draws.{after, draw}
 use Rattle.trial_script.specs.Script.{Text, node_name, edge_name, graph_line, node_line, live_line, edge_line, edge_pair, edge_lines, high_line, positive_line, sign_lines, after_sign, signs, ask_lines, each, edits, script, Asks, AskNothing}
 use Rattle.trial_script.proofs.Places.{each_more, each_none, signs_more, signs_none}

@@ -1,6 +1,7 @@
 //! The lines of a script and their texts.
 ghost use Rattle.std.specs.Prelude.{◌≡◌, ◌+◌, IfOk, codes, if◌then◌else◌, nat_eq, nat_lt, string_bytes};
 ghost use Rattle.trial_script.specs.Draws.{after, draw};
+ghost use Rattle.trial_script.specs.Script.{edge_line, edge_name, high_line, live_line, positive_line};
 ghost use Rattle.trial_script.specs.Left.{line_text, question_line};
 
 use crate::draws::draw;
@@ -56,7 +57,7 @@ impl Line {
     }
 
     // The text of the line.
-    #[tactic(auto, unfolding(crate::specs::Script::graph_line, crate::specs::Script::node_line, crate::specs::Script::live_line, crate::specs::Script::edge_line, crate::specs::Script::high_line, crate::specs::Script::positive_line, crate::specs::Script::node_name, crate::specs::Script::edge_name))]
+    #[tactic(auto, unfolding(crate::specs::Script::graph_line, crate::specs::Script::node_line, crate::specs::Script::live_line, crate::specs::Script::node_name))]
     fn text(&self, alloc: Global) -> Result<String, AllocError>
         ensures { IfOk result (λ text. string_bytes text ≡ line_text self.now) }
     {
@@ -64,20 +65,10 @@ impl Line {
             Line::Graph => format!(in alloc; "graph trial 0 9999"),
             Line::Node(i) => format!(in alloc; "node n{i} {}", label(i)),
             Line::NodeLife(i) => format!(in alloc; "live n{i} {FIRST} {LAST}"),
-            Line::Edge(e) => format!(in alloc;
-                "edge e{} {} n{} n{}",
-                e.number,
-                kind(e.meets),
-                e.source,
-                e.target
-            ),
-            Line::EdgeLife(e) => format!(in alloc; "live e{} {} {}", e.number, e.from, e.to),
-            Line::High { person, from, to } => format!(in alloc;
-                "set n{person} risk 'high' {from} {to}"
-            ),
-            Line::Positive { person, from, to } => format!(in alloc;
-                "set n{person} test 'pos' {from} {to}"
-            ),
+            Line::Edge(e) => e.text(alloc),
+            Line::EdgeLife(e) => e.life(alloc),
+            Line::High { person, from, to } => high(alloc, person, from, to),
+            Line::Positive { person, from, to } => positive(alloc, person, from, to),
             Line::Ask(question) => format!(in alloc; "{}", question.line()),
         }
     }
@@ -109,6 +100,28 @@ impl DrawnEdge {
             to: from + more,
         }
     }
+
+    // The line that declares it.
+    #[tactic(auto, unfolding(crate::specs::Script::edge_line, crate::specs::Script::edge_name, crate::specs::Script::node_name))]
+    fn text(self, alloc: Global) -> Result<String, AllocError>
+        ensures { IfOk result (λ text. string_bytes text ≡ edge_line self.number self.meets self.source self.target) }
+    {
+        format!(in alloc;
+            "edge e{} {} n{} n{}",
+            self.number,
+            kind(self.meets),
+            self.source,
+            self.target
+        )
+    }
+
+    // The line of its life.
+    #[tactic(auto, unfolding(crate::specs::Script::live_line, crate::specs::Script::edge_name))]
+    fn life(self, alloc: Global) -> Result<String, AllocError>
+        ensures { IfOk result (λ text. string_bytes text ≡ live_line (edge_name self.number) self.from self.to) }
+    {
+        format!(in alloc; "live e{} {} {}", self.number, self.from, self.to)
+    }
 }
 
 impl Question {
@@ -125,6 +138,22 @@ impl Question {
             Question::Alone => "ask MATCH (x:Person)-/{NOT ?(FWD/:meets)}/-()",
         }
     }
+}
+
+// The line that sets a person's risk to high.
+#[tactic(auto, unfolding(crate::specs::Script::high_line, crate::specs::Script::node_name))]
+fn high(alloc: Global, person: u64, from: u64, to: u64) -> Result<String, AllocError>
+    ensures { IfOk result (λ text. string_bytes text ≡ high_line person from to) }
+{
+    format!(in alloc; "set n{person} risk 'high' {from} {to}")
+}
+
+// The line that sets a person's test to positive.
+#[tactic(auto, unfolding(crate::specs::Script::positive_line, crate::specs::Script::node_name))]
+fn positive(alloc: Global, person: u64, from: u64, to: u64) -> Result<String, AllocError>
+    ensures { IfOk result (λ text. string_bytes text ≡ positive_line person from to) }
+{
+    format!(in alloc; "set n{person} test 'pos' {from} {to}")
 }
 
 // The label of a node.

@@ -1,5 +1,6 @@
 -- The bounds of pairs that stay in place or move by a step, and when there is any.
-use Rattle.std.proofs.Common.{◌≡◌, ◌↔◌, ℤ, pos, ◌<ℤ◌, Bool, true, false, refl, Option, IsNone}
+use Rattle.std.proofs.Common.{◌≡◌, ◌↔◌, ℤ, pos, ◌<ℤ◌, refl, Option, IsNone}
+use Rattle.std.proofs.lemmas.Bool.{false_from_ne_true}
 use Rattle.std.proofs.lemmas.Int.{by_lt_z}
 use Rattle.zone_core.proofs.Numbers.{signed}
 use Rattle.zone_core.specs.declared.Bounds.{Bounds}
@@ -36,10 +37,6 @@ moves-meets step first last t u = (
   },
 )
 
-not_true : (b : Bool) → (b ≡ true → ⊥) → b ≡ false
-not_true false h = refl
-not_true true h = absurd (h refl)
-
 -- nothing stays in a span exactly where its first moment is above its last
 pub stays-none : {first last : ℤ} {o : Option Bounds} → IsZoneOf (Stays first last) o → IsNone o ↔ (last <ℤ first)
 stays-none {first} {last} z = (
@@ -50,5 +47,5 @@ stays-none {first} {last} z = (
         related = record { from = omega signed; to = le; same = refl };
       }) in
       cc),
-  λ lt. not_true _ (λ some. let p = z.some.0 some in let s = p.related in omega signed),
+  λ lt. false_from_ne_true _ (λ some. let p = z.some.0 some in let s = p.related in omega signed),
 )

@@ -15,6 +15,7 @@ ghost use Rattle.zone_core.specs.Zone.{AreApart, IsDeterminedByPairs, IsMet, IsN
 mod pieces;
 mod steps;
 
+pub use pieces::after;
 use std::marker::Model;
 
 /// Six bounds on a pair of moments.

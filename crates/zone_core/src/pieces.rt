@@ -44,7 +44,10 @@ pub(crate) fn before(mut k: Bounds, limit: i64) -> Option<Zone>
     tight(k)
 }
 
-pub(crate) fn after(mut k: Bounds, limit: i64) -> Option<Zone>
+/// The pairs within the bounds that depart after the limit, or `None` exactly if there are none.
+///
+/// The bounds `a`, `b`, `c` and `d` and the limit have to lie within 4·10^12 of zero, and `e` and `f` within 8·10^12.
+pub fn after(mut k: Bounds, limit: i64) -> Option<Zone>
     requires k_near { IsNear k }
     requires limit_near { Within moment_reach limit }
     ensures { (t : ℤ) → (u : ℤ) → Holds result t u ↔ (Meets k t u × (limit <ℤ t)) }

@@ -4,11 +4,8 @@ use Rattle.std.proofs.lemmas.Int.{ints}
 use Rattle.band_normal.specs.declared.band.Band.{Band}
 use Rattle.itpg_base.specs.Lists.{Among, Ordered}
 use Rattle.band_normal.specs.Strips.{BeginsEarlier}
+use Rattle.band_normal.proofs.LineLemmas.{first_in}
 use Rattle.band_normal.proofs.sweep.departures.Goals as goal
-
-first_among : (bands : List Band) (x : Band) → Some x ≡ slice_get bands 0 → Among bands x
-first_among [] x e = let none : ⊥ = cc in absurd none
-first_among (y ∷ ys) x e = inl (cc)
 
 first_from : (bands : List Band) (x : Band) → Some x ≡ slice_get bands 0 → Ordered BeginsEarlier bands → (b : Band) → Among bands b → x.from ≤ℤ b.from
 first_from [] x e o b i = absurd i
@@ -24,7 +21,7 @@ first_from (y ∷ ys) x e o b (inr i) =
 
 pub returns-clause-some : goal.returns-clause-some
 returns-clause-some c =
-    let w = c.requires.well_formed c.in_ok-first.first.now (first_among c.args.bands.now c.in_ok-first.first.now c.in_ok-first.ensures.value) in
+    let w = c.requires.well_formed c.in_ok-first.first.now (first_in c.args.bands.now c.in_ok-first.first.now c.in_ok-first.ensures.value) in
     let near = w.from in
     let fits : SFits w64 c.in_ok-first.first.now.from = omega (arith, ints) in
     let last = w.to in let span = w.span in

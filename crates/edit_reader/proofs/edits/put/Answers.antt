@@ -5,8 +5,19 @@ use Rattle.itpg_edit.specs.declared.edit.Edit.{Edit}
 use Rattle.edit_reader.specs.Readings.{Changes}
 use Rattle.edit_reader.specs.Steps.{name_then}
 use Rattle.edit_reader.proofs.FormSteps.{put_steps}
+use Rattle.edit_reader.proofs.Stepping.{word_step, quoted_step}
+use Rattle.edit_reader.proofs.PartSteps.{stops_at_span}
+use Rattle.edit_reader.specs.Forms.{lexemes}
 use Rattle.edit_reader.proofs.PartFaults.{named, overlong}
 use Rattle.edit_reader.proofs.edits.put.Goals as goal
+
+pub returns-in_err-from : goal.returns-in_err-from
+returns-in_err-from c = λ tokens are.
+    let p = err_from_is_err_and c.from_residual-in_err-from.result c.from_residual-in_err-from.ensures.1 in
+    let t = c.in_ok-id.ensures tokens are in
+    let u = c.in_ok-prop.ensures t.rest t.behind in
+    let v = c.in_ok-value.ensures u.rest u.behind in
+    rw (p.1, p.2) (sym (word_step t _ ∙ word_step u _ ∙ quoted_step v _ ∙ stops_at_span (lexemes v.rest) (c.in_err-from.ensures v.rest v.behind) (λ from to. name_then c.in_ok-id.id.now (λ a. name_then c.in_ok-prop.prop.now (λ b. name_then c.in_ok-value.value.now (λ v. Ok (Changes (Edit.Put a b v from to))))))))
 
 pub returns-in_err-id-2 : goal.returns-in_err-id-2
 returns-in_err-id-2 c = λ tokens are.

@@ -1,8 +1,9 @@
-use Rattle.relation_rows.proofs.Arriving.{no_times, push_time, few_times, all_times, formed_row}
+use Rattle.relation_rows.proofs.Arriving.{no_times, push_time, few_times, all_times}
+use Rattle.relation_rows.proofs.Going.{row_formed}
 use Rattle.relation_rows.proofs.times.times_of.Goals as goal
 
 pub time_of-requires : goal.time_of-requires
-time_of-requires c = formed_row c.args.rows.now c.loop-row.row-index _ c.loop-row-test.true c.requires
+time_of-requires c = row_formed c.args.rows.now c.loop-row.row-index _ c.loop-row-test.true c.requires
 
 pub loop-row-init : goal.loop-row-init
 loop-row-init c = no_times c.args.side c.args.rows.now _ c.new-times.ensures.items

@@ -1,16 +1,19 @@
-use Rattle.std.proofs.Common.{◌≡◌, Err, sym, ◌∙◌, subst}
+use Rattle.std.proofs.Common.{List, subst}
 use Rattle.std.specs.Prelude.{MatchResult}
-use Rattle.std.proofs.lemmas.Result.{MatchResult-from_both, IfOk-weaker, IfErr-weaker}
-use Rattle.edit_reader.specs.Forms.{lexemes}
-use Rattle.edit_reader.specs.Steps.{Told, name_then, only_name_then}
-use Rattle.edit_reader.proofs.Stepping.{word_step}
-use Rattle.edit_reader.proofs.PartFaults.{named, overlong}
+use Rattle.std.proofs.lemmas.Result.{err_from_is_err_and, MatchResult-from_both}
+use Rattle.script_lex.specs.Lexemes.{Lexeme}
+use Rattle.edit_reader.specs.Taken.{Names, IsLong, IsOnlyName, NoOnlyName}
+use Rattle.edit_reader.proofs.PartsTaken.{word_alone, word_followed}
 use Rattle.edit_reader.proofs.parts.Parts.only_name.Goals as goal
 
-pub returns : goal.returns
-returns c = λ tokens are go_on.
+pub returns-in_err-end : goal.returns-in_err-end
+returns-in_err-end c = λ tokens are.
+    let p = err_from_is_err_and c.from_residual-in_err-end.result c.from_residual-in_err-end.ensures.1 in
     let t = c.in_ok-word.ensures tokens are in
-    let steps : only_name_then (lexemes tokens) go_on ≡ name_then c.in_ok-word.word.now go_on = word_step t _ ∙ c.in_ok-end.ensures t.rest t.behind (name_then c.in_ok-word.word.now go_on) in
-    subst (λ (x : Told). MatchResult c.name.result (λ name. x ≡ go_on name) (λ code. x ≡ Err code)) (sym steps)
-    (MatchResult-from_both c.name.result (λ name. name_then c.in_ok-word.word.now go_on ≡ go_on name) (λ code. name_then c.in_ok-word.word.now go_on ≡ Err code)
-    (IfOk-weaker c.name.result _ _ (λ _ fact. named fact go_on) c.name.ensures.name) (IfErr-weaker c.name.result _ _ (λ _ fact. overlong _ fact go_on) c.name.ensures.long))
+    rw (p.1, p.2) (word_followed t (c.in_err-end.ensures t.rest t.behind))
+
+pub returns : goal.returns
+returns c = λ tokens are.
+    let t = c.in_ok-word.ensures tokens are in
+    subst (λ (parts : List Lexeme). MatchResult c.name.result (λ name. IsOnlyName parts name) (λ code. NoOnlyName parts code)) (word_alone t (c.in_ok-end.ensures t.rest t.behind))
+    (MatchResult-from_both c.name.result (λ name. Names c.in_ok-word.word.now name) (λ code. IsLong c.in_ok-word.word.now code) c.name.ensures.name c.name.ensures.long)

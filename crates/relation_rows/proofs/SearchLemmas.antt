@@ -1,0 +1,91 @@
+-- Two searches in a list in order: the first passes what comes early, the second takes what is looked for.
+use Rattle.std.proofs.Common.{◌≡◌, ◌↔◌, inl, inr, ⊎_elim, ℕ, ◌-◌, ◌<◌, ◌≤◌, List, length, get_or, take, drop, sym, ◌∙◌, subst, arith, Bool, true, false, true≢false}
+use Rattle.std.specs.Prelude.{◌==◌, nat_lt}
+use Rattle.std.specs.List.Sorted.{IsPartitionedBy, IsPartitionPoint}
+use Rattle.std.proofs.lemmas.Bool.Decides.{eqb_tells, Decides-ltb}
+use Rattle.std.proofs.lemmas.List.{take_all, length-drop}
+use Rattle.itpg_base.specs.Lists.{Among, Ordered}
+use Rattle.itpg_base.proofs.Lists.{among_at, ordered_by_place}
+use Rattle.relation_rows.proofs.Partitions.{among_before, among_behind, among_either, front_among, rest_among, rest_ordered}
+
+-- by any two tests: what comes before an early one is early, and before a fitting one early or fitting
+module _ {X : Type 0} (Before : X → X → Type 0) (is_early fits : X → Bool)
+    (early_down : (r s : X) → Before r s → is_early s ≡ true → is_early r ≡ true)
+    (fits_down : (r s : X) → Before r s → fits s ≡ true → is_early r ≡ false → fits r ≡ true)
+    (apart : (r : X) → fits r ≡ true → is_early r ≡ true → ⊥)
+    (rows : List X) (order : Ordered Before rows) where
+  pub early_partitioned : IsPartitionedBy is_early rows
+  early_partitioned i j d le lt e = elim (eqb_tells i j) [
+    | inl s ↦ subst (λ (v : ℕ). is_early (get_or rows v d) ≡ true) (sym s.1) e
+    | inr n ↦ early_down (get_or rows i d) (get_or rows j d) (ordered_by_place Before rows order i j d (let ne = n.1 in omega arith) lt) e
+  ]
+
+  module _ (n : ℕ) (bound : n ≤ length rows) (point : IsPartitionPoint (λ (r : X). is_early r ≡ true) (λ (r : X). is_early r ≡ false) rows n)
+      (from : List X) (is : from ≡ take (length rows - n) (drop n rows)) where
+    from_is : from ≡ drop n rows
+    from_is = is ∙ take_all (length rows - n) (drop n rows) (omega (arith, length-drop n rows))
+
+    not_early : (r : X) → Among from r → is_early r ≡ false
+    not_early r a = among_behind (λ (s : X). is_early s ≡ false) rows n bound point.1 r (subst (λ (v : List X). Among v r) from_is a)
+
+    order_from : Ordered Before from
+    order_from = subst (λ (v : List X). Ordered Before v) (sym from_is) (rest_ordered Before rows n order)
+
+    pub fits_partitioned : IsPartitionedBy fits from
+    fits_partitioned i j d le lt e = elim (eqb_tells i j) [
+      | inl s ↦ subst (λ (v : ℕ). fits (get_or from v d) ≡ true) (sym s.1) e
+      | inr m ↦ fits_down (get_or from i d) (get_or from j d) (ordered_by_place Before from order_from i j d (let ne = m.1 in omega arith) lt) e (not_early (get_or from i d) (among_at from i d (omega arith)))
+    ]
+
+    pub fitting_rows : (m : ℕ) → m ≤ length from → IsPartitionPoint (λ (r : X). fits r ≡ true) (λ (r : X). fits r ≡ false) from m → (r : X) → Among (take m from) r ↔ (Among rows r × (fits r ≡ true))
+    fitting_rows m within split r = (
+      λ a. (rest_among rows n r (subst (λ (v : List X). Among v r) from_is (front_among from m r a)), among_before (λ (s : X). fits s ≡ true) from m within split.0 r a),
+      λ h. ⊎_elim
+          (λ t. absurd (apart r h.1 (among_before (λ (s : X). is_early s ≡ true) rows n bound point.0 r t)))
+          (λ d. ⊎_elim (λ f. f) (λ l. absurd (true≢false (sym h.1 ∙ among_behind (λ (s : X). fits s ≡ false) from m within split.1 r l)))
+          (among_either from m r (subst (λ (v : List X). Among v r) (sym from_is) d)))
+          (among_either rows n r h.0),
+    )
+
+-- by a number that never falls along the list
+module _ {X : Type 0} (number : X → ℕ) (o : ℕ) where
+  abbrev pub has_less : X → Bool
+  has_less r = nat_lt (number r) o
+
+  abbrev pub has_number : X → Bool
+  has_number r = number r == o
+
+  less_is : (r : X) → has_less r ≡ true → number r < o
+  less_is r e = grind (arith, Decides-ltb)
+
+  is_less : (r : X) → number r < o → has_less r ≡ true
+  is_less r l = grind (arith, Decides-ltb)
+
+  number_is : (r : X) → has_number r ≡ true → number r ≡ o
+  number_is r e = ⊎_elim (λ k. k.1) (λ k. absurd (true≢false (sym e ∙ k.0))) (eqb_tells (number r) o)
+
+  is_number : (r : X) → number r ≡ o → has_number r ≡ true
+  is_number r e = ⊎_elim (λ k. k.0) (λ k. absurd (k.1 e)) (eqb_tells (number r) o)
+
+  module _ (Before : X → X → Type 0) (up : (r s : X) → Before r s → number r ≤ number s) (rows : List X) (order : Ordered Before rows) where
+    less_down : (r s : X) → Before r s → has_less s ≡ true → has_less r ≡ true
+    less_down r s b e = is_less r (let l = less_is s e in let u = up r s b in omega arith)
+
+    number_down : (r s : X) → Before r s → has_number s ≡ true → has_less r ≡ false → has_number r ≡ true
+    number_down r s b e f = is_number r (let n = number_is s e in let u = up r s b in let l : ¬ (number r < o) = λ l. true≢false (sym (is_less r l) ∙ f) in omega arith)
+
+    number_apart : (r : X) → has_number r ≡ true → has_less r ≡ true → ⊥
+    number_apart r e f = let n = number_is r e in let l = less_is r f in omega arith
+
+    pub less_partitioned : IsPartitionedBy has_less rows
+    less_partitioned = early_partitioned Before has_less has_number less_down number_down number_apart rows order
+
+    module _ (n : ℕ) (bound : n ≤ length rows) (point : IsPartitionPoint (λ (r : X). has_less r ≡ true) (λ (r : X). has_less r ≡ false) rows n)
+        (from : List X) (is : from ≡ take (length rows - n) (drop n rows)) where
+      pub number_partitioned : IsPartitionedBy has_number from
+      number_partitioned = fits_partitioned Before has_less has_number less_down number_down number_apart rows order n bound point from is
+
+      pub numbered_rows : (m : ℕ) → m ≤ length from → IsPartitionPoint (λ (r : X). has_number r ≡ true) (λ (r : X). has_number r ≡ false) from m → (r : X) → Among (take m from) r ↔ (Among rows r × (number r ≡ o))
+      numbered_rows m within split r =
+          let k = fitting_rows Before has_less has_number less_down number_down number_apart rows order n bound point from is m within split r in
+          (λ a. let h = k.0 a in (h.0, number_is r h.1), λ h. k.1 (h.0, is_number r h.1))
