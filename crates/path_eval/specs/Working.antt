@@ -46,8 +46,8 @@ abbrev pub axis_members : PathTerm → Scope → Scope → List Member
 axis_members p a b = member p a b ∷ []
 
 -- a test needs those of its conditions
-abbrev pub test_members : TestTerm → Scope → List Member
-test_members c a = member (OfTest c) a a ∷ worked_conditions c a
+abbrev pub test_members : TestTerm → Scope → Scope → List Member
+test_members c a b = member (OfTest c) a b ∷ worked_conditions c a
 
 -- a sequence needs those of the first path to the middle, and of the second from there
 abbrev pub sequence_members : PathTerm → PathTerm → Scope → Scope → List Member
@@ -63,7 +63,7 @@ repeated_members r n m a b = let u = passed r (record { sources = a; targets = b
 
 -- those of a path between narrowed scopes
 abbrev pub members_between : PathTerm → Scope → Scope → List Member
-members_between (OfTest c) a b = test_members c a
+members_between (OfTest c) a b = test_members c a b
 members_between Forward a b = axis_members Forward a b
 members_between Backward a b = axis_members Backward a b
 members_between Next a b = axis_members Next a b

@@ -15,6 +15,7 @@ mod middle;
 mod passing;
 mod powers;
 mod repeated;
+mod within_both;
 
 pub use answering::answer;
 pub use evaluation::relation_of;
