@@ -78,3 +78,38 @@ abbrev mutual
   worked_conditions (Conjunction c d) a = worked_conditions c a ++ worked_conditions d a
   worked_conditions (Disjunction c d) a = worked_conditions c a ++ worked_conditions d a
   worked_conditions (Negation c) a = worked_conditions c a
+
+-- the path between the scopes
+abbrev pub member : PathTerm → Scope → Scope → Member
+member p a b = record { path = p; sources = a; targets = b }
+
+-- an axis needs no other member
+abbrev pub axis_members : PathTerm → Scope → Scope → List Member
+axis_members p a b = member p a b ∷ []
+
+-- a test needs those of its conditions
+abbrev pub test_members : TestTerm → Scope → Scope → List Member
+test_members c a b = member (OfTest c) a b ∷ worked_conditions c a
+
+-- a sequence needs those of the first path to the middle, and of the second from there
+abbrev pub sequence_members : PathTerm → PathTerm → Scope → Scope → List Member
+sequence_members p q a b = let m = middle p q (record { sources = a; targets = b }) in member (Sequence p q) a b ∷ (worked p a m ++ worked q m b)
+
+-- a choice needs those of both paths
+abbrev pub choice_members : PathTerm → PathTerm → Scope → Scope → List Member
+choice_members p q a b = member (Choice p q) a b ∷ (worked p a b ++ worked q a b)
+
+-- a repetition needs those of its body between all that it passes, and the powers there
+abbrev pub repeated_members : PathTerm → ℕ → Option ℕ → Scope → Scope → List Member
+repeated_members r n m a b = let u = passed r (record { sources = a; targets = b }) in member (Repetition r n m) a b ∷ (worked r u u ++ (powers_within r u (chain n) ++ unions_within r u (further n m)))
+
+-- those of a path between narrowed scopes
+abbrev pub members_between : PathTerm → Scope → Scope → List Member
+members_between (OfTest c) a b = test_members c a b
+members_between Forward a b = axis_members Forward a b
+members_between Backward a b = axis_members Backward a b
+members_between Next a b = axis_members Next a b
+members_between Previous a b = axis_members Previous a b
+members_between (Sequence p q) a b = sequence_members p q a b
+members_between (Choice p q) a b = choice_members p q a b
+members_between (Repetition r n m) a b = repeated_members r n m a b

@@ -1,5 +1,10 @@
 //! Short rising lists of labels.
 ghost use Rattle.std.specs.Prelude.{◌≡◌, ◌↔◌, ◌∷◌, [], ◌≤◌, length, Contains, IsTrue, IfOk, IfSome, IsNone, OnOk, OnErr, insert};
+ghost use Rattle.std.specs.Prelude.{nat_eq};
+ghost use Rattle.std.specs.Cmp.{partial_equiv_from_equiv};
+ghost use Rattle.std.specs.Cmp.Lexicographic.{nat_list_eq_equiv, lists_equiv, pointwise, bytes_decides};
+ghost use Rattle.std.specs.Hash.{items_Alike, same_Alike};
+ghost use Rattle.std.specs.Hash as fed;
 ghost use Rattle.itpg_base.specs.Words.{IsRising};
 ghost use Rattle.label_scope.specs.Labels.{with_label, labels_of_either, labels_of_both};
 
@@ -7,6 +12,7 @@ use itpg_base::Name;
 use smallvec::SmallVec;
 use std::alloc::{AllocError, Global};
 use std::cmp::Ordering;
+use std::hash::{Hash, Hasher};
 use std::marker::Model;
 
 /// A list of different labels that rises, byte by byte.
@@ -94,6 +100,30 @@ impl Labels {
             self.names.insert(place, label)?;
         }
         Ok(())
+    }
+}
+
+impl PartialEq for Labels {
+    ghost eq = { pointwise (pointwise nat_eq) };
+
+    ghost laws = { partial_equiv_from_equiv (lists_equiv nat_list_eq_equiv) };
+
+    fn eq(&self, other: &Labels) -> bool {
+        self.names() == other.names()
+    }
+}
+
+impl Eq for Labels {
+    ghost laws = { lists_equiv nat_list_eq_equiv };
+}
+
+impl Hash for Labels {
+    ghost hash_input = { fed.slice (fed.slice fed.u8) };
+
+    ghost respects_eq = { (items_Alike (same_Alike (fed.slice fed.u8) bytes_decides)).fed };
+
+    fn hash<H: Hasher>(&self, state: &mut H) {
+        self.names().hash(state);
     }
 }
 

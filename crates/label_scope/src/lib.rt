@@ -5,6 +5,7 @@
 //! scopes of a path changes nothing. The worked members are a definition: the crate that evaluates paths answers by it.
 #![tactic(auto)]
 
+mod between;
 mod examples;
 mod labels;
 mod laws;
@@ -12,6 +13,7 @@ mod members;
 mod paths;
 mod scope;
 
+pub use between::{middle, passed};
 pub use examples::{
     members_of_repetitions, members_of_sequences, scopes_of_narrowed_paths, scopes_of_short_paths,
 };

@@ -7,7 +7,7 @@ use itpg_base::{LabelSet, Name};
 use std::alloc::{AllocError, Global};
 
 /// A set of objects by their labels: all objects, or those that have one of the labels.
-#[derive(Drop)]
+#[derive(PartialEq, Eq, Hash, Drop)]
 pub enum Scope {
     /// Every object.
     All,

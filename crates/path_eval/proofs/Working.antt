@@ -18,7 +18,7 @@ use Rattle.path_ast.specs.Terms.{PathTerm, OfTest, Forward, Backward, Next, Prev
 use Rattle.label_scope.specs.declared.scope.Scope.{Scope}
 use Rattle.label_scope.specs.declared.scope.Scope.TheVariants.{All}
 use Rattle.label_scope.specs.Narrowing.{Cut, narrowed}
-use Rattle.label_scope.specs.Members.{Member, worked, worked_conditions, middle, passed}
+use Rattle.label_scope.specs.Members.{Member, worked, worked_conditions, middle, passed, member, axis_members, test_members, sequence_members, choice_members, repeated_members, members_between}
 use Rattle.label_scope.proofs.Within.{narrowed_cut, widened_cut}
 use Rattle.condition_eval.specs.declared.marks.Marked.{Marked}
 use Rattle.condition_eval.specs.Combined.{BothMark, EitherMarks, IsUnmarked, MarkedToItself}
@@ -28,7 +28,7 @@ use Rattle.condition_eval.proofs.Meanings.{negated, both_hold, either_holds}
 use Rattle.path_eval.specs.Evaluated.{AllFit}
 use Rattle.path_eval.specs.WithinBoth.{RiseWithin, AreWithinBoth}
 use Rattle.path_eval.specs.Powers.{GivesMember, repetition_member, repetition_members}
-use Rattle.path_eval.specs.Working.{WorksOutAs, MarksOutAs, member, axis_members, test_members, sequence_members, choice_members, repeated_members, members_between}
+use Rattle.path_eval.specs.Working.{WorksOutAs, MarksOutAs}
 use Rattle.path_eval.proofs.WithinBoth.{condition_within, test_within_both}
 use Rattle.path_eval.proofs.Fitting.{fit_own, works_out, works_out_as}
 use Rattle.path_eval.proofs.MembersWithin.{none_fit, fit_both, wide_first, wide_second, wide_rest}

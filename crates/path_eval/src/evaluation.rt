@@ -10,21 +10,21 @@ ghost use Rattle.path_ast.specs.Terms.{path_term, test_term, OfTest, Sequence, C
 ghost use Rattle.path_ast.specs.Sizes.{IsPathInRange, IsTestInRange, AreInRange};
 ghost use Rattle.label_scope.specs.Narrowing.{Cut};
 ghost use Rattle.label_scope.specs.Members.{worked, worked_conditions, passed as passed_scope};
+ghost use Rattle.label_scope.specs.Members.{test_members, sequence_members, choice_members, repeated_members, members_between};
 ghost use Rattle.condition_eval.specs.Marking.{AreMarks};
 ghost use Rattle.condition_eval.specs.Tested.{HoldsAt, Stand};
 ghost use Rattle.path_eval.specs.WithinBoth.{RiseWithin};
 ghost use Rattle.path_eval.specs.Evaluated.{AllFit, SomeIsWide};
-ghost use Rattle.path_eval.specs.Working.{WorksOut, MarksOut, test_members, sequence_members, choice_members, repeated_members, members_between};
+ghost use Rattle.path_eval.specs.Working.{WorksOut, MarksOut};
 
 use crate::axes::{Direction, along_edges, in_time};
 use crate::basis::Ground;
-use crate::middle::{middle, passed};
 use crate::powers::Powers;
 use crate::within_both::objects_within_both;
 use condition_eval::{Marks, leaf_marks, starts_of};
 use itpg_base::ObjNo;
 use itpg_graph::Graph;
-use label_scope::{Scope, narrow};
+use label_scope::{Scope, middle, narrow, passed};
 use path_ast::{Path, Test};
 use relation_rows::{RelFault, Relation};
 use std::alloc::Global;
@@ -148,7 +148,7 @@ fn sequence(
     ensures { let p = path_term first.now in let q = path_term second.now in
         WorksOut ground.now result (Sequence p q) a.now b.now (sequence_members p q a.now b.now) }
 {
-    let meeting = middle(ground, first, second, a, b)?;
+    let meeting = middle(ground.alloc, first, second, a, b)?;
     let before = worked_out(ground, first, a, &meeting)?;
     let after = worked_out(ground, second, &meeting, b)?;
     before.compose(&after, ground.max_rows)
@@ -191,7 +191,7 @@ fn repetition(
     ensures { let r = path_term body.now in let n = times.now.least in let m = times.now.most in
         WorksOut ground.now result (Repetition r n m) a.now b.now (repeated_members r n m a.now b.now) }
 {
-    let within = passed(ground, body, a, b)?;
+    let within = passed(ground.alloc, body, a, b)?;
     let once = worked_out(ground, body, &within, &within)?;
     repeated(&*ground, &*body, times, &once, &within, a, b)
 }

@@ -11,7 +11,6 @@ mod axes;
 mod basis;
 mod evaluation;
 mod laws;
-mod middle;
 mod passing;
 mod powers;
 mod repeated;

@@ -3,8 +3,7 @@ use Rattle.itpg_base.specs.Chains.{chain}
 use Rattle.std.proofs.lemmas.Result.{err_from_is_err_and}
 use Rattle.path_ast.specs.Terms.{path_term, test_term, Forward, Backward, Next, Previous, Sequence, Choice, Repetition, Conjunction, Disjunction}
 use Rattle.label_scope.specs.Narrowing.{Cut}
-use Rattle.label_scope.specs.Members.{worked, worked_conditions, middle, passed, powers_within, unions_within, further}
-use Rattle.path_eval.specs.Working.{member}
+use Rattle.label_scope.specs.Members.{worked, worked_conditions, middle, passed, powers_within, unions_within, further, member}
 use Rattle.path_eval.proofs.Working.{unnarrowed, axis_out, test_out, sequence_out, choice_out, first_fault, second_fault, first_marks, second_marks, both_marked, either_marked, condition_marked, negation_marked}
 use Rattle.path_eval.proofs.evaluation.+evaluation.Goals as goal
 
