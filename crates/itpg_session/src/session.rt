@@ -78,7 +78,7 @@ pub struct Session {
 
 impl Model for Session {
     ghost use Rattle.std.specs.Coded.{codes};
-    ghost use Rattle.standing_queries.specs.Codes.{coded_path};
+    ghost use Rattle.path_ast.specs.Codes.{coded_path};
     ghost use Rattle.itpg_session.specs.Machine.{Standing};
 
     ghost Value = { Standing };

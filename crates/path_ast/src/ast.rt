@@ -65,7 +65,7 @@ pub enum Test {
 }
 
 /// A test that asks only for one object at one moment.
-#[derive(Clone, Copy, Debug, Drop)]
+#[derive(Clone, Copy, PartialEq, Eq, Hash, Debug, Drop)]
 pub enum Leaf {
     /// The object is a node.
     Node,

@@ -2,6 +2,7 @@ pub mod Evaluated
 pub mod Answering
 pub mod Working
 pub mod Axes
+pub mod WithinBoth
 pub mod Passing
 pub mod Powers
 pub mod Ready

@@ -14,6 +14,7 @@ mod laws;
 mod passing;
 mod powers;
 mod repeated;
+mod within_both;
 
 pub use answering::answer;
 pub use evaluation::relation_of;

@@ -1,4 +1,3 @@
 pub mod Watches
 pub mod Changes
-pub mod Codes
 pub mod Stores

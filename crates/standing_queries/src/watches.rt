@@ -68,7 +68,7 @@ impl Model for Watches {
     ghost use Rattle.std.specs.Prelude.{List, map};
     ghost use Rattle.std.specs.Coded.{codes};
     ghost use Rattle.standing_queries.specs.Watches.{Watch};
-    ghost use Rattle.standing_queries.specs.Codes.{coded_path};
+    ghost use Rattle.path_ast.specs.Codes.{coded_path};
 
     ghost Value = { List Watch };
 

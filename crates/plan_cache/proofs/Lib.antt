@@ -1,0 +1,9 @@
+mod Growing
+mod Stored
+mod Rebuilt
+mod Unique
+mod Doing
+mod AlikeOperations
+mod AlikeKeys
+mod Placing
+mod Adding

@@ -1,0 +1,4 @@
+pub mod Operations
+pub mod Nodes
+pub mod Growing
+pub mod Stored

@@ -1,0 +1,16 @@
+//! The nodes of plans, which questions share.
+//!
+//! Stands on `path_ast`, whose queries it takes, and on `label_scope`, whose scopes and members its nodes are of. It promises
+//! that a path between two scopes has one node, that the parts of each node's path have nodes with lower numbers, and that a
+//! query adds no more nodes than its path has terms.
+#![tactic(auto)]
+
+mod interning;
+mod key;
+mod nodes;
+mod operations;
+mod plans;
+
+pub use nodes::MAX_NODES;
+pub use operations::{PlanNo, PlanOp, PlanTest};
+pub use plans::Plans;
