@@ -7,7 +7,6 @@ pub mod Fitting
 pub mod Joining
 pub mod Leading
 pub mod Working
-pub mod Inner
 pub mod Walking
 pub mod Bounded
 pub mod Diagonals
