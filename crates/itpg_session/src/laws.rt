@@ -5,7 +5,7 @@ ghost use Rattle.itpg_edit.specs.declared.edit.Edit.{Edit};
 ghost use Rattle.itpg_edit.specs.Next.{Makes};
 ghost use Rattle.path_ast.specs.Terms.{PathTerm};
 ghost use Rattle.label_scope.specs.declared.scope.Scope.{Scope};
-ghost use Rattle.label_scope.specs.Footprints.{footprint};
+ghost use Rattle.label_scope.specs.Footprints.{footprint, footprint_between};
 ghost use Rattle.label_scope.specs.Touching.{Meets};
 ghost use Rattle.label_scope.specs.Agreeing.{Agree};
 ghost use Rattle.itpg_session.specs.MachineLaws.{OneAsked, SomeAsked, DeclaredAsked, OneReply, SomeReply, GoodReply, GoodOpening, FrontReplies};
@@ -47,9 +47,11 @@ pub fn law_of_fronts()
     law_of_long_lines();
 }
 
-/// If an edit of a good graph breaks no rule and its touch isn't met by the footprint of a path between two scopes, then the graph and
-/// the next one agree on the footprint.
+/// If an edit of a good graph breaks no rule and the footprint of a path between two scopes doesn't meet what it touches, then the
+/// graph and the next one agree on the footprint. The same holds between scopes that are narrowed.
 pub fn law_of_untouched()
-    ensures { (g new : Graph) (edit : Edit) (touch : Touch) (p : PathTerm) (a b : Scope) → Good g → Makes g edit new touch →
+    ensures path { (g new : Graph) (edit : Edit) (touch : Touch) (p : PathTerm) (a b : Scope) → Good g → Makes g edit new touch →
         (Meets (footprint p a b) touch → ⊥) → Agree g new (footprint p a b) }
+    ensures between { (g new : Graph) (edit : Edit) (touch : Touch) (p : PathTerm) (a b : Scope) → Good g → Makes g edit new touch →
+        (Meets (footprint_between p a b) touch → ⊥) → Agree g new (footprint_between p a b) }
 {}
