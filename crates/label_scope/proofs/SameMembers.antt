@@ -1,4 +1,4 @@
--- Where two graphs agree on the footprint of a path, each of its worked members leads between the same points of them.
+-- If two graphs agree on the footprint of a path, each of its worked members leads between the same points of them.
 use Rattle.std.proofs.Common.{⊎_elim, ℕ, List, [], ◌∷◌, ◌++◌, Some, sym, subst}
 use Rattle.std.specs.List.{AllByRecursion}
 use Rattle.std.specs.Prelude.{Contains}
