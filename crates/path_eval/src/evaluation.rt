@@ -198,7 +198,12 @@ fn repetition(
 
 // The relation of a test: each point of both scopes at which it holds leads to itself.
 #[cycle(evaluation)]
-fn test_relation(ground: &Ground<'_>, test: &Test, a: &Scope, b: &Scope) -> Result<Relation, RelFault>
+fn test_relation(
+    ground: &Ground<'_>,
+    test: &Test,
+    a: &Scope,
+    b: &Scope,
+) -> Result<Relation, RelFault>
     requires good { Good ground.now.graph.now }
     requires in_range { IsTestInRange (test_term test.now) }
     ensures { WorksOut ground.now result (OfTest (test_term test.now)) a.now b.now (test_members (test_term test.now) a.now b.now) }

@@ -14,7 +14,11 @@ use label_scope::Scope;
 use std::alloc::AllocError;
 
 /// The objects of the graph that stand and are within both scopes, rising.
-pub(crate) fn objects_within_both(ground: &Ground<'_>, a: &Scope, b: &Scope) -> Result<Vec<ObjNo>, AllocError>
+pub(crate) fn objects_within_both(
+    ground: &Ground<'_>,
+    a: &Scope,
+    b: &Scope,
+) -> Result<Vec<ObjNo>, AllocError>
     ensures within { IfOk result (λ objects. AreWithinBoth a.now b.now ground.now.graph.now objects.items) }
     ensures good { Good ground.now.graph.now }
 {
@@ -24,7 +28,11 @@ pub(crate) fn objects_within_both(ground: &Ground<'_>, a: &Scope, b: &Scope) -> 
 }
 
 // Those of the objects that are within the scope.
-fn those_within(ground: &Ground<'_>, objects: &[ObjNo], scope: &Scope) -> Result<Vec<ObjNo>, AllocError>
+fn those_within(
+    ground: &Ground<'_>,
+    objects: &[ObjNo],
+    scope: &Scope,
+) -> Result<Vec<ObjNo>, AllocError>
     requires rise { Rise objects.now }
     requires stand { Stand ground.now.graph.now objects.now }
     ensures { IfOk result (λ kept. AreThoseWithin scope.now ground.now.graph.now objects.now kept.items) }
