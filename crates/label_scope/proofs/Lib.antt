@@ -5,10 +5,10 @@ pub mod Within
 pub mod MiddlePoint
 pub mod Inner
 pub mod ByProperty
-pub mod Seeking
+pub mod PropertyPlaces
 pub mod NarrowedAgain
 pub mod Alike
-pub mod Footing
+pub mod FootprintLemma
 pub mod SameMembers
 pub mod Inside
 pub mod Listed

@@ -1,4 +1,4 @@
--- Where two graphs agree on the footprint of a path, each of its worked members leads between the same points of them.
+-- If two graphs agree on the footprint of a path, each of its worked members leads between the same points of them.
 use Rattle.std.proofs.Common.{⊎_elim, ℕ, List, [], ◌∷◌, ◌++◌, Some, sym, subst}
 use Rattle.std.specs.List.{AllByRecursion}
 use Rattle.std.specs.Prelude.{Contains}
@@ -17,7 +17,7 @@ use Rattle.label_scope.proofs.Scopes.{has_joined_first}
 use Rattle.label_scope.proofs.NarrowedAgain.{members_are}
 use Rattle.label_scope.proofs.Inner.{each_within}
 use Rattle.label_scope.proofs.Alike.{lies_first, lies_second, lies_under, lies_shape, agree_in, turned}
-use Rattle.label_scope.proofs.Footing.{cut_same, between_same, repetition_too}
+use Rattle.label_scope.proofs.FootprintLemma.{cut_same, between_same, repetition_too}
 
 -- where the member's path leads on the one graph, it leads on the other
 abbrev pub Follows : Graph → Graph → Member → Type 0

@@ -24,6 +24,7 @@ use Rattle.label_scope.specs.Narrowing.{Cut}
 use Rattle.condition_eval.specs.Tested.{HasHorizon}
 use Rattle.condition_eval.specs.Within.{AreWithin}
 use Rattle.condition_eval.proofs.Points.{in_horizon}
+use Rattle.path_eval.specs.WithinBoth.{AreWithinBoth}
 use Rattle.path_eval.specs.declared.axes.Direction.{Direction}
 use Rattle.path_eval.specs.declared.axes.Direction.TheVariants as to
 use Rattle.path_eval.specs.Axes.{axis_of, axis_in_time, Joins, OnEach, StepsFromAny}
@@ -107,9 +108,9 @@ step_is step (inr e) g x y = subst (λ (v : ℤ). Rel (axis_in_time v) g x y ↔
     back : (t u : ℤ) → u ≡ t +ℤ negsuc 0 → u ≡ t -ℤ pos 1
     back t u e = omega (arith, ints)
 
-module _ (g : Graph) (horizon : Span) (begun : HasHorizon g horizon) (step : ℤ) (one : IsOneStep step) (scope : Scope) (objects : List ObjNo) (are : AreWithin scope g objects) where
-  -- an axis in time leads where its moments do, on the objects of the scope
-  time_cut : (x y : Point) → Cut g (axis_in_time step) scope scope x y ↔ (IsOneOf objects x.object × ((y.object ≡ x.object) × Moves step horizon.from horizon.to x.moment y.moment))
+module _ (g : Graph) (horizon : Span) (begun : HasHorizon g horizon) (step : ℤ) (one : IsOneStep step) (a b : Scope) (objects : List ObjNo) (are : AreWithinBoth a b g objects) where
+  -- an axis in time leads where its moments do, on the objects of both scopes
+  time_cut : (x y : Point) → Cut g (axis_in_time step) a b x y ↔ (IsOneOf objects x.object × ((y.object ≡ x.object) × Moves step horizon.from horizon.to x.moment y.moment))
   time_cut x y = (
     λ c.
         let leads = (step_is step one g x y).0 c.leads in
@@ -117,18 +118,18 @@ module _ (g : Graph) (horizon : Span) (begun : HasHorizon g horizon) (step : ℤ
         let at_y = leads.1 in
         let w = (in_horizon g horizon begun x.moment).1 at_x.within in
         let v = (in_horizon g horizon begun y.moment).1 at_y.within in (
-          are.whole x.object at_x.stands c.source,
+          are.whole x.object at_x.stands c.source (subst (IsWithin b g) leads.2.0 c.target),
           (leads.2.0, record { from = w.begun; to = w.going; low = v.begun; high = v.going; by = leads.2.1 }),
         ),
     λ h.
         let m = h.1.1 in
-        let at_x : IsAt g x = record { stands = are.stand x.object h.0; within = (in_horizon g horizon begun x.moment).0 (record { begun = m.from; going = m.to }) } in
+        let first = are.first in
+        let at_x : IsAt g x = record { stands = first.stand x.object h.0; within = (in_horizon g horizon begun x.moment).0 (record { begun = m.from; going = m.to }) } in
         let at_y : IsAt g y = record { stands = subst (Stands g) (sym h.1.0) at_x.stands; within = (in_horizon g horizon begun y.moment).0 (record { begun = m.low; going = m.high }) } in
-        let source = are.within x.object h.0 in
-        record { leads = (step_is step one g x y).1 (at_x, at_y, (h.1.0, m.by)); source = source; target = subst (IsWithin scope g) (sym h.1.0) source },
+        record { leads = (step_is step one g x y).1 (at_x, at_y, (h.1.0, m.by)); source = first.within x.object h.0; target = subst (IsWithin b g) (sym h.1.0) (are.second x.object h.0) },
   )
 
-  pub in_time_cut : (zone : Bounds) → ((t u : ℤ) → Meets zone t u ↔ Moves step horizon.from horizon.to t u) → (x y : Point) → OnEach zone objects x y ↔ Cut g (axis_in_time step) scope scope x y
+  pub in_time_cut : (zone : Bounds) → ((t u : ℤ) → Meets zone t u ↔ Moves step horizon.from horizon.to t u) → (x y : Point) → OnEach zone objects x y ↔ Cut g (axis_in_time step) a b x y
   in_time_cut zone moves x y = (
     λ h.
         let i = h.2 in
@@ -140,8 +141,8 @@ module _ (g : Graph) (horizon : Span) (begun : HasHorizon g horizon) (step : ℤ
   )
 
   -- where no moment of the horizon is one step from another, it leads nowhere
-  pub in_no_time : ((t u : ℤ) → Moves step horizon.from horizon.to t u → ⊥) → NormalRows (Cut g (axis_in_time step) scope scope) []
-  in_no_time none = none_normal (Cut g (axis_in_time step) scope scope) (λ x y c. none x.moment y.moment ((time_cut x y).0 c).1.1)
+  pub in_no_time : ((t u : ℤ) → Moves step horizon.from horizon.to t u → ⊥) → NormalRows (Cut g (axis_in_time step) a b) []
+  in_no_time none = none_normal (Cut g (axis_in_time step) a b) (λ x y c. none x.moment y.moment ((time_cut x y).0 c).1.1)
 
 pub moves_there : (o : Option Bounds) (zone : Bounds) (step from to : ℤ) (horizon : Span) → o ≡ Some zone → IsZoneOf (Moves step from to) o → from ≡ horizon.from → to ≡ horizon.to
     → (t u : ℤ) → Meets zone t u ↔ Moves step horizon.from horizon.to t u

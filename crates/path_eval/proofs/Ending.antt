@@ -17,14 +17,13 @@ use Rattle.path_ast.specs.Walks.{IsFromTo}
 use Rattle.path_ast.specs.Meaning.{Rel}
 use Rattle.path_ast.proofs.Pairs.{starts_at, ends_at}
 use Rattle.label_scope.specs.declared.scope.Scope.{Scope}
-use Rattle.label_scope.specs.Scopes.{IsWithin, met}
+use Rattle.label_scope.specs.Scopes.{IsWithin}
 use Rattle.label_scope.specs.Narrowing.{Cut, Scopes}
 use Rattle.label_scope.specs.Members.{passed, powers_within, unions_within, further}
-use Rattle.label_scope.proofs.Within.{within_met, met_within_first, met_within_second}
 use Rattle.repeat_engine.proofs.ChainLaws.{chain_zero}
 use Rattle.path_eval.specs.Evaluated.{AllFit, SomeIsWide}
-use Rattle.path_eval.specs.Powers.{SamePoint, PassesWithin, IsBody, HeldBetween, HoldsFitting, GivesPairs, GivesMember, left_over, repetition_members, repetition_member}
-use Rattle.path_eval.proofs.Inner.{inner_within, ends_within}
+use Rattle.path_eval.specs.Powers.{SameWithinBoth, PassesWithin, IsBody, HeldBetween, HoldsFitting, GivesPairs, GivesMember, left_over, repetition_members, repetition_member}
+use Rattle.label_scope.proofs.Inner.{inner_within, ends_within}
 use Rattle.path_eval.proofs.Walking.{WalksInside, walks_of, of_cut, cut_of, repeats_of, ends_inside, in_two, in_one}
 use Rattle.path_eval.proofs.MembersWithin.{none_fit, fit_both, wide_first, wide_second, wide_rest, wide_own}
 
@@ -97,21 +96,17 @@ module _ (g : Graph) (r : PathTerm) (u : Scope) (limit : ℕ) (rows : List Row) 
         (wide_alike (HasMiddlePoint first second) (Cut g (Repetition r n m) a b) through of_through limit given)
 
   -- no time
-  zeroth_in : (x y : Point) → SamePoint g (met a b) x y → Cut g (Repetition r 0 (Some 0)) a b x y
+  zeroth_in : (x y : Point) → SameWithinBoth g a b x y → Cut g (Repetition r 0 (Some 0)) a b x y
   zeroth_in x y h =
       let i = h.0 in
-      record {
-        leads = (i.at, ([], (omega arith, omega arith), h.1));
-        source = met_within_first g x.object a b i.within;
-        target = subst (λ (v : Point). IsWithin b g v.object) h.1 (met_within_second g x.object a b i.within);
-      }
+      record { leads = (i.at, ([], (omega arith, omega arith), h.2)); source = i.within; target = subst (λ (v : Point). IsWithin b g v.object) h.2 h.1 }
 
-  in_zeroth : (x y : Point) → Cut g (Repetition r 0 (Some 0)) a b x y → SamePoint g (met a b) x y
+  in_zeroth : (x y : Point) → Cut g (Repetition r 0 (Some 0)) a b x y → SameWithinBoth g a b x y
   in_zeroth x y c =
       let leads = c.leads in
       let repeated = leads.1 in
       let same = no_steps x repeated.0 y (repeated.1).1 repeated.2 in
-      (record { good = body.good; at = leads.0; within = within_met g x.object a b body.good c.source (subst (λ (v : Point). IsWithin b g v.object) (sym same) c.target) }, same)
+      (record { good = body.good; at = leads.0; within = c.source }, subst (λ (v : Point). IsWithin b g v.object) (sym same) c.target, same)
     where
       no_steps : (x : Point) (zs : List Point) (y : Point) → length zs ≤ 0 → IsWalk (Rel r g) x zs y → x ≡ y
       no_steps x [] y few w = w
@@ -127,20 +122,20 @@ module _ (g : Graph) (r : PathTerm) (u : Scope) (limit : ℕ) (rows : List Row) 
   none_first m f =
       fit_both g limit (powers_within r u (chain 0)) (unions_within r u (further 0 m)) (subst (λ (ks : List ℕ). AllFit g limit (powers_within r u ks)) (sym chain_zero) (none_fit g limit)) f
 
-  pub zeroth_between : (n : ℕ) → n ≡ 0 → (result : Result (List Row) RelFault) → Gives result (SamePoint g (met a b)) limit → GivesMember g limit (repetition_member r n (Some n) a b) (repetition_members r u n (Some n)) result
+  pub zeroth_between : (n : ℕ) → n ≡ 0 → (result : Result (List Row) RelFault) → Gives result (SameWithinBoth g a b) limit → GivesMember g limit (repetition_member r n (Some n) a b) (repetition_members r u n (Some n)) result
   zeroth_between n none result given =
       subst (λ (k : ℕ). GivesMember g limit (repetition_member r k (Some k) a b) (repetition_members r u k (Some k)) result) (sym none) (zeroth result given)
     where
-      zeroth : (result : Result (List Row) RelFault) → Gives result (SamePoint g (met a b)) limit → GivesMember g limit (repetition_member r 0 (Some 0) a b) (repetition_members r u 0 (Some 0)) result
+      zeroth : (result : Result (List Row) RelFault) → Gives result (SameWithinBoth g a b) limit → GivesMember g limit (repetition_member r 0 (Some 0) a b) (repetition_members r u 0 (Some 0)) result
       zeroth (Ok kept) given = (
-        rows_alike (SamePoint g (met a b)) (Cut g (Repetition r 0 (Some 0)) a b) zeroth_in in_zeroth kept given.0,
+        rows_alike (SameWithinBoth g a b) (Cut g (Repetition r 0 (Some 0)) a b) zeroth_in in_zeroth kept given.0,
         given.1,
         none_left 0 (subst (λ (ks : List ℕ). AllFit g limit (powers_within r u ks)) (sym chain_zero) (none_fit g limit)),
       )
       zeroth (Err Memory) given = tt
       zeroth (Err Wide) given =
           wide_own g limit (repetition_member r 0 (Some 0) a b) (repetition_members r u 0 (Some 0))
-          (wide_alike (SamePoint g (met a b)) (Cut g (Repetition r 0 (Some 0)) a b) zeroth_in in_zeroth limit given)
+          (wide_alike (SameWithinBoth g a b) (Cut g (Repetition r 0 (Some 0)) a b) zeroth_in in_zeroth limit given)
 
   -- the powers alone
   pub exactly_between : (n : ℕ) (power kept : List Row) → GivesPairs g limit (Cut g (Repetition r n (Some n)) u u) (powers_within r u (chain n)) (Ok power)

@@ -1,12 +1,12 @@
 pub mod Adding
 pub mod Answers
 pub mod Between
+pub mod WithinBoth
 pub mod Finite
 pub mod Fitting
 pub mod Joining
 pub mod Leading
 pub mod Working
-pub mod Inner
 pub mod Walking
 pub mod Bounded
 pub mod Diagonals

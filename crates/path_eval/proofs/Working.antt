@@ -1,6 +1,5 @@
 -- What is worked out, from what its parts are.
-use Rattle.std.proofs.Common.{◌≡◌, ◌≤◌, ℕ, Bool, true, false, List, [], ◌∷◌, ◌++◌, length, inl, inr, ⊎_elim, Option, Result, Ok, Err, refl, sym, subst}
-use Rattle.std.specs.Prelude.{IsTrue}
+use Rattle.std.proofs.Common.{◌≡◌, ◌≤◌, ℕ, List, [], ◌∷◌, ◌++◌, length, inl, inr, ⊎_elim, Option, Result, Ok, Err, refl, sym, subst}
 use Rattle.itpg_base.specs.declared.object_number.ObjNo.{ObjNo}
 use Rattle.itpg_base.specs.Spans.{Span}
 use Rattle.itpg_base.specs.Graphs.{Graph, Good}
@@ -16,22 +15,21 @@ use Rattle.relation_rows.specs.Relations.{HasMiddlePoint, EitherHolds}
 use Rattle.relation_rows.proofs.Alike.{rows_alike}
 use Rattle.relation_rows.proofs.Listed.{rows_unique}
 use Rattle.path_ast.specs.Terms.{PathTerm, OfTest, Forward, Backward, Next, Previous, Sequence, Choice, Repetition, TestTerm, Condition, Conjunction, Disjunction, Negation}
-use Rattle.path_ast.specs.Meaning.{keeps_object}
 use Rattle.label_scope.specs.declared.scope.Scope.{Scope}
 use Rattle.label_scope.specs.declared.scope.Scope.TheVariants.{All}
-use Rattle.label_scope.specs.Scopes.{met, source_scope, target_scope}
-use Rattle.label_scope.specs.Narrowing.{Cut, both_where, narrowed}
+use Rattle.label_scope.specs.Narrowing.{Cut, narrowed}
 use Rattle.label_scope.specs.Members.{Member, worked, worked_conditions, middle, passed, member, axis_members, test_members, sequence_members, choice_members, repeated_members, members_between}
 use Rattle.label_scope.proofs.Within.{narrowed_cut, widened_cut}
 use Rattle.condition_eval.specs.declared.marks.Marked.{Marked}
 use Rattle.condition_eval.specs.Combined.{BothMark, EitherMarks, IsUnmarked, MarkedToItself}
 use Rattle.condition_eval.specs.Marking.{AreMarks, objects_of}
 use Rattle.condition_eval.specs.Tested.{HoldsAt, StartsAt, Stand, HasHorizon}
-use Rattle.condition_eval.specs.Within.{AreWithin}
-use Rattle.condition_eval.proofs.Meanings.{negated, both_hold, either_holds, scoped_condition, scoped_test}
+use Rattle.condition_eval.proofs.Meanings.{negated, both_hold, either_holds}
 use Rattle.path_eval.specs.Evaluated.{AllFit}
+use Rattle.path_eval.specs.WithinBoth.{RiseWithin, AreWithinBoth}
 use Rattle.path_eval.specs.Powers.{GivesMember, repetition_member, repetition_members}
 use Rattle.path_eval.specs.Working.{WorksOutAs, MarksOutAs}
+use Rattle.path_eval.proofs.WithinBoth.{condition_within, test_within_both}
 use Rattle.path_eval.proofs.Fitting.{fit_own, works_out, works_out_as}
 use Rattle.path_eval.proofs.MembersWithin.{none_fit, fit_both, wide_first, wide_second, wide_rest}
 use Rattle.path_eval.proofs.Joining.{sequence_from, from_sequence, choice_from, from_choice}
@@ -71,14 +69,11 @@ module _ (g : Graph) (limit : ℕ) (good : Good g) where
   pub axis_out : (p : PathTerm) (a b : Scope) (result : Result (List Row) RelFault) → Gives result (Cut g p a b) limit → WorksOutAs result (Cut g p a b) g limit (axis_members p a b)
   axis_out p a b = works_out g limit (member p a b) [] (Cut g p a b) (λ x y c. c) (λ x y c. c) (none_fit g limit)
 
-  -- an axis in time, where both ends have one scope
-  pub time_out : (p : PathTerm) (a b : Scope) → a ≡ b → (result : Result (List Row) RelFault) → Gives result (Cut g p a a) limit → WorksOutAs result (Cut g p a b) g limit (axis_members p a b)
-  time_out p a b e result h = axis_out p a b result (subst (λ (v : Scope). Gives result (Cut g p a v) limit) e h)
-
-  pub test_out : (c : TestTerm) (a : Scope) (objects : List ObjNo) (are : AreWithin a g objects) (marks : List Marked) → AreMarks objects (HoldsAt c g) marks → AllFit g limit (worked_conditions c a)
-      → (result : Result (List Row) RelFault) → Gives result (MarkedToItself marks) limit → WorksOutAs result (Cut g (OfTest c) a a) g limit (test_members c a a)
-  test_out c a objects are marks is fit =
-      works_out g limit (member (OfTest c) a a) (worked_conditions c a) (MarkedToItself marks) (λ x y h. (scoped_test g a objects are c marks is x y).0 h) (λ x y h. (scoped_test g a objects are c marks is x y).1 h) fit
+  pub test_out : (c : TestTerm) (a b : Scope) (objects : List ObjNo) (are : AreWithinBoth a b g objects) (marks : List Marked) → AreMarks objects (HoldsAt c g) marks → AllFit g limit (worked_conditions c a)
+      → (result : Result (List Row) RelFault) → Gives result (MarkedToItself marks) limit → WorksOutAs result (Cut g (OfTest c) a b) g limit (test_members c a b)
+  test_out c a b objects are marks is fit =
+      let same = test_within_both g a b objects are c marks is in
+      works_out g limit (member (OfTest c) a b) (worked_conditions c a) (MarkedToItself marks) (λ x y. (same x y).0) (λ x y. (same x y).1) fit
 
   pub sequence_out : (p q : PathTerm) (a b m : Scope) → m ≡ middle p q (record { sources = a; targets = b }) → (left right : List Row)
       → NormalRows (Cut g p a m) left × AllFit g limit (worked p a m) → NormalRows (Cut g q m b) right × AllFit g limit (worked q m b)
@@ -147,14 +142,6 @@ module _ (g : Graph) (limit : ℕ) where
   same_marks c d objects ms Memory h = tt
   same_marks c d objects ms Wide h = h
 
--- a path that keeps its object has one scope for both its ends
-pub kept_ends : (p : PathTerm) (a b s t : Scope) → s ≡ (narrowed p a b).sources → t ≡ (narrowed p a b).targets → IsTrue (keeps_object p) → s ≡ t
-kept_ends p a b s t e f k = of (keeps_object p) k e f
-  where
-    of : (b1 : Bool) → IsTrue b1 → s ≡ (both_where b1 (met a (source_scope p)) (met b (target_scope p))).sources → t ≡ (both_where b1 (met a (source_scope p)) (met b (target_scope p))).targets → s ≡ t
-    of true k e f = let back = sym f in cc
-    of false k e f = absurd (let none : ⊥ = cc in none)
-
 module _ (g : Graph) (limit : ℕ) (objects : List ObjNo) where
   pub both_marked : (c d : TestTerm) (a : Scope) (own also marks : List Marked) → AreMarks objects (HoldsAt c g) own × AllFit g limit (worked_conditions c a) → AreMarks objects (HoldsAt d g) also × AllFit g limit (worked_conditions d a)
       → AreMarks (objects_of own) (BothMark own also) marks → AreMarks objects (HoldsAt (Conjunction c d) g) marks × AllFit g limit (worked_conditions (Conjunction c d) a)
@@ -170,9 +157,9 @@ module _ (g : Graph) (limit : ℕ) (objects : List ObjNo) where
     fit_both g limit (worked_conditions c a) (worked_conditions d a) is.1 and.1,
   )
 
-  pub condition_marked : (a : Scope) → AreWithin a g objects → (p : PathTerm) (rows : List Row) (marks : List Marked) → NormalRows (Cut g p a All) rows × AllFit g limit (worked p a All)
+  pub condition_marked : (a : Scope) → RiseWithin a g objects → (p : PathTerm) (rows : List Row) (marks : List Marked) → NormalRows (Cut g p a All) rows × AllFit g limit (worked p a All)
       → AreMarks objects (StartsAt rows g) marks → AreMarks objects (HoldsAt (Condition p) g) marks × AllFit g limit (worked_conditions (Condition p) a)
-  condition_marked a are p rows marks is h = (scoped_condition g a objects are p rows marks is.0 h, is.1)
+  condition_marked a are p rows marks is h = (condition_within g a objects are p rows marks is.0 h, is.1)
 
   pub negation_marked : (c : TestTerm) (a : Scope) (horizon : Span) → HasHorizon g horizon → Stand g objects → (own marks : List Marked) → AreMarks objects (HoldsAt c g) own × AllFit g limit (worked_conditions c a)
       → AreMarks (objects_of own) (IsUnmarked horizon own) marks → AreMarks objects (HoldsAt (Negation c) g) marks × AllFit g limit (worked_conditions (Negation c) a)

@@ -2,6 +2,6 @@ pub mod Evaluated
 pub mod Answering
 pub mod Working
 pub mod Axes
-pub mod Passing
+pub mod WithinBoth
 pub mod Powers
 pub mod Ready

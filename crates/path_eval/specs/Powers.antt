@@ -44,6 +44,10 @@ StaysInside g u w = IsBetween (IsInside g u) RowsHold w
 abbrev pub SamePoint : Graph → Scope → Relation
 SamePoint g u x y = IsInside g u x × (x ≡ y)
 
+-- each point of the graph whose object is within both scopes leads to itself
+abbrev pub SameWithinBoth : Graph → Scope → Scope → Relation
+SameWithinBoth g a b x y = IsInside g a x × IsWithin b g x.object × (x ≡ y)
+
 -- it has at most so many normal rows
 abbrev pub FitsInside : Graph → Scope → ℕ → Written → Type 0
 FitsInside g u limit w = Fits (Leads g u w) limit

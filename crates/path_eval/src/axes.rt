@@ -1,5 +1,5 @@
 //! The relations of the axes, between the objects of two scopes.
-ghost use Rattle.std.specs.Prelude.{◌≡◌, ◌⊎◌, ◌↔◌, IfOk, OnOk, IsTrue};
+ghost use Rattle.std.specs.Prelude.{◌≡◌, ◌⊎◌, ◌↔◌, IfOk, OnOk};
 ghost use Rattle.itpg_base.specs.Graphs.{Good, Stands};
 ghost use Rattle.itpg_base.specs.Points.{Point};
 ghost use Rattle.itpg_graph.specs.Edges.{AreNumbers};
@@ -7,11 +7,11 @@ ghost use Rattle.zone_compose.specs.Compose.{IsOneStep};
 ghost use Rattle.relation_rows.specs.Answers.{Gives};
 ghost use Rattle.relation_rows.specs.Relations.{ItemsHold};
 ghost use Rattle.label_scope.specs.Narrowing.{Cut};
-ghost use Rattle.label_scope.specs.Scopes.{IsWithin};
 ghost use Rattle.condition_eval.specs.Tested.{Stand};
 ghost use Rattle.path_eval.specs.Axes.{axis_of, axis_in_time, far_end as far_end_of, LeadsToEdge, OnEach, StepTo, StepToOne, StepsFrom, StepsFromAny};
 
 use crate::basis::Ground;
+use crate::within_both::{is_within, objects_within_both};
 use condition_eval::objects_within;
 use itpg_base::ObjNo;
 use itpg_graph::Graph;
@@ -48,13 +48,18 @@ pub(crate) fn along_edges(
     Relation::from_zones(ground.alloc, items, ground.max_rows)
 }
 
-/// The axis to the next moment, or to the one before, on each object of the scope.
-pub(crate) fn in_time(ground: &Ground<'_>, step: i64, scope: &Scope) -> Result<Relation, RelFault>
+/// The axis to the next moment, or to the one before, on each object of both scopes.
+pub(crate) fn in_time(
+    ground: &Ground<'_>,
+    step: i64,
+    sources: &Scope,
+    targets: &Scope,
+) -> Result<Relation, RelFault>
     requires { IsOneStep step }
-    ensures { Gives result (Cut ground.now.graph.now (axis_in_time step) scope.now scope.now) ground.now.max_rows }
+    ensures { Gives result (Cut ground.now.graph.now (axis_in_time step) sources.now targets.now) ground.now.max_rows }
 {
     let (alloc, max_rows) = (ground.alloc, ground.max_rows);
-    let objects = objects_within(alloc, ground.graph, scope)?;
+    let objects = objects_within_both(ground, sources, targets)?;
     match shift(step, ground.horizon.from(), ground.horizon.to()) {
         Some(zone) => Relation::from_zones(alloc, on_each(alloc, &objects, zone)?, max_rows),
         None => Ok(Relation::empty(alloc)),
@@ -173,12 +178,4 @@ fn push_step(
         items.push((object, other, zone))?;
     }
     Ok(())
-}
-
-// Whether an object that stands is within the scope.
-fn is_within(graph: &Graph, scope: &Scope, object: ObjNo) -> bool
-    requires { Stands graph.now object.0 }
-    ensures { IsTrue result ↔ IsWithin scope.now graph.now object.0 }
-{
-    scope.has(&graph.labels(object))
 }

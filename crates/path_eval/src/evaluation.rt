@@ -2,26 +2,26 @@
 //!
 //! A path is worked out between two scopes, and each part of it between those that its place leaves: the first part of a
 //! sequence ends where the second starts. So each relation that is made on the way is that of a worked member.
-ghost use Rattle.std.specs.Prelude.{◌≡◌, IsSome, IsTrue, IfOk, IsErrOf};
+ghost use Rattle.std.specs.Prelude.{◌≡◌, IsSome, IfOk, IsErrOf};
 ghost use Rattle.itpg_base.specs.Graphs.{Good};
 ghost use Rattle.relation_rows.specs.Rows.{NormalRows};
 ghost use Rattle.relation_rows.specs.Relations.{Rise};
 ghost use Rattle.path_ast.specs.Terms.{path_term, test_term, OfTest, Sequence, Choice, Repetition};
 ghost use Rattle.path_ast.specs.Sizes.{IsPathInRange, IsTestInRange, AreInRange};
-ghost use Rattle.path_ast.specs.Meaning.{keeps_object};
 ghost use Rattle.label_scope.specs.Narrowing.{Cut};
 ghost use Rattle.label_scope.specs.Members.{worked, worked_conditions, passed as passed_scope};
 ghost use Rattle.label_scope.specs.Members.{test_members, sequence_members, choice_members, repeated_members, members_between};
 ghost use Rattle.condition_eval.specs.Marking.{AreMarks};
 ghost use Rattle.condition_eval.specs.Tested.{HoldsAt, Stand};
-ghost use Rattle.condition_eval.specs.Within.{AreWithin};
+ghost use Rattle.path_eval.specs.WithinBoth.{RiseWithin};
 ghost use Rattle.path_eval.specs.Evaluated.{AllFit, SomeIsWide};
 ghost use Rattle.path_eval.specs.Working.{WorksOut, MarksOut};
 
 use crate::axes::{Direction, along_edges, in_time};
 use crate::basis::Ground;
 use crate::powers::Powers;
-use condition_eval::{Marks, leaf_marks, objects_within, starts_of};
+use crate::within_both::objects_within_both;
+use condition_eval::{Marks, leaf_marks, starts_of};
 use itpg_base::ObjNo;
 use itpg_graph::Graph;
 use label_scope::{Scope, middle, narrow, passed};
@@ -83,15 +83,14 @@ fn worked_out(ground: &Ground<'_>, path: &Path, a: &Scope, b: &Scope) -> Result<
 fn between(ground: &Ground<'_>, path: &Path, a: &Scope, b: &Scope) -> Result<Relation, RelFault>
     requires good { Good ground.now.graph.now }
     requires in_range { IsPathInRange (path_term path.now) }
-    requires kept { IsTrue (keeps_object (path_term path.now)) → a.now ≡ b.now }
     ensures { WorksOut ground.now result (path_term path.now) a.now b.now (members_between (path_term path.now) a.now b.now) }
 {
     match path {
-        Path::Test(test) => test_relation(ground, test, a),
+        Path::Test(test) => test_relation(ground, test, a, b),
         Path::F => along_edges(ground, Direction::Forward, a, b),
         Path::B => along_edges(ground, Direction::Backward, a, b),
-        Path::N => in_time(ground, 1, a),
-        Path::P => in_time(ground, -1, a),
+        Path::N => in_time(ground, 1, a, b),
+        Path::P => in_time(ground, -1, a, b),
         Path::Seq(first, second) => sequence(ground, first, second, a, b),
         Path::Alt(one, other) => choice(ground, one, other, a, b),
         Path::Repeat { body, least, most } => repetition(
@@ -197,15 +196,20 @@ fn repetition(
     repeated(&*ground, &*body, times, &once, &within, a, b)
 }
 
-// The relation of a test: each point of the scope at which it holds leads to itself.
+// The relation of a test: each point of both scopes at which it holds leads to itself.
 #[cycle(evaluation)]
-fn test_relation(ground: &Ground<'_>, test: &Test, scope: &Scope) -> Result<Relation, RelFault>
+fn test_relation(
+    ground: &Ground<'_>,
+    test: &Test,
+    a: &Scope,
+    b: &Scope,
+) -> Result<Relation, RelFault>
     requires good { Good ground.now.graph.now }
     requires in_range { IsTestInRange (test_term test.now) }
-    ensures { WorksOut ground.now result (OfTest (test_term test.now)) scope.now scope.now (test_members (test_term test.now) scope.now scope.now) }
+    ensures { WorksOut ground.now result (OfTest (test_term test.now)) a.now b.now (test_members (test_term test.now) a.now b.now) }
 {
-    let objects = objects_within(ground.alloc, ground.graph, scope)?;
-    let marks = marks_of(ground, test, scope, &objects)?;
+    let objects = objects_within_both(ground, a, b)?;
+    let marks = marks_of(ground, test, a, &objects)?;
     marks.as_relation(ground.max_rows)
 }
 
@@ -219,7 +223,7 @@ fn marks_of(
 ) -> Result<Marks, RelFault>
     requires good { Good ground.now.graph.now }
     requires in_range { IsTestInRange (test_term test.now) }
-    requires within { AreWithin scope.now ground.now.graph.now objects.now }
+    requires within { RiseWithin scope.now ground.now.graph.now objects.now }
     ensures { MarksOut ground.now result (test_term test.now) objects.now (worked_conditions (test_term test.now) scope.now) }
 {
     match test {

@@ -6,10 +6,11 @@ ghost use Rattle.relation_rows.specs.Rows.{RowsHold, NormalRows, Fits};
 ghost use Rattle.path_ast.specs.Terms.{path_term, Repetition};
 ghost use Rattle.label_scope.specs.Narrowing.{Cut};
 ghost use Rattle.label_scope.specs.Members.{powers_within, unions_within, doubles};
-ghost use Rattle.path_eval.specs.Powers.{SamePoint, HeldBetween, GivesPairs};
+ghost use Rattle.path_eval.specs.Powers.{SamePoint, SameWithinBoth, HeldBetween, GivesPairs};
 ghost use Rattle.path_eval.specs.Ready.{IsReady};
 
 use crate::basis::Ground;
+use crate::within_both::objects_within_both;
 use condition_eval::objects_within;
 use label_scope::Scope;
 use path_ast::Path;
@@ -115,6 +116,16 @@ impl Powers<'_, '_> {
     {
         let ground = self.ground;
         let objects = objects_within(ground.alloc, ground.graph, scope)?;
+        Relation::identity(ground.alloc, &objects, ground.horizon, ground.max_rows)
+    }
+
+    /// Each point of the graph whose object is within both scopes, to itself. `Wide` exactly if its normal rows are more than
+    /// `max_rows`.
+    pub(crate) fn identity_within_both(&self, a: &Scope, b: &Scope) -> Result<Relation, RelFault>
+        ensures { Gives result (SameWithinBoth self.now.ground.now.graph.now a.now b.now) self.now.ground.now.max_rows }
+    {
+        let ground = self.ground;
+        let objects = objects_within_both(ground, a, b)?;
         Relation::identity(ground.alloc, &objects, ground.horizon, ground.max_rows)
     }
 

@@ -62,8 +62,7 @@ impl Powers<'_, '_> {
             GivesMember on.graph.now on.max_rows (repetition_member r n (Some n) a.now b.now) (repetition_members r self.now.passed.now n (Some n)) result }
     {
         if n == 0 {
-            let both = a.meet(self.ground.alloc, b)?;
-            return self.identity_within(&both);
+            return self.identity_within_both(a, b);
         }
         let power = self.exactly(n)?;
         let rows = cut(self.ground, &power, a, b)?;

@@ -1,6 +1,6 @@
 use Rattle.label_scope.specs.Footprints.{footprint}
 use Rattle.label_scope.proofs.Alike.{turned}
-use Rattle.label_scope.proofs.Footing.{cut_same}
+use Rattle.label_scope.proofs.FootprintLemma.{cut_same}
 use Rattle.label_scope.proofs.SameMembers.{members_same, between_members_same}
 use Rattle.label_scope.proofs.footprint_laws.law_of_footprints.Goals as goal
 

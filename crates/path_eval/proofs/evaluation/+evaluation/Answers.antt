@@ -1,10 +1,10 @@
-use Rattle.std.proofs.Common.{◌++◌, refl, sym}
+use Rattle.std.proofs.Common.{◌++◌, sym}
 use Rattle.itpg_base.specs.Chains.{chain}
 use Rattle.std.proofs.lemmas.Result.{err_from_is_err_and}
 use Rattle.path_ast.specs.Terms.{path_term, test_term, Forward, Backward, Next, Previous, Sequence, Choice, Repetition, Conjunction, Disjunction}
 use Rattle.label_scope.specs.Narrowing.{Cut}
 use Rattle.label_scope.specs.Members.{worked, worked_conditions, middle, passed, powers_within, unions_within, further, member}
-use Rattle.path_eval.proofs.Working.{unnarrowed, axis_out, time_out, test_out, sequence_out, choice_out, first_fault, second_fault, first_marks, second_marks, both_marked, either_marked, condition_marked, negation_marked}
+use Rattle.path_eval.proofs.Working.{unnarrowed, axis_out, test_out, sequence_out, choice_out, first_fault, second_fault, first_marks, second_marks, both_marked, either_marked, condition_marked, negation_marked}
 use Rattle.path_eval.proofs.evaluation.+evaluation.Goals as goal
 
 pub between-returns-in-F : goal.between-returns-in-F
@@ -14,10 +14,10 @@ pub between-returns-in-B : goal.between-returns-in-B
 between-returns-in-B t c = rw c.in-B.is (axis_out c.args.ground.now.graph.now c.args.ground.now.max_rows c.requires.good Backward c.args.a.now c.args.b.now c.along_edges-in-B.result c.along_edges-in-B.ensures)
 
 pub between-returns-in-N : goal.between-returns-in-N
-between-returns-in-N t c = rw c.in-N.is (time_out c.args.ground.now.graph.now c.args.ground.now.max_rows c.requires.good Next c.args.a.now c.args.b.now ((rw c.in-N.is at c.requires.kept) refl) c.in_time.result c.in_time.ensures)
+between-returns-in-N t c = rw c.in-N.is (axis_out c.args.ground.now.graph.now c.args.ground.now.max_rows c.requires.good Next c.args.a.now c.args.b.now c.in_time.result c.in_time.ensures)
 
 pub between-returns-in-P : goal.between-returns-in-P
-between-returns-in-P t c = rw c.in-P.is (time_out c.args.ground.now.graph.now c.args.ground.now.max_rows c.requires.good Previous c.args.a.now c.args.b.now ((rw c.in-P.is at c.requires.kept) refl) c.in_time-in-P.result c.in_time-in-P.ensures)
+between-returns-in-P t c = rw c.in-P.is (axis_out c.args.ground.now.graph.now c.args.ground.now.max_rows c.requires.good Previous c.args.a.now c.args.b.now c.in_time-in-P.result c.in_time-in-P.ensures)
 
 pub sequence-returns-in_err-before : goal.sequence-returns-in_err-before
 sequence-returns-in_err-before t c =
@@ -46,7 +46,7 @@ pub choice-returns : goal.choice-returns
 choice-returns t c = (choice_out c.args.ground.now.graph.now c.args.ground.now.max_rows c.requires.good (path_term c.args.one.now) (path_term c.args.other.now) c.args.a.now c.args.b.now c.in_ok-by_one.by_one c.in_ok-by_other.by_other c.in_ok-by_one.ensures c.in_ok-by_other.ensures c.union.result c.union.ensures)
 
 pub test_relation-returns : goal.test_relation-returns
-test_relation-returns t c = (test_out c.args.ground.now.graph.now c.args.ground.now.max_rows c.requires.good (test_term c.args.test.now) c.args.scope.now c.deref.result.now (rw (sym c.deref.ensures.value) at c.in_ok-objects.ensures.within) c.in_ok-marks.marks c.in_ok-marks.ensures.0 c.in_ok-marks.ensures.1 c.as_relation.result c.as_relation.ensures)
+test_relation-returns t c = (test_out c.args.ground.now.graph.now c.args.ground.now.max_rows c.requires.good (test_term c.args.test.now) c.args.a.now c.args.b.now c.deref.result.now (rw (sym c.deref.ensures.value) at c.in_ok-objects.ensures.within) c.in_ok-marks.marks c.in_ok-marks.ensures.0 c.in_ok-marks.ensures.1 c.as_relation.result c.as_relation.ensures)
 
 pub marks_of-returns-in_err-own-in-And : goal.marks_of-returns-in_err-own-in-And
 marks_of-returns-in_err-own-in-And t c =

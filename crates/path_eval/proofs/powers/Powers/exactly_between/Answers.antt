@@ -1,10 +1,7 @@
-use Rattle.std.proofs.Common.{Some, subst}
+use Rattle.std.proofs.Common.{Some}
 use Rattle.std.proofs.lemmas.Result.{err_from_is_err_and}
-use Rattle.relation_rows.specs.Answers.{Gives}
 use Rattle.path_ast.specs.Terms.{path_term, Repetition}
-use Rattle.label_scope.specs.declared.scope.Scope.{Scope}
 use Rattle.label_scope.specs.Narrowing.{Cut}
-use Rattle.path_eval.specs.Powers.{SamePoint}
 use Rattle.path_eval.proofs.Ending.{zeroth_between, exactly_between, power_fault, held_fits}
 use Rattle.path_eval.proofs.powers.Powers.exactly_between.Goals as goal
 
@@ -12,13 +9,12 @@ pub returns-then-n-eq0 : goal.returns-then-n-eq0
 returns-then-n-eq0 c =
     let s = c.args.self.now in
     zeroth_between s.ground.now.graph.now (path_term s.body.now) s.passed.now s.ground.now.max_rows s.relation.now c.requires.ready c.args.a.now c.args.b.now c.requires.passed
-    c.args.n c.if-n-eq0.true c.identity_within.result
-    (subst (λ (v : Scope). Gives c.identity_within.result (SamePoint s.ground.now.graph.now v) s.ground.now.max_rows) c.in_ok-both.ensures c.identity_within.ensures)
+    c.args.n c.if-n-eq0.true c.identity_within_both.result c.identity_within_both.ensures
 
 pub returns-in_err-power : goal.returns-in_err-power
 returns-in_err-power c =
     let s = c.args.self.now in
-    let p = err_from_is_err_and c.from_residual-in_err-power.result c.from_residual-in_err-power.ensures.1 in
+    let p = err_from_is_err_and c.from_residual.result c.from_residual.ensures.1 in
     rw (p.1, p.2)
     (power_fault s.ground.now.graph.now (path_term s.body.now) s.passed.now s.ground.now.max_rows s.relation.now c.requires.ready c.args.a.now c.args.b.now c.requires.passed
     c.args.n (Some c.args.n) _ c.in_err-power.ensures)

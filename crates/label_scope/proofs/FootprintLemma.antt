@@ -1,4 +1,4 @@
--- Where two graphs agree on the footprint of a path, it leads between the same points of them.
+-- If two graphs agree on the footprint of a path, it leads between the same points of them.
 use Rattle.std.proofs.Common.{◌≡◌, inl, inr, ⊎_elim, ℕ, List, [], ◌∷◌, Option, None, refl, sym, subst}
 use Rattle.std.specs.Prelude.{IsSome, IsSomeAnd, Contains}
 use Rattle.itpg_base.specs.Graphs.{Graph, Good}
@@ -117,7 +117,7 @@ module _ (g h : Graph) where
       last_alike x [] y at within walk = subst (λ (v : Point). Alike g h v.object) walk (alike_at g h u agree x at within.0)
       last_alike x (z ∷ zs) y at within walk = last_alike z zs y (ends_at r g x z walk.0) within.1 walk.1
 
-      -- a repetition, where no walk leaves the scope
+      -- a repetition, if no walk leaves the scope
       pub repetition_too : (n : ℕ) (m : Option ℕ) (s t : Scope) (x y : Point) → ((zs : List Point) → IsWalk (Rel r g) x zs y → AllWithin u g (x ∷ zs)) → Cut g (Repetition r n m) s t x y → Cut h (Repetition r n m) s t x y
       repetition_too n m s t x y stays cut =
           let leads = cut.leads in
@@ -182,6 +182,6 @@ mutual
   sat_same (Negation c) a g h x good also shape asked at within fails = λ holds.
       fails (sat_same c a h g x also good (turned g h (shape_of a) shape) (turned g h (asked_of c a) asked) (at_too g h a shape x at within) (within_too g h x.object (alike_at g h a shape x at within) a within) holds)
 
--- between two scopes, where the graphs agree on what the path asks between what its own labels leave of them
+-- between two scopes, if the graphs agree on what the path asks between what its own labels leave of them
 pub cut_same : (p : PathTerm) (a b : Scope) (g h : Graph) (x y : Point) → Good g → Good h → Agree g h (footprint p a b) → Cut g p a b x y → Cut h p a b x y
 cut_same p a b g h x y good also agree = by_narrowing p a b g h x y good (between_same p (narrowed p a b).sources (narrowed p a b).targets g h x y good also agree)
