@@ -8,10 +8,12 @@
 mod feet;
 mod interning;
 mod key;
+mod laws;
 mod nodes;
 mod operations;
 mod plans;
 
+pub use laws::{law_of_known_paths, law_of_lower_children};
 pub use nodes::MAX_NODES;
 pub use operations::{PlanNo, PlanOp, PlanTest};
 pub use plans::Plans;
