@@ -6,3 +6,5 @@ pub mod WithinBoth
 pub mod Passing
 pub mod Powers
 pub mod Ready
+pub mod Reached
+pub mod Made
