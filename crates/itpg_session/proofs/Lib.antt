@@ -9,3 +9,5 @@ pub mod Changing
 pub mod Answering
 pub mod OneTurn
 pub mod Suiting
+pub mod SparedObjects
+pub mod Untouched

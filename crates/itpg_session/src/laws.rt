@@ -1,4 +1,13 @@
-//! The laws of the plain machine. Each is the contract of a function that does nothing of use when it runs.
+//! The laws of the plain machine, and of edits that an answer can't depend on. Each is the contract of a function that does nothing of use when it runs.
+ghost use Rattle.itpg_base.specs.Graphs.{Graph, Good};
+ghost use Rattle.itpg_base.specs.declared.touch.Touch.{Touch};
+ghost use Rattle.itpg_edit.specs.declared.edit.Edit.{Edit};
+ghost use Rattle.itpg_edit.specs.Next.{Makes};
+ghost use Rattle.path_ast.specs.Terms.{PathTerm};
+ghost use Rattle.label_scope.specs.declared.scope.Scope.{Scope};
+ghost use Rattle.label_scope.specs.Footprints.{footprint, footprint_between};
+ghost use Rattle.label_scope.specs.Touching.{Meets};
+ghost use Rattle.label_scope.specs.Agreeing.{Agree};
 ghost use Rattle.itpg_session.specs.MachineLaws.{OneAsked, SomeAsked, DeclaredAsked, OneReply, SomeReply, GoodReply, GoodOpening, FrontReplies};
 
 use edit_reader::{law_of_labels, law_of_lines, law_of_long_lines, law_of_moments};
@@ -37,3 +46,12 @@ pub fn law_of_fronts()
 {
     law_of_long_lines();
 }
+
+/// If an edit of a good graph breaks no rule and the footprint of a path between two scopes doesn't meet what it touches, then the
+/// graph and the next one agree on the footprint. The same holds between scopes that are narrowed.
+pub fn law_of_untouched()
+    ensures path { (g new : Graph) (edit : Edit) (touch : Touch) (p : PathTerm) (a b : Scope) → Good g → Makes g edit new touch →
+        (Meets (footprint p a b) touch → ⊥) → Agree g new (footprint p a b) }
+    ensures between { (g new : Graph) (edit : Edit) (touch : Touch) (p : PathTerm) (a b : Scope) → Good g → Makes g edit new touch →
+        (Meets (footprint_between p a b) touch → ⊥) → Agree g new (footprint_between p a b) }
+{}

@@ -19,6 +19,6 @@ mod texts;
 mod ticking;
 
 pub use asking::Asked;
-pub use laws::{law_of_asked, law_of_fronts, law_of_replies};
+pub use laws::{law_of_asked, law_of_fronts, law_of_replies, law_of_untouched};
 pub use reply::Seen;
 pub use session::{Session, StepFault};

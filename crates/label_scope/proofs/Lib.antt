@@ -2,5 +2,15 @@ pub mod Lists
 pub mod Placing
 pub mod Scopes
 pub mod Within
+pub mod MiddlePoint
+pub mod Inner
+pub mod ByProperty
+pub mod PropertyPlaces
+pub mod NarrowedAgain
+pub mod Alike
+pub mod FootprintLemma
+pub mod SameMembers
+pub mod Inside
 pub mod Listed
 pub mod ListedParts
+pub mod FootprintsListed

@@ -44,7 +44,7 @@ within_joined_first g o a b h = each_object g o _ _ (λ x k. has_joined_first a 
 pub within_joined_second : (g : Graph) (o : ℕ) (a b : Scope) → IsWithin b g o → IsWithin (joined a b) g o
 within_joined_second g o a b h = each_object g o _ _ (λ x k. has_joined_second a b x.labels k) h
 
-within_met_where : (g : Graph) (o : ℕ) (k : Bool) (a b : Scope) → Good g → IsWithin a g o → (IsTrue k → IsWithin b g o) → IsWithin (met_where k a b) g o
+pub within_met_where : (g : Graph) (o : ℕ) (k : Bool) (a b : Scope) → Good g → IsWithin a g o → (IsTrue k → IsWithin b g o) → IsWithin (met_where k a b) g o
 within_met_where g o true a b good h more = within_met g o a b good h (more refl)
 within_met_where g o false a b good h more = h
 

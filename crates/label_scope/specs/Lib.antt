@@ -2,7 +2,13 @@ pub mod Labels
 pub mod Scopes
 pub mod Narrowing
 pub mod Members
+pub mod Passing
+pub mod PropertyScopes
+pub mod Footprints
+pub mod Touching
+pub mod Agreeing
 pub mod Examples
 pub mod ScopedPaths
 pub mod PartMembers
+pub mod FootprintTables
 pub mod Sides

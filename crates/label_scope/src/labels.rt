@@ -35,6 +35,15 @@ impl Model for Labels {
 }
 
 impl Labels {
+    /// The list without a label. It takes no memory.
+    pub(crate) fn none(alloc: Global) -> Labels
+        ensures { result ≡ [] }
+    {
+        Labels {
+            names: SmallVec::new(alloc),
+        }
+    }
+
     /// The list of this one label. It takes no memory.
     pub(crate) fn one(alloc: Global, label: Name) -> Labels
         ensures { result ≡ label ∷ [] }

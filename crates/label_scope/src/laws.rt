@@ -1,9 +1,10 @@
 //! The laws of scopes. Each is the contract of a function that does nothing.
-ghost use Rattle.std.specs.Prelude.{◌≡◌, ◌↔◌, ◌⊎◌, ℕ, List, IsTrue, Contains};
+ghost use Rattle.std.specs.Prelude.{◌≡◌, ◌↔◌, ◌⊎◌, ◌∷◌, ℕ, List, IsTrue, Contains};
 ghost use Rattle.itpg_base.specs.Decided.{Decided};
 ghost use Rattle.itpg_base.specs.Words.{Word, IsRising};
 ghost use Rattle.itpg_base.specs.Graphs.{Graph, Good};
 ghost use Rattle.itpg_base.specs.Points.{Point, IsAt};
+ghost use Rattle.itpg_base.specs.Walks.{IsWalk};
 ghost use Rattle.path_ast.specs.Terms.{PathTerm, TestTerm};
 ghost use Rattle.path_ast.specs.Meaning.{Rel, Sat, keeps_object};
 ghost use Rattle.label_scope.specs.declared.scope.Scope.{Scope};
@@ -11,6 +12,8 @@ ghost use Rattle.label_scope.specs.declared.scope.Scope.TheVariants.{All};
 ghost use Rattle.label_scope.specs.Labels.{labels_of_both, labels_of_either};
 ghost use Rattle.label_scope.specs.Scopes.{IsWithin, source_scope, target_scope, test_scope};
 ghost use Rattle.label_scope.specs.Narrowing.{Cut, narrowed};
+ghost use Rattle.label_scope.specs.Members.{passed};
+ghost use Rattle.label_scope.specs.Passing.{AllWithin};
 
 /// Of two lists of labels, the labels of both are those that stand in the one and in the other, and the labels of either those
 /// that stand in the one or in the other. Where the lists rise, so do these.
@@ -33,6 +36,13 @@ pub fn law_of_scopes()
 pub fn law_of_narrowing()
     ensures { (p : PathTerm) (a b : Scope) (g : Graph) (x y : Point) → Good g →
         Cut g p a b x y ↔ Cut g p (narrowed p a b).sources (narrowed p a b).targets x y }
+{}
+
+/// On a good graph each walk along a path, from an object within the one scope to an object within the other, passes only
+/// objects within the scope of all that a repetition of the path passes between the two.
+pub fn law_of_passing()
+    ensures { (r : PathTerm) (a b : Scope) (g : Graph) (x y : Point) (points : List Point) → Good g → IsWithin a g x.object → IsWithin b g y.object →
+        IsWalk (Rel r g) x points y → AllWithin (passed r (record { sources = a; targets = b })) g (x ∷ points) }
 {}
 
 /// Between `All` and `All` nothing is cut off.

@@ -1,6 +1,7 @@
 //! Scopes: sets of objects by their labels.
 ghost use Rattle.std.specs.Prelude.{◌≡◌, ◌↔◌, IsTrue, IfOk};
 ghost use Rattle.label_scope.specs.Scopes.{Has, met, joined, one_label};
+ghost use Rattle.label_scope.specs.Footprints.{nowhere};
 
 use crate::labels::Labels;
 use itpg_base::{LabelSet, Name};
@@ -16,6 +17,13 @@ pub enum Scope {
 }
 
 impl Scope {
+    /// No object. It takes no memory.
+    pub(crate) fn none(alloc: Global) -> Scope
+        ensures { result ≡ nowhere }
+    {
+        Scope::These(Labels::none(alloc))
+    }
+
     /// The objects with this label.
     pub fn one(alloc: Global, label: Name) -> Result<Scope, AllocError>
         ensures { IfOk result (λ scope. scope ≡ one_label label) }

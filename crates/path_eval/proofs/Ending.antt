@@ -23,7 +23,7 @@ use Rattle.label_scope.specs.Members.{passed, powers_within, unions_within, furt
 use Rattle.repeat_engine.proofs.ChainLaws.{chain_zero}
 use Rattle.path_eval.specs.Evaluated.{AllFit, SomeIsWide}
 use Rattle.path_eval.specs.Powers.{SameWithinBoth, PassesWithin, IsBody, HeldBetween, HoldsFitting, GivesPairs, GivesMember, left_over, repetition_members, repetition_member}
-use Rattle.path_eval.proofs.Inner.{inner_within, ends_within}
+use Rattle.label_scope.proofs.Inner.{inner_within, ends_within}
 use Rattle.path_eval.proofs.Walking.{WalksInside, walks_of, of_cut, cut_of, repeats_of, ends_inside, in_two, in_one}
 use Rattle.path_eval.proofs.MembersWithin.{none_fit, fit_both, wide_first, wide_second, wide_rest, wide_own}
 

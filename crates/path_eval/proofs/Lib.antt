@@ -11,7 +11,6 @@ pub mod Marking
 pub mod Climbing
 pub mod Filled
 pub mod Steps
-pub mod Inner
 pub mod Walking
 pub mod Bounded
 pub mod Diagonals

@@ -3,7 +3,6 @@ pub mod Answering
 pub mod Working
 pub mod Axes
 pub mod WithinBoth
-pub mod Passing
 pub mod Powers
 pub mod Ready
 pub mod Reached

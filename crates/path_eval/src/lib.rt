@@ -12,7 +12,7 @@ mod basis;
 mod evaluation;
 mod laws;
 mod made;
-mod passing;
+mod many_times;
 mod powers;
 mod reaching;
 mod repeated;
@@ -22,6 +22,6 @@ mod within_both;
 pub use answering::answer;
 pub use evaluation::relation;
 pub use laws::{law_of_cuts, law_of_members, law_of_picked_objects, law_of_times};
-pub use passing::{law_of_many_times, law_of_passing};
+pub use many_times::law_of_many_times;
 /// Why a path isn't worked out: memory ran out, or some member that is worked out on the way is too wide.
 pub use relation_rows::RelFault as EvalFault;

@@ -11,7 +11,8 @@ use Rattle.plan_cache.specs.declared.key.PlanKey.{PlanKey}
 use Rattle.plan_cache.specs.contracts.operations.PlanOpPartialEq.TheImpl as of_op
 use Rattle.plan_cache.specs.contracts.key.PlanKeyPartialEq.TheImpl as of_key
 use Rattle.plan_cache.specs.Operations.{op_term}
-use Rattle.plan_cache.proofs.AlikeOperations.{words_same, word_itself, both_true, op_same, op_alike}
+use Rattle.plan_cache.proofs.AlikeLeaves.{words_same, word_itself, both_true}
+use Rattle.plan_cache.proofs.AlikeOperations.{op_same, op_alike}
 
 words_of_same : (xs ys : List Word) → pointwise (pointwise nat_eq) xs ys ≡ true → xs ≡ ys
 words_of_same [] [] h = refl

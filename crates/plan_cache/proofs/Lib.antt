@@ -3,7 +3,10 @@ mod Stored
 mod Rebuilt
 mod Unique
 mod Doing
+mod AlikeLeaves
 mod AlikeOperations
 mod AlikeKeys
 mod Placing
 mod Adding
+mod Footing
+mod Known

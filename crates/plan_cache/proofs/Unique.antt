@@ -17,7 +17,8 @@ AreOne nodes = (i j : ℕ) (n m : PlanNode) → slice_get nodes i ≡ Some n →
 abbrev pub AreApart : List PlanKey → Type 0
 AreApart keys = (i j : ℕ) (k l : PlanKey) → slice_get keys i ≡ Some k → slice_get keys j ≡ Some l → op_term k.op ≡ op_term l.op → k.sources ≡ l.sources → k.targets ≡ l.targets → k.walk ≡ l.walk → i ≡ j
 
-the_node : (nodes : List PlanNode) (k : ℕ) (m : Member) → IsNodeOf nodes k m → (n : PlanNode) × (slice_get nodes k ≡ Some n) × (n.member ≡ m)
+-- the node of a member
+pub the_node : (nodes : List PlanNode) (k : ℕ) (m : Member) → IsNodeOf nodes k m → (n : PlanNode) × (slice_get nodes k ≡ Some n) × (n.member ≡ m)
 the_node [] k m h = absurd h
 the_node (n ∷ nodes) zero m h = (n, refl, h)
 the_node (n ∷ nodes) (suc k) m h = the_node nodes k m h

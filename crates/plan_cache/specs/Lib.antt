@@ -2,3 +2,4 @@ pub mod Operations
 pub mod Nodes
 pub mod Growing
 pub mod Stored
+pub mod Footprints

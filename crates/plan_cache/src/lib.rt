@@ -5,12 +5,15 @@
 //! query adds no more nodes than its path has terms.
 #![tactic(auto)]
 
+mod feet;
 mod interning;
 mod key;
+mod laws;
 mod nodes;
 mod operations;
 mod plans;
 
+pub use laws::{law_of_known_paths, law_of_lower_children};
 pub use nodes::MAX_NODES;
 pub use operations::{PlanNo, PlanOp, PlanTest};
 pub use plans::Plans;

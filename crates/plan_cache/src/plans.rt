@@ -5,12 +5,14 @@ ghost use Rattle.path_ast.specs.Sizes.{path_size, IsPathInRange};
 ghost use Rattle.label_scope.specs.declared.scope.Scope.TheVariants.{All};
 ghost use Rattle.plan_cache.specs.Operations.{op_term};
 ghost use Rattle.plan_cache.specs.Nodes.{IsNodeOf, IsOperation, IsWalkScope, AreShared, narrowed_member};
+ghost use Rattle.plan_cache.specs.Footprints.{footprint_of};
 ghost use Rattle.plan_cache.specs.Growing.{Grows, AddsUnder};
 ghost use Rattle.plan_cache.specs.declared.nodes.TheConstants.{MAX_NODES};
 
+use crate::feet::add_feet;
 use crate::nodes::Nodes;
 use crate::operations::{PlanNo, PlanOp};
-use label_scope::Scope;
+use label_scope::{Footprint, Scope};
 use path_ast::Query;
 use std::alloc::{AllocError, Global};
 use std::marker::Model;
@@ -30,9 +32,11 @@ use std::marker::Model;
 #[derive(Drop)]
 pub struct Plans {
     nodes: Nodes,
+    feet: Vec<Footprint>,
 }
 
 impl Model for Plans {
+    ghost use Rattle.std.specs.Prelude.{◌≡◌};
     ghost use Rattle.std.specs.Coded.{codes};
     ghost use Rattle.path_ast.specs.Codes.{coded_path};
     ghost use Rattle.plan_cache.specs.Nodes.{Table};
@@ -41,7 +45,11 @@ impl Model for Plans {
 
     ghost coded = { Prim.hlevel (codes, coded_path) };
 
+    ghost use Rattle.plan_cache.specs.Footprints.{footprints_of};
+
     ghost view = { λ p. record { nodes = p.nodes } };
+
+    ghost invariant = { λ p. p.feet.items ≡ footprints_of p.nodes };
 }
 
 impl Plans {
@@ -51,6 +59,7 @@ impl Plans {
     {
         Plans {
             nodes: Nodes::new(alloc),
+            feet: Vec::new(alloc),
         }
     }
 
@@ -91,6 +100,14 @@ impl Plans {
         self.nodes.walk_scope(no)
     }
 
+    /// The footprint of the node's path between its scopes. The number is below `len`.
+    pub fn foot_of(&self, no: PlanNo) -> &Footprint
+        requires { no.0 < length self.now.nodes }
+        ensures { IsSomeAnd (slice_get self.now.nodes no.0) (λ n. result.now ≡ footprint_of n.member) }
+    {
+        &self.feet[no.0 as usize]
+    }
+
     /// The node of the query's path between all objects and all objects.
     ///
     /// What is missing of it is added behind the other nodes: at most as many nodes as the path has terms, and none but the
@@ -108,6 +125,15 @@ impl Plans {
         ensures grows { Grows (path_size (path_term query.now.path)) self.old.nodes self.new.nodes }
         ensures same { OnErr result (self.new ≡ self.old) }
     {
-        self.nodes.intern(&query.path)
+        let standing = self.nodes.len();
+        let no = self.nodes.intern(&query.path)?;
+        match add_feet(&self.nodes, &mut self.feet) {
+            Ok(()) => Ok(no),
+            Err(AllocError) => {
+                self.nodes.cut_back(standing);
+                self.feet.truncate(standing as usize);
+                Err(AllocError)
+            }
+        }
     }
 }

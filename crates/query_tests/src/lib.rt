@@ -8,6 +8,8 @@ mod of_itpg_run;
 #[cfg(test)]
 mod of_label_scope;
 #[cfg(test)]
+mod of_plan_cache;
+#[cfg(test)]
 mod of_relation_rows;
 #[cfg(test)]
 mod of_repeat_engine;

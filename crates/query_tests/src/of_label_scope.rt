@@ -1,7 +1,7 @@
-//! Scopes of a path, and scopes met and joined, with labels by hand.
+//! Scopes and footprints of a path, and scopes met and joined, with labels by hand.
 
-use itpg_base::Name;
-use label_scope::{Scope, narrow};
+use itpg_base::{LabelSet, Name, Touch};
+use label_scope::{Scope, foot, meets, narrow};
 use match_parser::read_query;
 
 fn labels(scope: &Scope) -> &[Name] {
@@ -38,4 +38,25 @@ fn scopes_are_met_and_joined(rt: HostRuntime) {
     let copy = three.copy(alloc).expect(&rt, "memory");
     let both = copy.meet(alloc, &rooms).expect(&rt, "memory");
     assert!(rt; labels(&both) == [room].as_slice());
+}
+
+#[test]
+fn a_footprint_is_met_by_label_and_property(rt: HostRuntime) {
+    let alloc = rt.alloc();
+    let person = Name::new(b"Person").expect(&rt, "a name");
+    let risk = Name::new(b"risk").expect(&rt, "a name");
+    let mood = Name::new(b"mood").expect(&rt, "a name");
+    let query = read_query(alloc, b"MATCH (x:Person {risk = 'high'})")
+        .ok()
+        .expect(&rt, "a query");
+    let own = foot(alloc, &query.path, &Scope::All, &Scope::All).expect(&rt, "memory");
+    let asked = own.copy(alloc).expect(&rt, "memory");
+    assert!(rt; labels(&asked.shape) == [person].as_slice());
+    assert!(rt; labels(&asked.live) == [person].as_slice());
+    assert!(rt; asked.values.scopes().len() == 1);
+    let labels = LabelSet::one(person);
+    assert!(rt; meets(&asked, &Touch::Gone(labels)));
+    assert!(rt; meets(&asked, &Touch::Value { labels, prop: risk }));
+    assert!(rt; !meets(&asked, &Touch::Value { labels, prop: mood }));
+    assert!(rt; !meets(&asked, &Touch::Live(LabelSet::one(mood))));
 }

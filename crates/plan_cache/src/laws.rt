@@ -1,0 +1,17 @@
+//! Laws of the table. Each is the contract of a function that does nothing.
+ghost use Rattle.std.specs.Prelude.{◌≡◌, ◌<◌, ℕ, List, ◌∷◌, []};
+ghost use Rattle.label_scope.specs.Members.{Member};
+ghost use Rattle.plan_cache.specs.Nodes.{PlanNode, IsNodeOf, AreShared};
+ghost use Rattle.plan_cache.specs.Growing.{Grows, IsChild, AddsUnder};
+
+/// A table in which nodes are shared leads from each node to lower numbers alone.
+pub fn law_of_lower_children()
+    ensures { (nodes : List PlanNode) (x y : ℕ) → AreShared nodes → IsChild nodes x y → y < x }
+{}
+
+/// What `intern` ensures leaves a table as it was if the path has a node in it, and gives that node. So a query that is interned
+/// twice has one number, and the second time adds nothing.
+pub fn law_of_known_paths()
+    ensures { (most answer k : ℕ) (old new : List PlanNode) (m : Member) → AreShared new → Grows most old new → AddsUnder old new (answer ∷ []) →
+        IsNodeOf new answer m → IsNodeOf old k m → (answer ≡ k) × (new ≡ old) }
+{}
