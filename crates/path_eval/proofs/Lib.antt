@@ -7,6 +7,10 @@ pub mod Fitting
 pub mod Joining
 pub mod Leading
 pub mod Working
+pub mod Marking
+pub mod Climbing
+pub mod Filled
+pub mod Steps
 pub mod Walking
 pub mod Bounded
 pub mod Diagonals

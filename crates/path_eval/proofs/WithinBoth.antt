@@ -1,5 +1,5 @@
 -- Tests, conditions and the identity on the objects within two scopes, and how these objects are found.
-use Rattle.std.proofs.Common.{◌≡◌, ◌↔◌, inl, inr, ⊎_elim, ℕ, ◌+◌, ◌<◌, ◌≤◌, List, [], ◌∷◌, ◌++◌, length, slice_index_or, take, refl, sym, subst, Result}
+use Rattle.std.proofs.Common.{◌≡◌, ◌↔◌, ⊎_elim, ℕ, ◌+◌, ◌<◌, ◌≤◌, List, [], ◌∷◌, ◌++◌, length, slice_index_or, take, refl, sym, subst, Result}
 use Rattle.std.proofs.lemmas.List.{take_more, take_all}
 use Rattle.itpg_base.specs.declared.object_number.ObjNo.{ObjNo}
 use Rattle.itpg_base.specs.Spans.{Span}
@@ -11,7 +11,7 @@ use Rattle.relation_rows.specs.declared.rows.Row.{Row}
 use Rattle.relation_rows.specs.declared.rows.RelFault.{RelFault}
 use Rattle.relation_rows.specs.Rows.{NormalRows}
 use Rattle.relation_rows.specs.Answers.{Gives}
-use Rattle.relation_rows.specs.Relations.{Rise, IsOneOf, IsItself}
+use Rattle.relation_rows.specs.Relations.{Rise, IsItself}
 use Rattle.relation_rows.proofs.Alike.{hold_only}
 use Rattle.relation_rows.proofs.Giving.{gives_alike}
 use Rattle.path_ast.specs.Terms.{PathTerm, OfTest, TestTerm, Condition}

@@ -3,7 +3,6 @@ use Rattle.std.proofs.Common.{◌≡◌, ◌≤◌, ℕ, List, [], ◌∷◌, �
 use Rattle.itpg_base.specs.declared.object_number.ObjNo.{ObjNo}
 use Rattle.itpg_base.specs.Spans.{Span}
 use Rattle.itpg_base.specs.Graphs.{Graph, Good}
-use Rattle.itpg_base.specs.Points.{Relation}
 use Rattle.itpg_base.specs.Lists.{Among}
 use Rattle.itpg_base.proofs.Lists.{append_second}
 use Rattle.relation_rows.specs.declared.rows.Row.{Row}
@@ -14,24 +13,23 @@ use Rattle.relation_rows.specs.Answers.{Gives}
 use Rattle.relation_rows.specs.Relations.{HasMiddlePoint, EitherHolds}
 use Rattle.relation_rows.proofs.Alike.{rows_alike}
 use Rattle.relation_rows.proofs.Listed.{rows_unique}
-use Rattle.path_ast.specs.Terms.{PathTerm, OfTest, Forward, Backward, Next, Previous, Sequence, Choice, Repetition, TestTerm, Condition, Conjunction, Disjunction, Negation}
+use Rattle.path_ast.specs.Terms.{PathTerm, OfTest, Forward, Backward, Next, Previous, Sequence, Choice, Repetition, TestTerm, Conjunction, Disjunction, Negation}
 use Rattle.label_scope.specs.declared.scope.Scope.{Scope}
-use Rattle.label_scope.specs.declared.scope.Scope.TheVariants.{All}
 use Rattle.label_scope.specs.Narrowing.{Cut, narrowed}
-use Rattle.label_scope.specs.Members.{Member, worked, worked_conditions, middle, passed, member, axis_members, test_members, sequence_members, choice_members, repeated_members, members_between}
+use Rattle.label_scope.specs.Members.{worked, worked_conditions, middle, passed, member, axis_members, test_members, sequence_members, choice_members, repeated_members, members_between}
 use Rattle.label_scope.proofs.Within.{narrowed_cut, widened_cut}
 use Rattle.condition_eval.specs.declared.marks.Marked.{Marked}
 use Rattle.condition_eval.specs.Combined.{BothMark, EitherMarks, IsUnmarked, MarkedToItself}
 use Rattle.condition_eval.specs.Marking.{AreMarks, objects_of}
-use Rattle.condition_eval.specs.Tested.{HoldsAt, StartsAt, Stand, HasHorizon}
+use Rattle.condition_eval.specs.Tested.{HoldsAt, Stand, HasHorizon}
 use Rattle.condition_eval.proofs.Meanings.{negated, both_hold, either_holds}
 use Rattle.path_eval.specs.Evaluated.{AllFit}
-use Rattle.path_eval.specs.WithinBoth.{RiseWithin, AreWithinBoth}
+use Rattle.path_eval.specs.WithinBoth.{AreWithinBoth}
 use Rattle.path_eval.specs.Powers.{GivesMember, repetition_member, repetition_members}
-use Rattle.path_eval.specs.Working.{WorksOutAs, MarksOutAs}
-use Rattle.path_eval.proofs.WithinBoth.{condition_within, test_within_both}
+use Rattle.path_eval.specs.Working.{WorksOutAs}
+use Rattle.path_eval.proofs.WithinBoth.{test_within_both}
 use Rattle.path_eval.proofs.Fitting.{fit_own, works_out, works_out_as}
-use Rattle.path_eval.proofs.MembersWithin.{none_fit, fit_both, wide_first, wide_second, wide_rest}
+use Rattle.path_eval.proofs.MembersWithin.{none_fit, fit_both}
 use Rattle.path_eval.proofs.Joining.{sequence_from, from_sequence, choice_from, from_choice}
 
 -- the members of a path are those between its narrowed scopes
@@ -112,58 +110,15 @@ module _ (g : Graph) (limit : ℕ) (good : Good g) where
       works_out g limit (member (Choice p q) a b) (worked p a b ++ worked q a b) (EitherHolds left right) (choice_from g good p q a b left right first.0 second.0) (from_choice g good p q a b left right first.0 second.0)
       (fit_both g limit (worked p a b) (worked q a b) first.1 second.1)
 
-module _ (g : Graph) (limit : ℕ) where
-  -- a fault of a part is one of the whole
-  pub first_fault : (R S : Relation) (own : Member) (ms ns : List Member) (fault : RelFault) → WorksOutAs (Err fault) R g limit ms → WorksOutAs (Err fault) S g limit (own ∷ (ms ++ ns))
-  first_fault R S own ms ns Memory h = tt
-  first_fault R S own ms ns Wide h = wide_rest g limit own (ms ++ ns) (wide_first g limit ms ns h)
+module _ (g : Graph) (objects : List ObjNo) where
+  pub both_marked : (c d : TestTerm) (own also marks : List Marked) → AreMarks objects (HoldsAt c g) own → AreMarks objects (HoldsAt d g) also
+      → AreMarks (objects_of own) (BothMark own also) marks → AreMarks objects (HoldsAt (Conjunction c d) g) marks
+  both_marked c d own also marks is and h = both_hold g objects c d own also marks is and (subst (λ (v : List ObjNo). AreMarks v (BothMark own also) marks) is.these h)
 
-  pub second_fault : (R S : Relation) (own : Member) (ms ns : List Member) (fault : RelFault) → WorksOutAs (Err fault) R g limit ns → WorksOutAs (Err fault) S g limit (own ∷ (ms ++ ns))
-  second_fault R S own ms ns Memory h = tt
-  second_fault R S own ms ns Wide h = wide_rest g limit own (ms ++ ns) (wide_second g limit ms ns h)
+  pub either_marked : (c d : TestTerm) (own also marks : List Marked) → AreMarks objects (HoldsAt c g) own → AreMarks objects (HoldsAt d g) also
+      → AreMarks (objects_of own) (EitherMarks own also) marks → AreMarks objects (HoldsAt (Disjunction c d) g) marks
+  either_marked c d own also marks is and h = either_holds g objects c d own also marks is and (subst (λ (v : List ObjNo). AreMarks v (EitherMarks own also) marks) is.these h)
 
-  pub marks_fault : (S : Relation) (c : TestTerm) (objects : List ObjNo) (own : Member) (ms : List Member) (fault : RelFault) → MarksOutAs (Err fault) c objects g limit ms → WorksOutAs (Err fault) S g limit (own ∷ ms)
-  marks_fault S c objects own ms Memory h = tt
-  marks_fault S c objects own ms Wide h = wide_rest g limit own ms h
-
-  pub leading_fault : (R : Relation) (c : TestTerm) (objects : List ObjNo) (ms : List Member) (fault : RelFault) → WorksOutAs (Err fault) R g limit ms → MarksOutAs (Err fault) c objects g limit ms
-  leading_fault R c objects ms Memory h = tt
-  leading_fault R c objects ms Wide h = h
-
-  pub first_marks : (c d : TestTerm) (objects : List ObjNo) (ms ns : List Member) (fault : RelFault) → MarksOutAs (Err fault) c objects g limit ms → MarksOutAs (Err fault) d objects g limit (ms ++ ns)
-  first_marks c d objects ms ns Memory h = tt
-  first_marks c d objects ms ns Wide h = wide_first g limit ms ns h
-
-  pub second_marks : (c d : TestTerm) (objects : List ObjNo) (ms ns : List Member) (fault : RelFault) → MarksOutAs (Err fault) c objects g limit ns → MarksOutAs (Err fault) d objects g limit (ms ++ ns)
-  second_marks c d objects ms ns Memory h = tt
-  second_marks c d objects ms ns Wide h = wide_second g limit ms ns h
-
-  pub same_marks : (c d : TestTerm) (objects : List ObjNo) (ms : List Member) (fault : RelFault) → MarksOutAs (Err fault) c objects g limit ms → MarksOutAs (Err fault) d objects g limit ms
-  same_marks c d objects ms Memory h = tt
-  same_marks c d objects ms Wide h = h
-
-module _ (g : Graph) (limit : ℕ) (objects : List ObjNo) where
-  pub both_marked : (c d : TestTerm) (a : Scope) (own also marks : List Marked) → AreMarks objects (HoldsAt c g) own × AllFit g limit (worked_conditions c a) → AreMarks objects (HoldsAt d g) also × AllFit g limit (worked_conditions d a)
-      → AreMarks (objects_of own) (BothMark own also) marks → AreMarks objects (HoldsAt (Conjunction c d) g) marks × AllFit g limit (worked_conditions (Conjunction c d) a)
-  both_marked c d a own also marks is and h = (
-    both_hold g objects c d own also marks is.0 and.0 (subst (λ (v : List ObjNo). AreMarks v (BothMark own also) marks) is.0.these h),
-    fit_both g limit (worked_conditions c a) (worked_conditions d a) is.1 and.1,
-  )
-
-  pub either_marked : (c d : TestTerm) (a : Scope) (own also marks : List Marked) → AreMarks objects (HoldsAt c g) own × AllFit g limit (worked_conditions c a) → AreMarks objects (HoldsAt d g) also × AllFit g limit (worked_conditions d a)
-      → AreMarks (objects_of own) (EitherMarks own also) marks → AreMarks objects (HoldsAt (Disjunction c d) g) marks × AllFit g limit (worked_conditions (Disjunction c d) a)
-  either_marked c d a own also marks is and h = (
-    either_holds g objects c d own also marks is.0 and.0 (subst (λ (v : List ObjNo). AreMarks v (EitherMarks own also) marks) is.0.these h),
-    fit_both g limit (worked_conditions c a) (worked_conditions d a) is.1 and.1,
-  )
-
-  pub condition_marked : (a : Scope) → RiseWithin a g objects → (p : PathTerm) (rows : List Row) (marks : List Marked) → NormalRows (Cut g p a All) rows × AllFit g limit (worked p a All)
-      → AreMarks objects (StartsAt rows g) marks → AreMarks objects (HoldsAt (Condition p) g) marks × AllFit g limit (worked_conditions (Condition p) a)
-  condition_marked a are p rows marks is h = (condition_within g a objects are p rows marks is.0 h, is.1)
-
-  pub negation_marked : (c : TestTerm) (a : Scope) (horizon : Span) → HasHorizon g horizon → Stand g objects → (own marks : List Marked) → AreMarks objects (HoldsAt c g) own × AllFit g limit (worked_conditions c a)
-      → AreMarks (objects_of own) (IsUnmarked horizon own) marks → AreMarks objects (HoldsAt (Negation c) g) marks × AllFit g limit (worked_conditions (Negation c) a)
-  negation_marked c a horizon begun stand own marks is h = (
-    negated g objects c horizon own marks begun stand is.0 (subst (λ (v : List ObjNo). AreMarks v (IsUnmarked horizon own) marks) is.0.these h),
-    is.1,
-  )
+  pub negation_marked : (c : TestTerm) (horizon : Span) → HasHorizon g horizon → Stand g objects → (own marks : List Marked) → AreMarks objects (HoldsAt c g) own
+      → AreMarks (objects_of own) (IsUnmarked horizon own) marks → AreMarks objects (HoldsAt (Negation c) g) marks
+  negation_marked c horizon begun stand own marks is h = negated g objects c horizon own marks begun stand is (subst (λ (v : List ObjNo). AreMarks v (IsUnmarked horizon own) marks) is.these h)

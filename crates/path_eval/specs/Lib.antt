@@ -5,3 +5,5 @@ pub mod Axes
 pub mod WithinBoth
 pub mod Powers
 pub mod Ready
+pub mod Reached
+pub mod Made

@@ -1,6 +1,6 @@
 //! The relation of a path between two scopes, worked out on a graph, and the answer of a query.
 //!
-//! Stands on `condition_eval`, by which tests are worked out, on `relation_rows`, by whose operations paths are, on
+//! Stands on `plan_cache`, whose nodes it works out, on `condition_eval`, by which tests are worked out, on `relation_rows`, by whose operations paths are, on
 //! `repeat_engine`, by which repetitions are, and on `label_scope`, whose scopes say between which objects. It promises that
 //! each path gives the normal rows of exactly what it means, and that a limit of rows refuses it exactly if some member
 //! that is worked out on the way has more. By its laws each question has one answer.
@@ -11,13 +11,16 @@ mod axes;
 mod basis;
 mod evaluation;
 mod laws;
+mod made;
 mod many_times;
 mod powers;
+mod reaching;
 mod repeated;
+mod step;
 mod within_both;
 
 pub use answering::answer;
-pub use evaluation::relation_of;
+pub use evaluation::relation;
 pub use laws::{law_of_cuts, law_of_members, law_of_picked_objects, law_of_times};
 pub use many_times::law_of_many_times;
 /// Why a path isn't worked out: memory ran out, or some member that is worked out on the way is too wide.

@@ -3,17 +3,17 @@ ghost use Rattle.std.specs.Prelude.{◌≡◌, ◌≤◌, ◌∷◌, [], ℕ, So
 ghost use Rattle.itpg_base.specs.Chains.{chain};
 ghost use Rattle.relation_rows.specs.Answers.{Gives};
 ghost use Rattle.relation_rows.specs.Rows.{RowsHold, NormalRows, Fits};
-ghost use Rattle.path_ast.specs.Terms.{path_term, Repetition};
+ghost use Rattle.path_ast.specs.Terms.{Repetition};
 ghost use Rattle.label_scope.specs.Narrowing.{Cut};
 ghost use Rattle.label_scope.specs.Members.{powers_within, unions_within, doubles};
 ghost use Rattle.path_eval.specs.Powers.{SamePoint, SameWithinBoth, HeldBetween, GivesPairs};
-ghost use Rattle.path_eval.specs.Ready.{IsReady};
+ghost use Rattle.path_eval.specs.Ready.{IsReady, body_of};
 
 use crate::basis::Ground;
 use crate::within_both::objects_within_both;
 use condition_eval::objects_within;
 use label_scope::Scope;
-use path_ast::Path;
+use plan_cache::{PlanNo, Plans};
 use relation_rows::{RelFault, Relation};
 use repeat_engine::{Composed, closure, power, up_to};
 use std::alloc::AllocError;
@@ -25,9 +25,11 @@ use std::alloc::AllocError;
 #[derive(Drop)]
 pub(crate) struct Powers<'g, 'a> {
     pub(crate) ground: &'a Ground<'g>,
-    /// The path that is repeated.
-    pub(crate) body: &'a Path,
-    /// Its relation between the objects within `passed`.
+    /// The nodes, of which the body is one.
+    pub(crate) plans: &'a Plans,
+    /// The node of the path that is repeated.
+    pub(crate) body: PlanNo,
+    /// The path's relation between the objects within `passed`.
     pub(crate) relation: &'a Relation,
     /// The scope of every object that a repetition passes.
     pub(crate) passed: &'a Scope,
@@ -134,7 +136,7 @@ impl Powers<'_, '_> {
         requires some { 1 ≤ n }
         requires small { n ≤ 1000000000000 }
         requires ready { IsReady self.now }
-        ensures { let on = self.now.ground.now in let r = path_term self.now.body.now in let u = self.now.passed.now in
+        ensures { let on = self.now.ground.now in let r = body_of self.now in let u = self.now.passed.now in
             GivesPairs on.graph.now on.max_rows (Cut on.graph.now (Repetition r n (Some n)) u u) (powers_within r u (chain n)) result }
     {
         power(self, self.relation, n)
@@ -145,7 +147,7 @@ impl Powers<'_, '_> {
         requires some { 1 ≤ n }
         requires small { n ≤ 1000000000000 }
         requires ready { IsReady self.now }
-        ensures { let on = self.now.ground.now in let r = path_term self.now.body.now in let u = self.now.passed.now in
+        ensures { let on = self.now.ground.now in let r = body_of self.now in let u = self.now.passed.now in
             GivesPairs on.graph.now on.max_rows (Cut on.graph.now (Repetition r 0 (Some n)) u u) (unions_within r u (chain n)) result }
     {
         up_to(self, self.relation, n)
@@ -154,7 +156,7 @@ impl Powers<'_, '_> {
     /// The path any number of times. `Wide` exactly if for some j from 0 to 60 the path 0 to 2^j times is.
     pub(crate) fn any_number(&self) -> Result<Relation, RelFault>
         requires ready { IsReady self.now }
-        ensures { let on = self.now.ground.now in let r = path_term self.now.body.now in let u = self.now.passed.now in
+        ensures { let on = self.now.ground.now in let r = body_of self.now in let u = self.now.passed.now in
             GivesPairs on.graph.now on.max_rows (Cut on.graph.now (Repetition r 0 None) u u) (unions_within r u (doubles 60)) result }
     {
         closure(self, self.relation)

@@ -13,12 +13,12 @@
 //! n-th power composed with a union. Either could have too many rows where no member has.
 ghost use Rattle.std.specs.Prelude.{◌≡◌, ◌<◌, ◌≤◌, ◌∷◌, Some, None, length, IfOk, IsErrOf};
 ghost use Rattle.relation_rows.specs.Rows.{NormalRows};
-ghost use Rattle.path_ast.specs.Terms.{path_term, Repetition};
+ghost use Rattle.path_ast.specs.Terms.{Repetition};
 ghost use Rattle.path_ast.specs.Sizes.{AreInRange};
 ghost use Rattle.label_scope.specs.Narrowing.{Cut};
 ghost use Rattle.label_scope.specs.Members.{passed as passed_scope, unions_within, further};
 ghost use Rattle.path_eval.specs.Evaluated.{AllFit, SomeIsWide};
-ghost use Rattle.path_eval.specs.Ready.{IsReady};
+ghost use Rattle.path_eval.specs.Ready.{IsReady, body_of};
 ghost use Rattle.path_eval.specs.Powers.{GivesPairs, GivesMember, HoldsFitting, IsRest, left_over, repetition_member, repetition_members};
 
 use crate::powers::{Powers, cut};
@@ -41,8 +41,8 @@ impl Powers<'_, '_> {
     ) -> Result<Relation, RelFault>
         requires ready { IsReady self.now }
         requires in_range { AreInRange least most }
-        requires passed { self.now.passed.now ≡ passed_scope (path_term self.now.body.now) (record { sources = a.now; targets = b.now }) }
-        ensures { let on = self.now.ground.now in let r = path_term self.now.body.now in
+        requires passed { self.now.passed.now ≡ passed_scope (body_of self.now) (record { sources = a.now; targets = b.now }) }
+        ensures { let on = self.now.ground.now in let r = body_of self.now in
             GivesMember on.graph.now on.max_rows (repetition_member r least most a.now b.now) (repetition_members r self.now.passed.now least most) result }
     {
         if most == Some(least) {
@@ -57,8 +57,8 @@ impl Powers<'_, '_> {
     fn exactly_between(&self, a: &Scope, b: &Scope, n: u64) -> Result<Relation, RelFault>
         requires ready { IsReady self.now }
         requires small { n ≤ 1000000000000 }
-        requires passed { self.now.passed.now ≡ passed_scope (path_term self.now.body.now) (record { sources = a.now; targets = b.now }) }
-        ensures { let on = self.now.ground.now in let r = path_term self.now.body.now in
+        requires passed { self.now.passed.now ≡ passed_scope (body_of self.now) (record { sources = a.now; targets = b.now }) }
+        ensures { let on = self.now.ground.now in let r = body_of self.now in
             GivesMember on.graph.now on.max_rows (repetition_member r n (Some n) a.now b.now) (repetition_members r self.now.passed.now n (Some n)) result }
     {
         if n == 0 {
@@ -74,7 +74,7 @@ impl Powers<'_, '_> {
         requires ready { IsReady self.now }
         requires in_range { AreInRange least most }
         requires more { IsRest least most }
-        ensures { let on = self.now.ground.now in let r = path_term self.now.body.now in let u = self.now.passed.now in
+        ensures { let on = self.now.ground.now in let r = body_of self.now in let u = self.now.passed.now in
             GivesPairs on.graph.now on.max_rows (Cut on.graph.now (Repetition r 0 (left_over least most)) u u) (unions_within r u (further least most)) result }
     {
         match most {
@@ -94,11 +94,11 @@ impl Powers<'_, '_> {
     ) -> Result<Relation, RelFault>
         requires ready { IsReady self.now }
         requires in_range { AreInRange least most }
-        requires passed { self.now.passed.now ≡ passed_scope (path_term self.now.body.now) (record { sources = a.now; targets = b.now }) }
-        requires rest { let on = self.now.ground.now in let r = path_term self.now.body.now in let u = self.now.passed.now in
+        requires passed { self.now.passed.now ≡ passed_scope (body_of self.now) (record { sources = a.now; targets = b.now }) }
+        requires rest { let on = self.now.ground.now in let r = body_of self.now in let u = self.now.passed.now in
             HoldsFitting (Cut on.graph.now (Repetition r 0 (left_over least most)) u u) on.max_rows rest.now }
-        requires fits { AllFit self.now.ground.now.graph.now self.now.ground.now.max_rows (unions_within (path_term self.now.body.now) self.now.passed.now (further least most)) }
-        ensures { let on = self.now.ground.now in let r = path_term self.now.body.now in
+        requires fits { AllFit self.now.ground.now.graph.now self.now.ground.now.max_rows (unions_within (body_of self.now) self.now.passed.now (further least most)) }
+        ensures { let on = self.now.ground.now in let r = body_of self.now in
             GivesMember on.graph.now on.max_rows (repetition_member r least most a.now b.now) (repetition_members r self.now.passed.now least most) result }
     {
         if least == 0 {
