@@ -1,20 +1,16 @@
 -- The moments at which a relation starts at an object.
-use Rattle.std.proofs.Common.{◌≡◌, ◌↔◌, ◌⊎◌, inl, inr, ⊎_elim, ℕ, ◌+◌, ◌-◌, ◌<◌, ◌≤◌, ℤ, List, [], ◌∷◌, length, get_or, slice_index_or, take, drop, refl, sym, ◌∙◌, subst, arith, Bool, true, false, true≢false}
-use Rattle.std.specs.Prelude.{◌==◌, nat_lt}
-use Rattle.std.specs.List.Sorted.{IsPartitionedBy, IsPartitionPoint}
-use Rattle.std.proofs.lemmas.Bool.Decides.{eqb_tells, Decides-ltb}
-use Rattle.std.proofs.lemmas.List.{take_all, length-drop}
+use Rattle.std.proofs.Common.{◌≡◌, ◌↔◌, ◌⊎◌, inl, inr, ⊎_elim, ℕ, ◌+◌, ◌<◌, ◌≤◌, ℤ, List, [], ◌∷◌, length, slice_index_or, take, refl, sym, subst, arith}
+use Rattle.std.proofs.lemmas.List.{take_all}
 use Rattle.itpg_base.specs.declared.object_number.ObjNo.{ObjNo}
 use Rattle.itpg_base.specs.Spans.{Span, Within, Covers}
 use Rattle.itpg_base.specs.Graphs.{Graph, Stands}
 use Rattle.interval_set.specs.Runs.{AreRuns}
 use Rattle.interval_set.proofs.Unique.{runs_alike}
-use Rattle.itpg_base.specs.Lists.{Among, Ordered}
-use Rattle.itpg_base.proofs.Lists.{among_at, ordered_by_place}
+use Rattle.itpg_base.specs.Lists.{Among}
 use Rattle.relation_rows.specs.declared.rows.Row.{Row}
 use Rattle.relation_rows.specs.declared.times.OneRow.{OneRow}
 use Rattle.relation_rows.specs.Times.{TimeBefore, TimesHold, AreTimes, Departs}
-use Rattle.relation_rows.proofs.Partitions.{among_before, among_behind, among_either, front_among, rest_among, rest_ordered, among_more, more_among}
+use Rattle.relation_rows.proofs.Partitions.{among_more, more_among}
 use Rattle.condition_eval.specs.Tested.{StartsAt, HasHorizon}
 use Rattle.condition_eval.proofs.Marked.{point}
 use Rattle.condition_eval.proofs.Points.{in_horizon}

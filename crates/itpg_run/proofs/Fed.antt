@@ -2,7 +2,7 @@
 use Rattle.std.proofs.Common.{◌≡◌, ℕ, ◌+◌, Some, None, List, [], ◌∷◌, ◌++◌, ◌≢◌, ◌||◌, length, take, refl, ap, ◌∙◌, sym, subst, append_assoc, append-nil, length-append, arith}
 use Rattle.std.specs.declared.option.Option.{Option}
 use Rattle.std.specs.Io.KnownBytes.{Appends, Keeps}
-use Rattle.std.proofs.KnownBytes.{Appends-trans}
+use Rattle.std.proofs.KnownBytes.{Appends-trans, Appends-kept}
 use Rattle.itpg_session.specs.Machine.{opening}
 use Rattle.itpg_run.specs.Lines.{kept, lines, whole}
 use Rattle.itpg_run.specs.Out.{Output, LineOut, both, Runs}
@@ -13,13 +13,6 @@ use Rattle.itpg_run.specs.declared.reader.Reader.{Reader}
 use Rattle.itpg_run.proofs.Split.{NoEnd-append, NoEnds-push, joined-push, lines-joined, lines-line, lines-rest, whole-joined, whole-rest}
 use Rattle.itpg_run.proofs.Kept.{take_take, take_none, take_nothing, kept_is}
 use Rattle.itpg_run.proofs.Running.{runs-push}
-
--- known bytes that were kept, and then grow
-Appends-kept : (a b c : Option (List ℕ)) (bs : List ℕ) → Appends a b bs → Keeps b c → Appends a c bs
-Appends-kept None b c bs p q = tt
-Appends-kept (Some x) None c bs p q = absurd p
-Appends-kept (Some x) (Some y) None bs p q = absurd q
-Appends-kept (Some x) (Some y) (Some z) bs p q = q ∙ p
 
 -- a piece in which no line ends
 pub fed_piece : (limit : ℕ) (start now : Option (List ℕ)) (old new : Reader) (bytes piece : List ℕ)

@@ -15,6 +15,7 @@ use Rattle.edit_reader.specs.Forms.{form_of, parts_of}
 use Rattle.edit_reader.specs.Faults.{without_end, is_silent, HasFarNumber, HasLongName, HasFault}
 use Rattle.edit_reader.specs.Lines.{TakenAs, LineOf}
 use Rattle.itpg_run.proofs.SpelledTokens.{behind_text, places, line_text, line_places, is_inside, IsSpelled, AllSpelled}
+use Rattle.std.proofs.lemmas.Option.{none-some}
 
 drop_drop : (n : ℕ) (m : ℕ) (xs : List ℕ) → drop (n + m) xs ≡ drop m (drop n xs)
 drop_drop zero m xs = ap (λ k. drop k xs) (let e : 0 + m ≡ m = omega arith in e)
@@ -93,22 +94,19 @@ no_long (AMark mark ∷ ls) h long = no_long ls h.1 long
 abbrev pub OneList : Type 0
 OneList = (line : List ℕ) (at : ℕ) (xs ys : List Placed) (e f : Option TextCode) → AreTokens line at xs e → AreTokens line at ys f → (xs ≡ ys) × (e ≡ f)
 
-none_some : (code : TextCode) → None ≡ Some code → ⊥
-none_some code e = let none : ⊥ = cc in none
-
 -- a line with these tokens has no fault
 pub no_fault : OneList → (line : List ℕ) (tokens : List Placed) (reading : Reading) → AreTokens line 0 tokens None → length line ≤ 65536 → length tokens ≤ 4096
     → form_of line tokens ≡ Some reading → (HasFarNumber (parts_of tokens) → ⊥) → (HasLongName (parts_of tokens) → ⊥) → (code : TextCode) → HasFault line code → ⊥
 no_fault one line tokens reading are few count form near short codes_of.Long h = omega (arith, few, h)
 no_fault one line tokens reading are few count form near short codes_of.Byte h =
-    none_some codes_of.Byte ((one line 0 tokens h.1.0 None h.1.1.0 are h.1.1.1.0).1 ∙ h.1.1.1.1)
+    none-some codes_of.Byte ((one line 0 tokens h.1.0 None h.1.1.0 are h.1.1.1.0).1 ∙ h.1.1.1.1)
 no_fault one line tokens reading are few count form near short codes_of.Tokens h =
     let same : tokens ≡ h.1.0 = (one line 0 tokens h.1.0 None h.1.1.0 are h.1.1.1.0).0 in
     let many : 4096 < length h.1.0 = h.1.1.1.1 in
     omega (arith, count, many, ap length same)
 no_fault one line tokens reading are few count form near short codes_of.Text h =
     let same = one line 0 tokens h.1.0 None h.1.1.0 are h.1.1.1.0 in
-    ⊎_elim (λ e. none_some codes_of.Text (same.1 ∙ e)) (λ e. some_none (sym form ∙ ap (form_of line) same.0 ∙ e)) h.1.1.1.1
+    ⊎_elim (λ e. none-some codes_of.Text (same.1 ∙ e)) (λ e. some_none (sym form ∙ ap (form_of line) same.0 ∙ e)) h.1.1.1.1
   where
     some_none : Some reading ≡ None → ⊥
     some_none e = let none : ⊥ = cc in none

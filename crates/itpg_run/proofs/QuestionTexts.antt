@@ -29,6 +29,8 @@ use Rattle.trial_script.specs.Script.{risk_line, contact_line, alone_line}
 use Rattle.itpg_run.specs.ScriptQueries.{EachQuestionReads, risk_query, contact_query, alone_query, risk_text, contact_text, alone_text}
 use Rattle.itpg_run.proofs.LineTokens.{OneList, no_fault}
 use Rattle.itpg_run.proofs.TextTokens.{scan, scan_sound}
+use Rattle.itpg_run.proofs.Spellings.{and_left, and_right}
+use Rattle.std.proofs.lemmas.Option.{none-some}
 
 -- each token can be one of a query
 abbrev fits : Lexeme → Bool
@@ -40,14 +42,6 @@ fits (AMark m) = true
 abbrev all_fit : List Lexeme → Bool
 all_fit [] = true
 all_fit (t ∷ ts) = fits t && all_fit ts
-
-and_left : (a b : Bool) → (a && b) ≡ true → a ≡ true
-and_left true b e = refl
-and_left false b e = e
-
-and_right : (a b : Bool) → (a && b) ≡ true → b ≡ true
-and_right true b e = e
-and_right false b e = absurd (true≢false (sym e))
 
 AllFit_from : (ts : List Lexeme) → all_fit ts ≡ true → AllFit ts
 AllFit_from [] h = tt
@@ -73,9 +67,6 @@ no_overlong (AMark m ∷ ts) h s = ⊎_elim (λ f. f) (no_overlong ts h.1) s
 not_deep : (ts : List Lexeme) → length ts ≤ 64 → AreDeep ts → ⊥
 not_deep ts few h = omega (arith, few, h.1, count_by-le-length opens (take h.0 ts), length-take h.0 ts)
 
-none_some : (code : TextCode) → None ≡ Some code → ⊥
-none_some code e = let none : ⊥ = cc in none
-
 -- tokens that read as this chain meet no fault, where the chain has none
 module _ (ts : List Lexeme) (c : Chain) (e : query_at 64 ts ≡ Some (c, None)) (fit : AllFit ts) (few : length ts ≤ 64)
     (range : BadRange c → ⊥) (names : WrongNames c → ⊥) (terms : ManyTerms c → ⊥) where
@@ -96,10 +87,10 @@ module _ (ts : List Lexeme) (c : Chain) (e : query_at 64 ts ≡ Some (c, None)) 
 
   clean : (d : TextCode) → Meets ts None d → ⊥
   clean Long m = m
-  clean Byte m = none_some Byte m
+  clean Byte m = none-some Byte m
   clean Tokens m = omega (arith, few, m)
   clean Deep m = not_deep ts few m
-  clean Text m = ⊎_elim (none_some Text) (λ none. none whole.tree whole.spells) m
+  clean Text m = ⊎_elim (none-some Text) (λ none. none whole.tree whole.spells) m
   clean Number m = no_wild ts fit m
   clean Name m = no_overlong ts fit m
   clean Range m = not_spelled BadRange range m

@@ -4,11 +4,11 @@ use Rattle.itpg_session.specs.Machine.{Machine, IsGood}
 use Rattle.itpg_run.proofs.MachineLaws.{Laws, one_line, some_line, good_line}
 use Rattle.itpg_run.specs.Out.{Output, LineOut, no_output, both, Runs}
 
-or_assoc : (a b c : Bool) → (a || (b || c)) ≡ ((a || b) || c)
+pub or_assoc : (a b c : Bool) → (a || (b || c)) ≡ ((a || b) || c)
 or_assoc false b c = refl
 or_assoc true b c = refl
 
-or-false : (a : Bool) → (a || false) ≡ a
+pub or-false : (a : Bool) → (a || false) ≡ a
 or-false false = refl
 or-false true = refl
 

@@ -5,7 +5,7 @@ use Rattle.std.specs.List.{prefix_len, list_all, take_while}
 use Rattle.std.specs.Char.{is_ascii_alphabetic, is_ascii_digit}
 use Rattle.std.specs.Fmt.{decimal}
 use Rattle.std.specs.Str.Parse.{digits_value}
-use Rattle.std.proofs.lemmas.Bool.{leb-true, eqb-true}
+use Rattle.std.proofs.lemmas.Bool.{leb-true, eqb-true, and_from, or_left}
 use Rattle.std.proofs.lemmas.Int.{ints}
 use Rattle.std.proofs.lemmas.List.{take_at}
 use Rattle.std.proofs.lemmas.List.Folds.{list_all-append}
@@ -37,20 +37,17 @@ digits_stop : (ls : List Lexeme) → prefix_len is_ascii_digit (behind_text ls) 
 digits_stop [] = refl
 digits_stop (l ∷ ls) = refl
 
-and_left : (a b : Bool) → (a && b) ≡ true → a ≡ true
+pub and_left : (a b : Bool) → (a && b) ≡ true → a ≡ true
 and_left true b e = refl
 and_left false b e = e
 
-and_right : (a b : Bool) → (a && b) ≡ true → b ≡ true
+pub and_right : (a b : Bool) → (a && b) ≡ true → b ≡ true
 and_right true b e = e
 and_right false b e = absurd (true≢false (sym e))
 
-both : (a b : Bool) → a ≡ true → b ≡ true → (a && b) ≡ true
-both a b e f = ap (λ x. x && b) e ∙ f
-
 all_so : (p q : ℕ → Bool) → ((x : ℕ) → p x ≡ true → q x ≡ true) → (xs : List ℕ) → list_all p xs ≡ true → list_all q xs ≡ true
 all_so p q go [] h = refl
-all_so p q go (x ∷ xs) h = both (q x) (list_all q xs) (go x (and_left (p x) (list_all p xs) h)) (all_so p q go xs (and_right (p x) (list_all p xs) h))
+all_so p q go (x ∷ xs) h = and_from (q x) (list_all q xs) (go x (and_left (p x) (list_all p xs) h)) (all_so p q go xs (and_right (p x) (list_all p xs) h))
 
 -- the ten digits
 ten_times : (P : ℕ → Type 0) → P 48 → P 49 → P 50 → P 51 → P 52 → P 53 → P 54 → P 55 → P 56 → P 57 → (k : ℕ) → k < 10 → P (48 + k)
@@ -92,8 +89,8 @@ is_digit = ten_times (λ b. is_ascii_digit b ≡ true) refl refl refl refl refl 
 
 -- a number in tens
 pub decimal_digits : (n : ℕ) → n < 2 ^ 64 → list_all is_ascii_digit (decimal n) ≡ true
-decimal_digits = decimal_by_steps (λ n ds. list_all is_ascii_digit ds ≡ true) (λ n lt. both (is_ascii_digit (48 + n)) true (is_digit n lt) refl)
-    (λ n ds ten h. list_all-append is_ascii_digit ds ((48 + n % 10) ∷ []) ∙ both (list_all is_ascii_digit ds) (is_ascii_digit (48 + n % 10) && true) h (both (is_ascii_digit (48 + n % 10)) true (is_digit (n % 10) (omega arith)) refl))
+decimal_digits = decimal_by_steps (λ n ds. list_all is_ascii_digit ds ≡ true) (λ n lt. and_from (is_ascii_digit (48 + n)) true (is_digit n lt) refl)
+    (λ n ds ten h. list_all-append is_ascii_digit ds ((48 + n % 10) ∷ []) ∙ and_from (list_all is_ascii_digit ds) (is_ascii_digit (48 + n % 10) && true) h (and_from (is_ascii_digit (48 + n % 10)) true (is_digit (n % 10) (omega arith)) refl))
 
 -- a row that fits comes first
 first_row : (a : Bool) (x : Lexeme) (rest : List (Option Lexeme)) → a ≡ true → first_some ((if a then Some x else None) ∷ rest) ≡ Some x
@@ -140,10 +137,6 @@ number_spelled (b ∷ bs) some digits short near =
       inside = all_so is_ascii_digit is_inside digit_inside (b ∷ bs) digits;
       near = near;
     }
-  where
-    or_left : (x y : Bool) → x ≡ true → (x || y) ≡ true
-    or_left true y e = refl
-    or_left false y e = absurd (true≢false (sym e))
 
 -- what the digits of a number stand for
 value_of_digits : (n : List ℕ) → 0 < length n → list_all is_ascii_digit n ≡ true → number_value n ≡ pos (digits_value 10 n)
@@ -168,7 +161,7 @@ module _ (n : ℕ) (low : n < 100000) where
 
   -- a letter and the number
   pub name_spelled : (b : ℕ) → is_ascii_alphabetic b ≡ true → is_blank b ≡ false → is_word_byte b ≡ true → IsSpelled (AWord (b ∷ decimal n))
-  name_spelled b letter loud word = word_spelled b (decimal n) letter loud (both (is_word_byte b) (list_all is_word_byte (decimal n)) word (all_so is_ascii_digit is_word_byte digit_word (decimal n) (decimal_digits n fits))) (omega (arith, short_decimal))
+  name_spelled b letter loud word = word_spelled b (decimal n) letter loud (and_from (is_word_byte b) (list_all is_word_byte (decimal n)) word (all_so is_ascii_digit is_word_byte digit_word (decimal n) (decimal_digits n fits))) (omega (arith, short_decimal))
 
 -- the two quoted texts
 pub high_spelled : IsSpelled (AQuote (codes "high"))

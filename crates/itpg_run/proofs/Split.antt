@@ -1,7 +1,7 @@
 -- Bytes as whole lines and a rest.
 use Rattle.std.proofs.Common.{◌≡◌, ℕ, List, [], ◌∷◌, ◌++◌, false, nat_eq, refl, true, zero, suc, ap, ◌∙◌, sym, append_assoc, ◌+◌, ◌<◌, ◌≤◌, length, take, drop, get_or, slice_index, Some, None, ◌≢◌, Bool, subst, add-one, drop-cons, take-append-drop, arith}
 use Rattle.std.specs.declared.option.Option.{Option}
-use Rattle.std.proofs.lemmas.Bool.{eqb-true}
+use Rattle.std.proofs.lemmas.Bool.{eqb-true, false_from_ne_true}
 use Rattle.std.proofs.lemmas.List.{take_all}
 use Rattle.memchr.specs.Find.{NoneBefore, Passes, IsFirstByte, is_byte}
 use Rattle.itpg_run.specs.Split.{NoEnd, NoEnds, joined, last_line}
@@ -49,10 +49,6 @@ pub whole-joined : (ls : List (List ℕ)) (bs : List ℕ) → NoEnds ls → whol
 whole-joined [] bs hs = refl
 whole-joined (l ∷ ls) bs hs = ap whole (append_assoc l (10 ∷ joined ls) bs) ∙ whole-line l (joined ls ++ bs) hs.0 ∙ ap (λ t. l ++ (10 ∷ t)) (whole-joined ls bs hs.1) ∙ sym (append_assoc l (10 ∷ joined ls) (whole bs))
 
-is_false : (b : Bool) → ¬ (b ≡ true) → b ≡ false
-is_false true h = absurd (h refl)
-is_false false h = refl
-
 no_end_before : (k : ℕ) (xs : List ℕ) → k ≤ length xs → ((j : ℕ) → j < k → nat_eq (slice_index xs j) 10 ≡ false) → NoEnd (take k xs)
 no_end_before zero xs h before = tt
 no_end_before (suc k) [] h before = tt
@@ -66,9 +62,9 @@ at_end xs k h e =
 
 -- before the first line end there is none, and behind it is the rest
 pub first_end : (xs : List ℕ) (k : ℕ) → NoneBefore (Passes (is_byte 10) xs) 0 (length xs) k × Passes (is_byte 10) xs k → NoEnd (take k xs) × ((take k xs ++ (10 ∷ [])) ++ drop (k + 1) xs ≡ xs)
-first_end xs k h = (no_end_before k xs (let high = h.0.high in omega arith) (λ j lt. is_false _ (h.0.before j (omega arith) lt)), at_end xs k h.0.high h.1)
+first_end xs k h = (no_end_before k xs (let high = h.0.high in omega arith) (λ j lt. false_from_ne_true _ (h.0.before j (omega arith) lt)), at_end xs k h.0.high h.1)
 
 -- where no line end is found, there is none
 pub no_end : (xs : List ℕ) (found : Option ℕ) → IsFirstByte (is_byte 10) xs found → ((k : ℕ) → found ≢ Some k) → NoEnd xs
-no_end xs None h none = subst NoEnd (take_all (length xs) xs (omega arith)) (no_end_before (length xs) xs (omega arith) (λ j lt. is_false _ (h j (omega arith) lt)))
+no_end xs None h none = subst NoEnd (take_all (length xs) xs (omega arith)) (no_end_before (length xs) xs (omega arith) (λ j lt. false_from_ne_true _ (h j (omega arith) lt)))
 no_end xs (Some k) h none = absurd (none k refl)

@@ -7,6 +7,7 @@ use Rattle.itpg_session.specs.MachineLaws.{OneAsked, SomeAsked, OneReply, SomeRe
 use Rattle.trial_script.specs.Script.{Asks, script}
 use Rattle.itpg_run.specs.Summary.{Told, nothing, told_both, told_of, Tells}
 use Rattle.itpg_run.specs.SummaryLaws.{OneSummary, SomeSummary}
+use Rattle.itpg_run.proofs.Running.{or_assoc, or-false}
 
 -- the laws of the plain machine, as the session gives them
 pub record Laws : Type 0 where
@@ -16,14 +17,6 @@ pub record Laws : Type 0 where
   pub some : SomeReply
   pub good : GoodReply
   pub opening : GoodOpening
-
-or_assoc : (a b c : Bool) → (a || (b || c)) ≡ ((a || b) || c)
-or_assoc false b c = refl
-or_assoc true b c = refl
-
-or-false : (a : Bool) → (a || false) ≡ a
-or-false false = refl
-or-false true = refl
 
 pub joined_assoc : (x y z : Told) → told_both x (told_both y z) ≡ told_both (told_both x y) z
 joined_assoc x y z = let e = sym (append_assoc x.text y.text z.text) in let f = or_assoc x.wide y.wide z.wide in cc

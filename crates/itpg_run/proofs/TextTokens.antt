@@ -5,6 +5,7 @@ use Rattle.script_lex.specs.Bytes.{is_blank}
 use Rattle.script_lex.specs.Lexemes.{Lexeme, written}
 use Rattle.script_lex.specs.Lines.{Placed, IsNext, AreTokens, behind_blanks}
 use Rattle.script_lex.specs.Table.{first_token}
+use Rattle.std.proofs.lemmas.Option.{none-some}
 
 abbrev consed : Placed → Option (List Placed) → Option (List Placed)
 consed t None = None
@@ -24,16 +25,13 @@ scan (suc n) line at = by_first (first_token (drop (behind_blanks line at) line)
 abbrev here : List ℕ → ℕ → Lexeme → Placed
 here line at l = record { from = behind_blanks line at; to = behind_blanks line at + length (written l); what = l }
 
-none_some : (ts : List Placed) → None ≡ Some ts → ⊥
-none_some ts e = let none : ⊥ = cc in none
-
 pub scan_sound : (n : ℕ) (line : List ℕ) (at : ℕ) (ts : List Placed) → scan n line at ≡ Some ts → AreTokens line at ts None
-scan_sound zero line at ts e = absurd (none_some ts e)
+scan_sound zero line at ts e = absurd (none-some ts e)
 scan_sound (suc n) line at ts e = of_first (scan_sound n line) (first_token (drop (behind_blanks line at) line)) refl (list_all is_blank (drop at line)) refl e
   where
     of_rest : ((to : ℕ) (rest : List Placed) → scan n line to ≡ Some rest → AreTokens line to rest None) → (l : Lexeme) → first_token (drop (behind_blanks line at) line) ≡ Some l
         → (o : Option (List Placed)) → scan n line (behind_blanks line at + length (written l)) ≡ o → consed (here line at l) o ≡ Some ts → AreTokens line at ts None
-    of_rest sound l is None go e = absurd (none_some ts e)
+    of_rest sound l is None go e = absurd (none-some ts e)
     of_rest sound l is (Some rest) go e =
         let next : IsNext line at (here line at l) = record { from = refl; what = is; to = refl } in
         let all : AreTokens line at (here line at l ∷ rest) None = (next, sound (behind_blanks line at + length (written l)) rest go) in
@@ -42,5 +40,5 @@ scan_sound (suc n) line at ts e = of_first (scan_sound n line) (first_token (dro
     of_first : ((to : ℕ) (rest : List Placed) → scan n line to ≡ Some rest → AreTokens line to rest None) → (o : Option Lexeme) → first_token (drop (behind_blanks line at) line) ≡ o
         → (b : Bool) → list_all is_blank (drop at line) ≡ b → by_first o (behind_blanks line at) (scan n line) b ≡ Some ts → AreTokens line at ts None
     of_first sound None is true blank e = subst (λ (xs : List Placed). AreTokens line at xs None) (let same : [] ≡ ts = cc in same) blank
-    of_first sound None is false blank e = absurd (none_some ts e)
+    of_first sound None is false blank e = absurd (none-some ts e)
     of_first sound (Some l) is b blank e = of_rest sound l is (scan n line (behind_blanks line at + length (written l))) refl e

@@ -3,6 +3,7 @@ use Rattle.std.specs.Prelude.{◌≡◌, ℕ, ◌+◌, List, [], ◌++◌, lengt
 use Rattle.std.specs.declared.option.Option.{Option}
 use Rattle.std.specs.Io.KnownBytes.{Appends}
 use Rattle.itpg_base.specs.Outside.{AppendsSome}
+use Rattle.itpg_base.specs.declared.outside.Sink.{Ghosts as SinkGhosts}
 use Rattle.itpg_session.specs.Machine.{Standing, opening}
 use Rattle.itpg_session.specs.Steps.{Sees}
 use Rattle.itpg_session.specs.declared.reply.Seen.{Seen}
@@ -94,3 +95,36 @@ Ends ReadFault limit start now bytes = ⊥
 Ends WriteFault limit start now bytes = WritesWithin limit start now bytes
 Ends Memory limit start now bytes = WritesLines limit start now bytes
 Ends TooLong limit start now bytes = ⊥
+
+-- the same of a sink, named by the ghost value of its type: before the call, and after it
+module _ {K : Type 0} (sink : SinkGhosts K) (before now : K) where
+  abbrev pub AnswersLineTo : Reader → Standing → Seen → Type 0
+  AnswersLineTo old session seen = AnswersLine (sink.held before) (sink.held now) old session seen
+
+  abbrev pub AnswersWithinTo : Reader → Type 0
+  AnswersWithinTo old = AnswersWithin (sink.held before) (sink.held now) old
+
+  abbrev pub EndsLineTo : Reader → Reader → Type 0
+  EndsLineTo old new = EndsLine (sink.held before) (sink.held now) old new
+
+  abbrev pub FeedsTo : Reader → Reader → List ℕ → Type 0
+  FeedsTo old new more = Feeds (sink.held before) (sink.held now) old new more
+
+  abbrev pub StopsWholeTo : Reader → List ℕ → Type 0
+  StopsWholeTo old more = StopsWhole (sink.held before) (sink.held now) old more
+
+  abbrev pub StopsWithinTo : Reader → List ℕ → Type 0
+  StopsWithinTo old more = StopsWithin (sink.held before) (sink.held now) old more
+
+  abbrev pub StopsTo : Stop → Reader → List ℕ → ℕ → Type 0
+  StopsTo stop old more room = Stops stop (sink.held before) (sink.held now) old more room
+
+  abbrev pub EndsLastTo : Reader → Reader → Type 0
+  EndsLastTo old new = EndsLast (sink.held before) (sink.held now) old new
+
+  abbrev pub EndsWithinTo : Reader → Type 0
+  EndsWithinTo old = EndsWithin (sink.held before) (sink.held now) old
+
+  -- whatever the reader was given, all of it was taken
+  abbrev pub FinishesTo : Reader → Status → Type 0
+  FinishesTo old status = (limit : ℕ) (start : Option (List ℕ)) (bytes : List ℕ) → Fed limit start (sink.held before) old bytes → Ends status limit start (sink.held now) bytes

@@ -4,6 +4,7 @@ use Rattle.std.specs.Fmt.{decimal}
 use Rattle.std.specs.declared.option.Option.{Option}
 use Rattle.std.specs.Io.KnownBytes.{Appends}
 use Rattle.itpg_base.specs.Outside.{AppendsSome}
+use Rattle.itpg_base.specs.declared.outside.Sink.{Ghosts as SinkGhosts}
 use Rattle.relation_rows.specs.Answered.{row_number}
 use Rattle.itpg_session.specs.Replies.{Reply, Silent, Bad, Refused, Wide, Rows, PerWatch, IsReply}
 use Rattle.itpg_session.specs.Machine.{Machine, Turn, opening, Replies}
@@ -86,3 +87,14 @@ pub record TellsSome (limit number : ℕ) (held now : Option (List ℕ)) : Type 
   pub told : Told
   pub summary : IsSummary limit number told
   pub some : AppendsSome held now told.text
+
+-- the same of a sink, named by the ghost value of its type: before the call, and after it
+module _ {K : Type 0} (sink : SinkGhosts K) (before now : K) (limit number : ℕ) where
+  abbrev pub TellsAllTo : Bool → Type 0
+  TellsAllTo wide = TellsAll limit number (sink.held before) (sink.held now) wide
+
+  abbrev pub TellsWholeTo : Type 0
+  TellsWholeTo = TellsWhole limit number (sink.held before) (sink.held now)
+
+  abbrev pub TellsSomeTo : Type 0
+  TellsSomeTo = TellsSome limit number (sink.held before) (sink.held now)

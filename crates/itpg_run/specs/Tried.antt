@@ -18,6 +18,10 @@ WritesSummary WriteFault limit number held now = TellsSome limit number held now
 WritesSummary Memory limit number held now = TellsWhole limit number held now
 WritesSummary TooLong limit number held now = ⊥
 
+-- the same of a sink, named by the ghost value of its type: before the call, and after it
+abbrev pub WritesSummaryTo : {K : Type 0} (sink : SinkGhosts K) (before now : K) (status : Status) (limit number : ℕ) → Type 0
+WritesSummaryTo sink before now status limit number = WritesSummary status limit number (sink.held before) (sink.held now)
+
 -- nothing was taken, and of the summary was written what the status says
 pub record Tried (status : Status) (limit number : ℕ) (before left held now : Option (List ℕ)) : Type 0 where
   pub taken : Consumes before left []

@@ -3,6 +3,7 @@ use Rattle.std.specs.Prelude.{◌≡◌, ℕ, ◌+◌, ◌≤◌, List, ◌∷�
 use Rattle.std.specs.declared.option.Option.{Option}
 use Rattle.std.specs.Io.KnownBytes.{Appends}
 use Rattle.itpg_base.specs.Outside.{AppendsSome}
+use Rattle.itpg_base.specs.declared.outside.Sink.{Ghosts as SinkGhosts}
 use Rattle.itpg_session.specs.Machine.{IsGood, opening}
 use Rattle.trial_script.specs.Script.{script}
 use Rattle.itpg_run.specs.Summary.{Told, told_both, Tells}
@@ -26,6 +27,14 @@ pub record TakesSome (held now : Option (List ℕ)) (old : Running) (line : List
   pub told : Told
   pub goes_on : (lines : List (List ℕ)) → IsGood old.session.machine → (rest : Told) × TellsFrom old (line ∷ lines) (told_both told rest)
   pub some : AppendsSome held now told.text
+
+-- the same of a sink, named by the ghost value of its type: before the call, and after it
+module _ {K : Type 0} (sink : SinkGhosts K) (before now : K) where
+  abbrev pub TakesTo : Running → Running → List ℕ → Type 0
+  TakesTo old new line = Takes (sink.held before) (sink.held now) old new line
+
+  abbrev pub TakesSomeTo : Running → List ℕ → Type 0
+  TakesSomeTo old line = TakesSome (sink.held before) (sink.held now) old line
 
 -- behind the first lines, which were taken, with these left; what lines tell from here on, they tell behind those
 pub record Underway (limit number : ℕ) (start now : Option (List ℕ)) (r : Running) (left : List (List ℕ)) : Type 0 where

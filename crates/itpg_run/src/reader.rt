@@ -46,18 +46,18 @@ impl Reader {
 }
 
 impl Reader {
-    ghost use Rattle.itpg_run.specs.Fed.{AnswersLine, AnswersWithin, EndsLine, EndsLast, EndsWithin, Fed, Feeds, StopsWhole, StopsWithin, Stops, Ends};
+    ghost use Rattle.itpg_run.specs.Fed.{AnswersLineTo, AnswersWithinTo, EndsLineTo, EndsLastTo, EndsWithinTo, Feeds, FeedsTo, FinishesTo, StopsTo, StopsWholeTo, StopsWithinTo};
     ghost use Rattle.itpg_run.specs.Split.{NoEnd};
 
     // Answers the line of which the front is kept.
     fn answer<K: Sink>(&mut self, out: &mut K) -> Result<Seen, StepFault>
-        ensures answers { IfOk result (λ seen. AnswersLine (K.held out.old) (K.held out.new) self.old self.new.session seen) }
+        ensures answers { IfOk result (λ seen. AnswersLineTo K.Sink out.old out.new self.old self.new.session seen) }
         ensures line { self.new.line.items ≡ self.old.line.items }
         ensures number { self.new.number ≡ self.old.number }
         ensures failing { self.new.failing ≡ self.old.failing }
         ensures memory { IsErrOf result StepFault.Memory → GetsNothing K.Sink out.old out.new }
         ensures write { IsErrOf result StepFault.Write → HasFailed K.Sink out.old out.new }
-        ensures some { IsErrOf result StepFault.Write → AnswersWithin (K.held out.old) (K.held out.new) self.old }
+        ensures some { IsErrOf result StepFault.Write → AnswersWithinTo K.Sink out.old out.new self.old }
         ensures later { K.faults out.old ≤ K.faults out.new }
     {
         law_of_fronts();
@@ -68,10 +68,10 @@ impl Reader {
     /// Answers the line that was read.
     pub(crate) fn end_line<K: Sink>(&mut self, out: &mut K) -> Result<(), StepFault>
         requires { self.old.number < 2 ^ 64 - 1 }
-        ensures ended { OnOk result (EndsLine (K.held out.old) (K.held out.new) self.old self.new) }
+        ensures ended { OnOk result (EndsLineTo K.Sink out.old out.new self.old self.new) }
         ensures memory { IsErrOf result StepFault.Memory → GetsNothing K.Sink out.old out.new }
         ensures write { IsErrOf result StepFault.Write → HasFailed K.Sink out.old out.new }
-        ensures some { IsErrOf result StepFault.Write → AnswersWithin (K.held out.old) (K.held out.new) self.old }
+        ensures some { IsErrOf result StepFault.Write → AnswersWithinTo K.Sink out.old out.new self.old }
         ensures later { K.faults out.old ≤ K.faults out.new }
     {
         let seen = self.answer(out)?;
@@ -102,10 +102,10 @@ impl Reader {
     pub(crate) fn take_line<K: Sink>(&mut self, piece: &[u8], out: &mut K) -> Result<(), StepFault>
         requires piece { NoEnd piece.now }
         requires number { self.old.number < 2 ^ 64 - 1 }
-        ensures fed { OnOk result (Feeds (K.held out.old) (K.held out.new) self.old self.new (piece.now ++ LINE_END ∷ [])) }
+        ensures fed { OnOk result (FeedsTo K.Sink out.old out.new self.old self.new (piece.now ++ LINE_END ∷ [])) }
         ensures number { OnOk result (self.new.number ≤ self.old.number + 1) }
-        ensures memory { IsErrOf result StepFault.Memory → StopsWhole (K.held out.old) (K.held out.new) self.old (piece.now ++ LINE_END ∷ []) }
-        ensures write { IsErrOf result StepFault.Write → StopsWithin (K.held out.old) (K.held out.new) self.old (piece.now ++ LINE_END ∷ []) }
+        ensures memory { IsErrOf result StepFault.Memory → StopsWholeTo K.Sink out.old out.new self.old (piece.now ++ LINE_END ∷ []) }
+        ensures write { IsErrOf result StepFault.Write → StopsWithinTo K.Sink out.old out.new self.old (piece.now ++ LINE_END ∷ []) }
         ensures rose { IsErrOf result StepFault.Write → HasFailed K.Sink out.old out.new }
         ensures later { K.faults out.old ≤ K.faults out.new }
     {
@@ -117,10 +117,10 @@ impl Reader {
     /// Takes bytes line by line.
     pub(crate) fn feed<K: Sink>(&mut self, bytes: &[u8], out: &mut K) -> Result<(), StepFault>
         requires { self.old.number + length bytes.now < 2 ^ 64 }
-        ensures fed { OnOk result (Feeds (K.held out.old) (K.held out.new) self.old self.new bytes.now) }
+        ensures fed { OnOk result (FeedsTo K.Sink out.old out.new self.old self.new bytes.now) }
         ensures number { OnOk result (self.new.number ≤ self.old.number + length bytes.now) }
-        ensures memory { IsErrOf result StepFault.Memory → StopsWhole (K.held out.old) (K.held out.new) self.old bytes.now }
-        ensures write { IsErrOf result StepFault.Write → StopsWithin (K.held out.old) (K.held out.new) self.old bytes.now }
+        ensures memory { IsErrOf result StepFault.Memory → StopsWholeTo K.Sink out.old out.new self.old bytes.now }
+        ensures write { IsErrOf result StepFault.Write → StopsWithinTo K.Sink out.old out.new self.old bytes.now }
         ensures rose { IsErrOf result StepFault.Write → HasFailed K.Sink out.old out.new }
         ensures later { K.faults out.old ≤ K.faults out.new }
     {
@@ -142,9 +142,9 @@ impl Reader {
     ) -> Result<(), Stop>
         requires { self.old.number + room < 2 ^ 64 }
         ensures fits { OnOk result (length bytes.now ≤ room) }
-        ensures fed { OnOk result (Feeds (K.held out.old) (K.held out.new) self.old self.new bytes.now) }
+        ensures fed { OnOk result (FeedsTo K.Sink out.old out.new self.old self.new bytes.now) }
         ensures number { OnOk result (self.new.number ≤ self.old.number + length bytes.now) }
-        ensures stops { IfErr result (λ stop. Stops stop (K.held out.old) (K.held out.new) self.old bytes.now room) }
+        ensures stops { IfErr result (λ stop. StopsTo K.Sink out.old out.new stop self.old bytes.now room) }
         ensures rose { IsErrOf result Stop.Write → HasFailed K.Sink out.old out.new }
         ensures later { K.faults out.old ≤ K.faults out.new }
     {
@@ -160,9 +160,9 @@ impl Reader {
     /// Answers a last line without an end, if it has a byte.
     pub(crate) fn end_last<K: Sink>(&mut self, out: &mut K) -> Result<(), StepFault>
         requires { self.old.number < 2 ^ 64 - 1 }
-        ensures ended { OnOk result (EndsLast (K.held out.old) (K.held out.new) self.old self.new) }
-        ensures memory { IsErrOf result StepFault.Memory → StopsWhole (K.held out.old) (K.held out.new) self.old [] }
-        ensures write { IsErrOf result StepFault.Write → EndsWithin (K.held out.old) (K.held out.new) self.old }
+        ensures ended { OnOk result (EndsLastTo K.Sink out.old out.new self.old self.new) }
+        ensures memory { IsErrOf result StepFault.Memory → StopsWholeTo K.Sink out.old out.new self.old [] }
+        ensures write { IsErrOf result StepFault.Write → EndsWithinTo K.Sink out.old out.new self.old }
         ensures rose { IsErrOf result StepFault.Write → HasFailed K.Sink out.old out.new }
         ensures later { K.faults out.old ≤ K.faults out.new }
     {
@@ -176,7 +176,7 @@ impl Reader {
     /// Answers a last line without an end, if it has a byte, and says how all ended.
     pub(crate) fn finish<K: Sink>(&mut self, out: &mut K) -> Status
         requires { self.old.number < 2 ^ 64 - 1 }
-        ensures ends { (limit : ℕ) (start : Option (List ℕ)) (bytes : List ℕ) → Fed limit start (K.held out.old) self.old bytes → Ends result limit start (K.held out.new) bytes }
+        ensures ends { FinishesTo K.Sink out.old out.new self.old result }
         ensures rose { result ≡ Status.WriteFault → HasFailed K.Sink out.old out.new }
         ensures later { K.faults out.old ≤ K.faults out.new }
     {

@@ -4,7 +4,7 @@ ghost use Rattle.std.specs.Prelude.{◌≡◌, ◌+◌, ◌-◌, ◌^◌, ◌≤
 ghost use Rattle.itpg_base.specs.Outside.{Rose};
 ghost use Rattle.itpg_base.specs.Sinks.{HasFailed};
 ghost use Rattle.itpg_run.specs.Served.{Serves, BeginsTo, EndsWell, Idles, AskForScript, AskForTrial, AskForSome, longest};
-ghost use Rattle.itpg_run.specs.Tried.{Tries, WritesSummary};
+ghost use Rattle.itpg_run.specs.Tried.{Tries, WritesSummaryTo};
 ghost use Rattle.itpg_run.specs.Pumped.{PumpsAll, PumpsTo};
 
 use crate::Status;
@@ -94,7 +94,7 @@ fn run_script<S: Source, K: Sink>(
 
 // Runs the trial of a number.
 fn run_number<K: Sink>(alloc: Global, limits: Limits, number: u64, sink: &mut K) -> Status
-    ensures summary { WritesSummary result limits number (K.held sink.old) (K.held sink.new) }
+    ensures summary { WritesSummaryTo K.Sink sink.old sink.new result limits number }
     ensures write { result ≡ Status.WriteFault → HasFailed K.Sink sink.old sink.new }
 {
     match run_trial(alloc, limits, number, sink) {

@@ -5,7 +5,7 @@ ghost use Rattle.itpg_run.specs.Summary.{rows_text, told_of, wide_text};
 
 use crate::sums::sum_of;
 use itpg_session::Asked;
-use row_printer::Page;
+use row_printer::{Page, Piece};
 
 /// The page of what is told of a question.
 pub(crate) fn told(question: u64, reply: &Asked) -> Page
@@ -30,15 +30,15 @@ pub(crate) fn is_wide(reply: &Asked) -> bool
 fn rows(question: u64, count: u64, sum: u64) -> Page
     ensures { result ≡ rows_text question count sum }
 {
-    let mut page = Page::new();
-    page.add(b"ask ");
-    page.add_number(question);
-    page.add(b" rows ");
-    page.add_number(count);
-    page.add(b" sum ");
-    page.add_number(sum);
-    page.add(b"\n");
-    page
+    Page::of(&[
+        Piece::Text(b"ask "),
+        Piece::Number(question),
+        Piece::Text(b" rows "),
+        Piece::Number(count),
+        Piece::Text(b" sum "),
+        Piece::Number(sum),
+        Piece::Text(b"\n"),
+    ])
 }
 
 // The page of `ask K wide`.
@@ -46,9 +46,9 @@ fn rows(question: u64, count: u64, sum: u64) -> Page
 fn wide(question: u64) -> Page
     ensures { result ≡ wide_text question }
 {
-    let mut page = Page::new();
-    page.add(b"ask ");
-    page.add_number(question);
-    page.add(b" wide\n");
-    page
+    Page::of(&[
+        Piece::Text(b"ask "),
+        Piece::Number(question),
+        Piece::Text(b" wide\n"),
+    ])
 }

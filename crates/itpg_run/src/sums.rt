@@ -1,30 +1,29 @@
 //! Sums modulo 2^64.
-ghost use Rattle.std.specs.Prelude.{◌≡◌, ℤ, ◌+ℤ◌, Some};
-ghost use Rattle.relation_rows.specs.declared.rows.Row.{Row as PlainRow};
+ghost use Rattle.std.specs.Prelude.{◌≡◌, ℤ, ◌+ℤ◌};
 ghost use Rattle.relation_rows.specs.Answered.{answered};
 ghost use Rattle.band_normal.specs.Bands.{end_at};
 ghost use Rattle.itpg_run.specs.Sums.{answer_sum, band_value, pair_value, residue, times_value, total};
 
 use band_normal::{Band, End};
-use relation_rows::{Answer, OneRow, Relation, Row};
+use relation_rows::{Answer, OneRow, Row};
 
 /// What the rows of an answer stand for, added up.
 pub(crate) fn sum_of(answer: &Answer) -> u64
     ensures { result ≡ answer_sum (answered answer.now) }
 {
     match answer {
-        Answer::Pairs(relation) => pairs_sum(relation),
+        Answer::Pairs(relation) => pairs_sum(relation.rows()),
         Answer::Times(times) => times_sum(times.rows()),
     }
 }
 
 // The same of rows of two times.
-fn pairs_sum(relation: &Relation) -> u64
-    ensures { result ≡ residue (total pair_value relation.now) }
+fn pairs_sum(rows: &[Row]) -> u64
+    ensures { result ≡ residue (total pair_value rows.now) }
 {
     let mut sum = 0;
-    for place in 0..relation.row_count() {
-        sum = with_row(sum, relation.row(place));
+    for row in rows {
+        sum = with_band(sum, &row.band);
     }
     sum
 }
@@ -38,16 +37,6 @@ fn times_sum(rows: &[OneRow]) -> u64
         sum = with(with(sum, row.span.from()), row.span.to());
     }
     sum
-}
-
-// With a row, if there is one.
-fn with_row(sum: u64, row: Option<Row>) -> u64
-    ensures { (r : PlainRow) (t : ℤ) → row ≡ Some r → sum ≡ residue t → result ≡ residue (t +ℤ pair_value r) }
-{
-    match row {
-        Some(row) => with_band(sum, &row.band),
-        None => sum,
-    }
 }
 
 // With the four moments of a band.

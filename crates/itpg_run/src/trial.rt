@@ -4,8 +4,8 @@ ghost use Rattle.std.specs.declared.option.Option.{Option};
 ghost use Rattle.itpg_base.specs.Sinks.{GetsNothing, HasFailed};
 ghost use Rattle.itpg_session.specs.Machine.{opening};
 ghost use Rattle.trial_script.specs.Script.{Asks};
-ghost use Rattle.itpg_run.specs.Summary.{TellsAll, TellsWhole, TellsSome};
-ghost use Rattle.itpg_run.specs.Underway.{Takes, TakesSome};
+ghost use Rattle.itpg_run.specs.Summary.{TellsAllTo, TellsWholeTo, TellsSomeTo};
+ghost use Rattle.itpg_run.specs.Underway.{Takes, TakesTo, TakesSomeTo};
 
 use crate::summary::{is_wide, told};
 use itpg_base::{Limits, Sink};
@@ -26,9 +26,9 @@ pub fn run_trial<K: Sink>(
     number: u64,
     out: &mut K,
 ) -> Result<bool, StepFault>
-    ensures told { IfOk result (λ wide. TellsAll limits number (K.held out.old) (K.held out.new) wide) }
-    ensures memory { IsErrOf result StepFault.Memory → TellsWhole limits number (K.held out.old) (K.held out.new) }
-    ensures some { OnErr result (TellsSome limits number (K.held out.old) (K.held out.new)) }
+    ensures told { IfOk result (λ wide. TellsAllTo K.Sink out.old out.new limits number wide) }
+    ensures memory { IsErrOf result StepFault.Memory → TellsWholeTo K.Sink out.old out.new limits number }
+    ensures some { OnErr result (TellsSomeTo K.Sink out.old out.new limits number) }
     ensures write { IsErrOf result StepFault.Write → HasFailed K.Sink out.old out.new }
     ensures later { K.faults out.old ≤ K.faults out.new }
 {
@@ -66,9 +66,9 @@ impl Running {
     // Takes a line: tells the reply to a question, and has the session answer any other.
     fn take<K: Sink>(&mut self, line: &[u8], out: &mut K) -> Result<(), StepFault>
         requires { self.old.question < 2 ^ 64 - 1 }
-        ensures takes { OnOk result (Takes (K.held out.old) (K.held out.new) self.old self.new line.now) }
+        ensures takes { OnOk result (TakesTo K.Sink out.old out.new self.old self.new line.now) }
         ensures memory { IsErrOf result StepFault.Memory → GetsNothing K.Sink out.old out.new }
-        ensures some { IsErrOf result StepFault.Write → TakesSome (K.held out.old) (K.held out.new) self.old line.now }
+        ensures some { IsErrOf result StepFault.Write → TakesSomeTo K.Sink out.old out.new self.old line.now }
         ensures write { IsErrOf result StepFault.Write → HasFailed K.Sink out.old out.new }
         ensures later { K.faults out.old ≤ K.faults out.new }
     {
@@ -81,9 +81,9 @@ impl Running {
     // Takes a line that asks a query text.
     fn ask<K: Sink>(&mut self, query: &[u8], out: &mut K) -> Result<(), StepFault>
         requires { self.old.question < 2 ^ 64 - 1 }
-        ensures takes { OnOk result ((line : List ℕ) → Asks line query.now → Takes (K.held out.old) (K.held out.new) self.old self.new line) }
+        ensures takes { OnOk result ((line : List ℕ) → Asks line query.now → TakesTo K.Sink out.old out.new self.old self.new line) }
         ensures memory { IsErrOf result StepFault.Memory → GetsNothing K.Sink out.old out.new }
-        ensures some { IsErrOf result StepFault.Write → (line : List ℕ) → Asks line query.now → TakesSome (K.held out.old) (K.held out.new) self.old line }
+        ensures some { IsErrOf result StepFault.Write → (line : List ℕ) → Asks line query.now → TakesSomeTo K.Sink out.old out.new self.old line }
         ensures write { IsErrOf result StepFault.Write → HasFailed K.Sink out.old out.new }
         ensures later { K.faults out.old ≤ K.faults out.new }
     {

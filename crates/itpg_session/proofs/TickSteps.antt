@@ -3,7 +3,7 @@ use Rattle.std.proofs.Common.{◌≡◌, ◌≢◌, inl, inr, ℕ, zero, suc, �
 use Rattle.std.specs.Prelude.{slice_get, IsSomeAnd, Some}
 use Rattle.std.specs.List.{list_any}
 use Rattle.std.proofs.lemmas.List.{map-append}
-use Rattle.std.proofs.lemmas.Option.{slice_get_within}
+use Rattle.std.proofs.lemmas.Option.{slice_get_within, same_Some}
 use Rattle.itpg_base.specs.Words.{Word}
 use Rattle.itpg_base.specs.Graphs.{Graph}
 use Rattle.itpg_base.specs.Lists.{Among, Ordered}
@@ -16,9 +16,6 @@ use Rattle.itpg_session.specs.Texts.{tick_wide_text, tick_head_text, ticked_text
 use Rattle.itpg_session.specs.Steps.{Sees}
 use Rattle.itpg_session.specs.declared.reply.Seen.TheVariants.{Quiet, Answered, Refused}
 use Rattle.itpg_session.proofs.Told.{sees_quiet, sees_answered, sees_refused}
-
-some_is : {X : Type 0} {p q : X} → Some p ≡ Some q → p ≡ q
-some_is e = cc
 
 -- ---- finding
 
@@ -66,12 +63,12 @@ map_at f (x ∷ xs) (suc i) d few = map_at f xs i d (omega (arith, few))
 
 pub text_more : (g : Graph) (xs : List Ticked) (i : ℕ) (x : Ticked) → slice_get xs i ≡ Some x → tick_text g (take (suc i) xs) ≡ tick_text g (take i xs) ++ ticked_text g x
 text_more g [] i x b = absurd (let nothing : ⊥ = cc in nothing)
-text_more g (y ∷ ys) zero x b = append-nil (ticked_text g y) ∙ ap (ticked_text g) (some_is b)
+text_more g (y ∷ ys) zero x b = append-nil (ticked_text g y) ∙ ap (ticked_text g) (same_Some _ _ b)
 text_more g (y ∷ ys) (suc i) x b = ap (λ t. ticked_text g y ++ t) (text_more g ys i x b) ∙ sym (append_assoc (ticked_text g y) (tick_text g (take i ys)) (ticked_text g x))
 
 pub text_split : (g : Graph) (xs : List Ticked) (i : ℕ) (x : Ticked) → slice_get xs i ≡ Some x → tick_text g xs ≡ tick_text g (take i xs) ++ (ticked_text g x ++ tick_text g (drop (suc i) xs))
 text_split g [] i x b = absurd (let nothing : ⊥ = cc in nothing)
-text_split g (y ∷ ys) zero x b = ap (λ (o : Ticked). ticked_text g o ++ tick_text g ys) (some_is b)
+text_split g (y ∷ ys) zero x b = ap (λ (o : Ticked). ticked_text g o ++ tick_text g ys) (same_Some _ _ b)
 text_split g (y ∷ ys) (suc i) x b =
     ap (λ t. ticked_text g y ++ t) (text_split g ys i x b) ∙ sym (append_assoc (ticked_text g y) (tick_text g (take i ys)) (ticked_text g x ++ tick_text g (drop (suc i) ys)))
 
@@ -113,14 +110,14 @@ from_less : (k : ℕ) (ws : List Watch) (xs : List Ticked) (name : Word) (now ga
 from_less zero [] xs name now gained lost is = refl
 from_less (suc k) [] xs name now gained lost is = refl
 from_less k (w ∷ ws) [] name now gained lost is = absurd (let nothing : ⊥ = cc in nothing)
-from_less zero (w ∷ ws) (x ∷ xs) name now gained lost is = ap (λ (y : Ticked). moved w y ∷ all_moved ws xs) (sym (some_is is))
+from_less zero (w ∷ ws) (x ∷ xs) name now gained lost is = ap (λ (y : Ticked). moved w y ∷ all_moved ws xs) (sym (same_Some _ _ is))
 from_less (suc k) (w ∷ ws) (x ∷ xs) name now gained lost is = ap (λ (vs : List Watch). w ∷ vs) (from_less k ws xs name now gained lost is)
 
 from_same : (k : ℕ) (ws : List Watch) (xs : List Ticked) (name : Word) → slice_get xs k ≡ Some (StaysWide name) → moved_from (suc k) ws xs ≡ moved_from k ws xs
 from_same zero [] xs name is = refl
 from_same (suc k) [] xs name is = refl
 from_same k (w ∷ ws) [] name is = absurd (let nothing : ⊥ = cc in nothing)
-from_same zero (w ∷ ws) (x ∷ xs) name is = ap (λ (y : Ticked). moved w y ∷ all_moved ws xs) (sym (some_is is))
+from_same zero (w ∷ ws) (x ∷ xs) name is = ap (λ (y : Ticked). moved w y ∷ all_moved ws xs) (sym (same_Some _ _ is))
 from_same (suc k) (w ∷ ws) (x ∷ xs) name is = ap (λ (vs : List Watch). w ∷ vs) (from_same k ws xs name is)
 
 pub from_one : (k : ℕ) (ws : List Watch) (xs : List Ticked) (x : Ticked) → slice_get xs k ≡ Some x → moved_at k x (moved_from (suc k) ws xs) ≡ moved_from k ws xs
@@ -130,7 +127,7 @@ from_one k ws xs (Moves name now gained lost) is = from_less k ws xs name now ga
 pub kind_at : (ws : List Watch) (xs : List Ticked) (i : ℕ) (x : Ticked) → AreMovesOfKind ws xs → slice_get xs i ≡ Some x → i < length ws → IsSomeAnd (slice_get ws i) (λ w. IsMoveOfKind w x)
 kind_at [] xs i x a is few = absurd (omega (arith, few))
 kind_at (w ∷ ws) [] i x a is few = absurd (let nothing : ⊥ = cc in nothing)
-kind_at (w ∷ ws) (y ∷ ys) zero x a is few = subst (λ (z : Ticked). IsMoveOfKind w z) (some_is is) a.0
+kind_at (w ∷ ws) (y ∷ ys) zero x a is few = subst (λ (z : Ticked). IsMoveOfKind w z) (same_Some _ _ is) a.0
 kind_at (w ∷ ws) (y ∷ ys) (suc i) x a is few = kind_at ws ys i x a.1 is (omega (arith, few))
 
 -- a watch after the tick has the name and the query that it had before

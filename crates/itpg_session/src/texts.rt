@@ -8,20 +8,20 @@ ghost use Rattle.itpg_session.specs.Texts.{bad_text, refused_text, wide_text, he
 use itpg_base::{Failed, Name, RuleCode, Sink, TextCode};
 use itpg_graph::Graph;
 use relation_rows::Answer;
-use row_printer::{Page, print_rows};
+use row_printer::{Page, Piece, print_rows};
 
 // The page of `line N refused RULE`.
 #[tactic(auto, unfolding(crate::specs::Texts::refused_text))]
 fn refused(number: u64, rule: RuleCode) -> Page
     ensures { result ≡ refused_text number rule }
 {
-    let mut page = Page::new();
-    page.add(b"line ");
-    page.add_number(number);
-    page.add(b" refused ");
-    page.add(rule.word().as_bytes());
-    page.add(b"\n");
-    page
+    Page::of(&[
+        Piece::Text(b"line "),
+        Piece::Number(number),
+        Piece::Text(b" refused "),
+        Piece::Text(rule.word().as_bytes()),
+        Piece::Text(b"\n"),
+    ])
 }
 
 // The page of `line N bad CODE`.
@@ -29,13 +29,13 @@ fn refused(number: u64, rule: RuleCode) -> Page
 fn bad(number: u64, code: TextCode) -> Page
     ensures { result ≡ bad_text number code }
 {
-    let mut page = Page::new();
-    page.add(b"line ");
-    page.add_number(number);
-    page.add(b" bad ");
-    page.add(code.word().as_bytes());
-    page.add(b"\n");
-    page
+    Page::of(&[
+        Piece::Text(b"line "),
+        Piece::Number(number),
+        Piece::Text(b" bad "),
+        Piece::Text(code.word().as_bytes()),
+        Piece::Text(b"\n"),
+    ])
 }
 
 // The page of `line N wide`.
@@ -43,11 +43,11 @@ fn bad(number: u64, code: TextCode) -> Page
 fn wide(number: u64) -> Page
     ensures { result ≡ wide_text number }
 {
-    let mut page = Page::new();
-    page.add(b"line ");
-    page.add_number(number);
-    page.add(b" wide\n");
-    page
+    Page::of(&[
+        Piece::Text(b"line "),
+        Piece::Number(number),
+        Piece::Text(b" wide\n"),
+    ])
 }
 
 // The page of `line N rows K`.
@@ -55,13 +55,13 @@ fn wide(number: u64) -> Page
 fn head(number: u64, count: u64) -> Page
     ensures { result ≡ head_text number count }
 {
-    let mut page = Page::new();
-    page.add(b"line ");
-    page.add_number(number);
-    page.add(b" rows ");
-    page.add_number(count);
-    page.add(b"\n");
-    page
+    Page::of(&[
+        Piece::Text(b"line "),
+        Piece::Number(number),
+        Piece::Text(b" rows "),
+        Piece::Number(count),
+        Piece::Text(b"\n"),
+    ])
 }
 
 /// The page of `tick NAME wide`.
@@ -69,11 +69,11 @@ fn head(number: u64, count: u64) -> Page
 pub(crate) fn tick_wide(name: &Name) -> Page
     ensures { result ≡ tick_wide_text name.now }
 {
-    let mut page = Page::new();
-    page.add(b"tick ");
-    page.add(name.bytes());
-    page.add(b" wide\n");
-    page
+    Page::of(&[
+        Piece::Text(b"tick "),
+        Piece::Text(name.bytes()),
+        Piece::Text(b" wide\n"),
+    ])
 }
 
 /// The page of `tick NAME gained K lost M`.
@@ -81,15 +81,15 @@ pub(crate) fn tick_wide(name: &Name) -> Page
 pub(crate) fn tick_head(name: &Name, gained: u64, lost: u64) -> Page
     ensures { result ≡ tick_head_text name.now gained lost }
 {
-    let mut page = Page::new();
-    page.add(b"tick ");
-    page.add(name.bytes());
-    page.add(b" gained ");
-    page.add_number(gained);
-    page.add(b" lost ");
-    page.add_number(lost);
-    page.add(b"\n");
-    page
+    Page::of(&[
+        Piece::Text(b"tick "),
+        Piece::Text(name.bytes()),
+        Piece::Text(b" gained "),
+        Piece::Number(gained),
+        Piece::Text(b" lost "),
+        Piece::Number(lost),
+        Piece::Text(b"\n"),
+    ])
 }
 
 /// Writes `line N refused RULE`. The page is a local here, so that a quiet line doesn't pay for it.

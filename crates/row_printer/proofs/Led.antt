@@ -10,6 +10,12 @@ at_among [] i x h e = absurd (omega arith)
 at_among (y ∷ ys) zero x h e = inl e
 at_among (y ∷ ys) (suc i) x h e = inr (at_among ys i x (omega arith) e)
 
+-- and what stands there doesn't hang on what would stand behind the end
+at_place : {X : Type 0} (xs : List X) (i : ℕ) (d : X) → i < length xs → get_or xs i (get_or xs i d) ≡ get_or xs i d
+at_place [] i d h = absurd (omega arith)
+at_place (x ∷ xs) zero d h = refl
+at_place (x ∷ xs) (suc i) d h = at_place xs i d (omega arith)
+
 module _ {X : Type 0} (lead : List ℕ) (text : X → List ℕ) where
   pub led_none : (xs : List X) → led lead text (take 0 xs) ≡ []
   unfolding led
@@ -36,3 +42,11 @@ module _ {X : Type 0} (lead : List ℕ) (text : X → List ℕ) where
     sym (append_assoc (led lead text (take i xs)) (lead ++ text x) (led lead text (drop (i + 1) xs))) ∙ ap (λ t. t ++ led lead text (drop (i + 1) xs)) (led-more xs i x h e) ∙ sym (led-append (take (i + 1) xs) (drop (i + 1) xs))
         ∙ ap (led lead text) (take-append-drop (i + 1) xs),
   )
+
+  -- the same of the element that is read at the place
+  pub led_next : (xs : List X) (i : ℕ) (d : X) → i < length xs → led lead text (take i xs) ++ (lead ++ text (get_or xs i d)) ≡ led lead text (take (i + 1) xs)
+  led_next xs i d h = led-more xs i (get_or xs i d) h (at_place xs i d h)
+
+  pub led_around : (xs : List X) (i : ℕ) (d : X) → i < length xs → led lead text (take i xs) ++ ((lead ++ text (get_or xs i d)) ++ led lead text (drop (i + 1) xs)) ≡ led lead text xs
+  unfolding led led_parts
+  led_around xs i d h = (led_parts xs i (get_or xs i d) h (at_place xs i d h)).1

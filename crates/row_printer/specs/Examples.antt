@@ -1,5 +1,5 @@
 -- Rows on a graph of two nodes, whose lines are written out by hand.
-use Rattle.std.specs.Prelude.{ℕ, ℤ, pos, neg_ℤ, List, [], ◌∷◌, None, Bool, true, false, codes}
+use Rattle.std.specs.Prelude.{pos, neg_ℤ, [], ◌∷◌, None, Bool, true, false, codes}
 use Rattle.itpg_base.specs.Words.{Word}
 use Rattle.itpg_base.specs.Graphs.{Graph, Object}
 use Rattle.band_normal.specs.declared.band.End.TheVariants.{Fixed, Moving}

@@ -11,5 +11,5 @@ mod page;
 mod printing;
 
 pub use laws::{law_of_forms, law_of_lines};
-pub use page::{PAGE, Page};
+pub use page::{PAGE, Page, Piece};
 pub use printing::print_rows;

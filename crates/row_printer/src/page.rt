@@ -2,6 +2,7 @@
 ghost use Rattle.std.specs.Prelude.{◌≡◌, ◌+◌, ◌≤◌, [], ◌++◌, length, take, OnOk, OnErr};
 ghost use Rattle.std.specs.Fmt.{decimal, signed_decimal};
 ghost use Rattle.itpg_base.specs.Sinks.{Gets, GetsSome, IsHonest};
+ghost use Rattle.row_printer.specs.Pieces.{piece_size, piece_text, pieces_size, pieces_text};
 
 use itoa::Buffer;
 use itpg_base::{Failed, Sink};
@@ -12,6 +13,14 @@ pub const PAGE: usize = 4_096;
 
 // How many bytes a number is written with at most.
 const MAX_NUMBER: usize = 20;
+
+/// A piece of a page.
+#[derive(Clone, Copy)]
+pub enum Piece<'a> {
+    Text(&'a [u8]),
+    /// In decimal.
+    Number(u64),
+}
 
 /// Up to `PAGE` bytes of text that are to be written in one piece. A contract sees it as these bytes.
 #[derive(Drop)]
@@ -38,6 +47,30 @@ impl Page {
         Page {
             bytes: [0; PAGE],
             size: 0,
+        }
+    }
+
+    /// A page of pieces, one behind the other. A number counts as 20 bytes.
+    pub fn of(pieces: &[Piece<'_>]) -> Page
+        requires { pieces_size pieces.now ≤ PAGE }
+        ensures { result ≡ pieces_text pieces.now }
+    {
+        let mut page = Page::new();
+        for piece in pieces {
+            page.add_piece(*piece);
+        }
+        page
+    }
+
+    // Puts a piece behind what the page has.
+    fn add_piece(&mut self, piece: Piece<'_>)
+        requires { length self.old + piece_size piece ≤ PAGE }
+        ensures added { self.new ≡ self.old ++ piece_text piece.entry }
+        ensures size { length self.new ≤ length self.old + piece_size piece.entry }
+    {
+        match piece {
+            Piece::Text(text) => self.add(text),
+            Piece::Number(number) => self.add_number(number),
         }
     }
 
