@@ -62,14 +62,14 @@ module _ (g : Graph) (horizon : Span) (begun : HasHorizon g horizon) (zone : Bou
     pub along_cut : (x y : Point) → StepsFromAny d targets g zone objects x y ↔ Cut g (axis_of d) sources targets x y
     along_cut x y = (
       λ h.
-          let step = h.2.3 in
+          let step = h.2.2 in
           let item = step.item in
           let o : (h.0).0 ≡ x.object = item.source in
           let p : (h.2.0).0 ≡ y.object = item.target in
           let m = (stays x.moment y.moment).0 item.pair in
           let one : IsOneOf objects x.object = (h.0, h.1, o) in
           let at_x : IsAt g x = record { stands = are.stand x.object one; within = (in_horizon g horizon begun x.moment).0 (record { begun = m.from; going = m.to }) } in
-          let at_y : IsAt g y = record { stands = subst (Stands g) p h.2.2; within = (in_horizon g horizon begun y.moment).0 (subst (λ (v : ℤ). Within v horizon) (sym m.same) (record { begun = m.from; going = m.to })) } in
+          let at_y : IsAt g y = record { stands = subst (Stands g) p step.stands; within = (in_horizon g horizon begun y.moment).0 (subst (λ (v : ℤ). Within v horizon) (sym m.same) (record { begun = m.from; going = m.to })) } in
           record {
             leads = (joins_is d g x y).1 (at_x, at_y, (m.same, subst (λ (v : ℕ). Joins d g x.object v) p (subst (λ (v : ℕ). Joins d g v (h.2.0).0) o h.2.1)));
             source = are.within x.object one;
@@ -87,8 +87,8 @@ module _ (g : Graph) (horizon : Span) (begun : HasHorizon g horizon) (zone : Bou
             (
               p,
               subst (λ (v : ℕ). Joins d g v y.object) (sym one.2) leads.2.1,
-              at_y.stands,
               record {
+                stands = at_y.stands;
                 within = c.target;
                 item = record { source = one.2; target = refl; pair = (stays x.moment y.moment).1 (record { from = w.begun; to = w.going; same = leads.2.0 }) };
               },

@@ -5,12 +5,12 @@ use Rattle.itpg_base.specs.declared.object_number.ObjNo.{ObjNo}
 use Rattle.itpg_base.specs.Graphs.{Graph, Object, Ends, Good, ObjectIs, HasEnd, Stands}
 use Rattle.itpg_base.specs.Points.{Point}
 use Rattle.itpg_base.proofs.Objects.{there, here, same_some}
-use Rattle.itpg_graph.specs.Edges.{HasNumber, AreNumbers}
-use Rattle.itpg_graph.specs.Kinds.{ends_of, IsNode}
+use Rattle.itpg_graph.specs.Edges.{HasNumber}
+use Rattle.itpg_graph.specs.GraphParts.{StandingAreNumbers}
+use Rattle.itpg_graph.specs.Kinds.{ends_of}
 use Rattle.zone_core.specs.declared.Bounds.{Bounds}
 use Rattle.itpg_base.specs.Lists.{Among}
 use Rattle.label_scope.specs.declared.scope.Scope.{Scope}
-use Rattle.condition_eval.specs.Tested.{Stand}
 use Rattle.path_eval.specs.declared.axes.Direction.{Direction}
 use Rattle.path_eval.specs.declared.axes.Direction.TheVariants as to
 use Rattle.path_eval.specs.Axes.{Joins, far_end, LeadsToEdge, StepTo, StepToOne, StepsFrom}
@@ -98,31 +98,23 @@ module _ (g : Graph) (good : Good g) where
   joins_edge to.Forward o p h = edge_node g (λ m. m.source) (λ m. m.target) source_end o p h
   joins_edge to.Backward o p h = edge_node g (λ m. m.target) (λ m. m.source) target_end o p h
 
-  pub edges_stand : (d : Direction) (o : ℕ) (edges : List ObjNo) → AreNumbers (LeadsToEdge d g o) edges → Stand g edges
-  edges_stand d o edges are p h = subst (Stands g) h.2 (joins_edge d o (h.0).0 (are.only (h.0).0 (among_number edges h.0 h.1))).0
-
   module _ (targets : Scope) (zone : Bounds) (d : Direction) (o : ObjNo) where
-    pub edge_steps : (n : ObjNo × ObjNo) → ObjectIs g o.0 (λ x. ends_of (Some n) ≡ x.ends) → Stands g (far_end d n).0 → (x y : Point) → StepTo targets g zone o (far_end d n) x y ↔ StepsFrom d targets g zone o x y
-    edge_steps n is stands x y =
+    pub edge_steps : (n : ObjNo × ObjNo) → ObjectIs g o.0 (λ x. ends_of (Some n) ≡ x.ends) → (x y : Point) → StepTo targets g zone o (far_end d n) x y ↔ StepsFrom d targets g zone o x y
+    edge_steps n is x y =
         let t = there g.objects o.0 _ is in (
-          λ s. (far_end d n, joins_end d o.0 t.0 n t.1 t.2, stands, s),
+          λ s. (far_end d n, joins_end d o.0 t.0 n t.1 t.2, s),
           λ h.
-              let e = to_end d o.0 (h.0).0 t.0 n t.1 t.2 h.2 h.1 in
-              subst (λ (v : ObjNo). StepTo targets g zone o v x y) (sym (number_ext (far_end d n) h.0 e)) h.3,
+              let e = to_end d o.0 (h.0).0 t.0 n t.1 t.2 h.2.stands h.1 in
+              subst (λ (v : ObjNo). StepTo targets g zone o v x y) (sym (number_ext (far_end d n) h.0 e)) h.2,
         )
 
-    pub node_steps : (edges : List ObjNo) → ObjectIs g o.0 (λ x. ends_of None ≡ x.ends) → AreNumbers (LeadsToEdge d g o.0) edges → (x y : Point) → StepToOne targets g zone o edges x y ↔ StepsFrom d targets g zone o x y
+    pub node_steps : (edges : List ObjNo) → ObjectIs g o.0 (λ x. ends_of None ≡ x.ends) → StandingAreNumbers g (LeadsToEdge d g o.0) edges → (x y : Point) → StepToOne targets g zone o edges x y ↔ StepsFrom d targets g zone o x y
     node_steps edges is are x y =
         let t = there g.objects o.0 _ is in (
           λ s.
-              let j = joins_edge d o.0 (s.0).0 (are.only (s.0).0 (among_number edges s.0 s.1)) in
-              (s.0, j.1, j.0, s.2),
+              let j = joins_edge d o.0 (s.0).0 (are.only (s.0).0 (among_number edges s.0 s.1) s.2.stands) in
+              (s.0, j.1, s.2),
           λ h.
-              let w = number_among edges (h.0).0 (are.whole (h.0).0 (to_edge d o.0 (h.0).0 t.0 t.1 t.2 h.2 h.1)) in
-              (w.0, w.1, subst (λ (v : ObjNo). StepTo targets g zone o v x y) (number_ext h.0 w.0 (sym w.2)) h.3),
+              let w = number_among edges (h.0).0 (are.whole (h.0).0 (to_edge d o.0 (h.0).0 t.0 t.1 t.2 h.2.stands h.1)) in
+              (w.0, w.1, subst (λ (v : ObjNo). StepTo targets g zone o v x y) (number_ext h.0 w.0 (sym w.2)) h.2),
         )
-
--- both ends of an edge stand
-pub end_stands : (g : Graph) (d : Direction) (n : ObjNo × ObjNo) → IsNode g n.0.0 × IsNode g n.1.0 → Stands g (far_end d n).0
-end_stands g to.Forward n h = let t = there g.objects n.1.0 _ h.1 in here g.objects n.1.0 _ t.0 t.1 t.2.0
-end_stands g to.Backward n h = let t = there g.objects n.0.0 _ h.0 in here g.objects n.0.0 _ t.0 t.1 t.2.0

@@ -42,8 +42,9 @@ LeadsToEdge to.Backward g o e = LeadsTo g o e
 abbrev pub OnEach : Bounds → List ObjNo → Relation
 OnEach zone list x y = (o : ObjNo) × Among list o × InItem (o, o, zone) x y
 
--- from the one object to the other, where that is within the scope, at the moments of the zone
+-- from the one object to the other, where that stands and is within the scope, at the moments of the zone
 pub record StepTo (targets : Scope) (g : Graph) (zone : Bounds) (o p : ObjNo) (x y : Point) : Type 0 where
+  pub stands : Stands g p.0
   pub within : IsWithin targets g p.0
   pub item : InItem (o, p, zone) x y
 
@@ -51,9 +52,9 @@ pub record StepTo (targets : Scope) (g : Graph) (zone : Bounds) (o p : ObjNo) (x
 abbrev pub StepToOne : Scope → Graph → Bounds → ObjNo → List ObjNo → Relation
 StepToOne targets g zone o list x y = (p : ObjNo) × Among list p × StepTo targets g zone o p x y
 
--- the same to each standing object that the direction leads to
+-- the same to each object that the direction leads to
 abbrev pub StepsFrom : Direction → Scope → Graph → Bounds → ObjNo → Relation
-StepsFrom direction targets g zone o x y = (p : ObjNo) × Joins direction g o.0 p.0 × Stands g p.0 × StepTo targets g zone o p x y
+StepsFrom direction targets g zone o x y = (p : ObjNo) × Joins direction g o.0 p.0 × StepTo targets g zone o p x y
 
 -- the same from some object of the list
 abbrev pub StepsFromAny : Direction → Scope → Graph → Bounds → List ObjNo → Relation

@@ -2,7 +2,7 @@
 ghost use Rattle.std.specs.Prelude.{◌≡◌, ◌⊎◌, ◌↔◌, IfOk, OnOk};
 ghost use Rattle.itpg_base.specs.Graphs.{Good, Stands};
 ghost use Rattle.itpg_base.specs.Points.{Point};
-ghost use Rattle.itpg_graph.specs.Edges.{AreNumbers};
+ghost use Rattle.itpg_graph.specs.GraphParts.{StandingAreNumbers};
 ghost use Rattle.zone_compose.specs.Compose.{IsOneStep};
 ghost use Rattle.relation_rows.specs.Answers.{Gives};
 ghost use Rattle.relation_rows.specs.Relations.{ItemsHold};
@@ -14,7 +14,7 @@ use crate::basis::Ground;
 use crate::within_both::{is_within, objects_within_both};
 use condition_eval::objects_within;
 use itpg_base::ObjNo;
-use itpg_graph::Graph;
+use itpg_graph::Part;
 use label_scope::Scope;
 use relation_rows::{RelFault, Relation};
 use std::alloc::{AllocError, Global};
@@ -100,7 +100,7 @@ fn steps_of(
 // Adds a zone from the object to each object within the scope that the direction leads to.
 fn push_steps(
     items: &mut Vec<Item>,
-    graph: &Graph,
+    graph: &Part<'_>,
     direction: Direction,
     object: ObjNo,
     targets: &Scope,
@@ -133,10 +133,10 @@ fn far_end(direction: Direction, ends: (ObjNo, ObjNo)) -> ObjNo
     }
 }
 
-// The edges that the direction leads to from a node.
-fn edges_at(graph: &Graph, direction: Direction, node: ObjNo) -> &[ObjNo]
+// The edges that the direction leads to from a node, and of a part perhaps others that don't stand in it.
+fn edges_at<'a>(graph: &'a Part<'_>, direction: Direction, node: ObjNo) -> &'a [ObjNo]
     requires { Stands graph.now node.0 }
-    ensures { AreNumbers (LeadsToEdge direction graph.now node.0) result.now }
+    ensures { StandingAreNumbers graph.now (LeadsToEdge direction graph.now node.0) result.now }
 {
     match direction {
         Direction::Forward => graph.out_edges(node),
@@ -144,16 +144,15 @@ fn edges_at(graph: &Graph, direction: Direction, node: ObjNo) -> &[ObjNo]
     }
 }
 
-// Adds a zone from the object to each of the others that is within the scope.
+// Adds a zone from the object to each of the others that stands and is within the scope.
 fn push_each(
     items: &mut Vec<Item>,
-    graph: &Graph,
+    graph: &Part<'_>,
     object: ObjNo,
     others: &[ObjNo],
     targets: &Scope,
     zone: Zone,
 ) -> Result<(), AllocError>
-    requires { Stand graph.now others.now }
     ensures { OnOk result ((x : Point) → (y : Point) → ItemsHold items.new.items x y ↔ (ItemsHold items.old.items x y ⊎ StepToOne targets.now graph.now zone object others.now x y)) }
 {
     for other in others {
@@ -162,19 +161,18 @@ fn push_each(
     Ok(())
 }
 
-// Adds a zone from the object to the other, if that is within the scope.
+// Adds a zone from the object to the other, if that stands and is within the scope.
 fn push_step(
     items: &mut Vec<Item>,
-    graph: &Graph,
+    graph: &Part<'_>,
     object: ObjNo,
     other: ObjNo,
     targets: &Scope,
     zone: Zone,
 ) -> Result<(), AllocError>
-    requires { Stands graph.now other.0 }
     ensures { OnOk result ((x : Point) → (y : Point) → ItemsHold items.new.items x y ↔ (ItemsHold items.old.items x y ⊎ StepTo targets.now graph.now zone object other x y)) }
 {
-    if is_within(graph, targets, other) {
+    if graph.standing(other) && is_within(graph, targets, other) {
         items.push((object, other, zone))?;
     }
     Ok(())

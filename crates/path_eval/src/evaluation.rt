@@ -11,7 +11,7 @@ use crate::basis::Ground;
 use crate::made::Made;
 use crate::reaching::reached;
 use crate::step::step;
-use itpg_graph::Graph;
+use itpg_graph::{Graph, Part};
 use plan_cache::{PlanNo, Plans};
 use relation_rows::{RelFault, Relation};
 use std::alloc::{AllocError, Global};
@@ -37,10 +37,11 @@ pub fn relation(
     ensures rows { IfOk result (λ r. IsSomeAnd (slice_get plans.now.nodes no.0) (λ n. IsRight graph.now max_rows n.member r.value)) }
     ensures wide { IsErrOf result RelFault.Wide → IsSomeAnd (slice_get plans.now.nodes no.0) (λ n. NeedsWide graph.now max_rows n.member) }
 {
+    let whole = Part::whole(graph);
     let ground = Ground {
         alloc,
-        graph,
-        horizon: graph.horizon().unwrap(),
+        graph: &whole,
+        horizon: whole.horizon().unwrap(),
         max_rows,
     };
     let relations = below(&ground, plans, no)?;

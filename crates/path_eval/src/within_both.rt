@@ -1,6 +1,6 @@
 //! The objects within two scopes, at which a path that keeps its object starts and ends.
 ghost use Rattle.std.specs.Prelude.{◌↔◌, IsTrue, IfOk};
-ghost use Rattle.itpg_base.specs.Graphs.{Good, Stands};
+ghost use Rattle.itpg_base.specs.Graphs.{Stands};
 ghost use Rattle.relation_rows.specs.Relations.{Rise};
 ghost use Rattle.label_scope.specs.Scopes.{IsWithin};
 ghost use Rattle.condition_eval.specs.Tested.{Stand};
@@ -9,7 +9,7 @@ ghost use Rattle.path_eval.specs.WithinBoth.{AreWithinBoth, AreThoseWithin};
 use crate::basis::Ground;
 use condition_eval::objects_within;
 use itpg_base::ObjNo;
-use itpg_graph::Graph;
+use itpg_graph::Part;
 use label_scope::Scope;
 use std::alloc::AllocError;
 
@@ -19,8 +19,7 @@ pub(crate) fn objects_within_both(
     a: &Scope,
     b: &Scope,
 ) -> Result<Vec<ObjNo>, AllocError>
-    ensures within { IfOk result (λ objects. AreWithinBoth a.now b.now ground.now.graph.now objects.items) }
-    ensures good { Good ground.now.graph.now }
+    ensures { IfOk result (λ objects. AreWithinBoth a.now b.now ground.now.graph.now objects.items) }
 {
     let sources = objects_within(ground.alloc, ground.graph, a)?;
     let both = those_within(ground, &sources, b)?;
@@ -47,7 +46,7 @@ fn those_within(
 }
 
 /// Whether an object that stands is within the scope.
-pub(crate) fn is_within(graph: &Graph, scope: &Scope, object: ObjNo) -> bool
+pub(crate) fn is_within(graph: &Part<'_>, scope: &Scope, object: ObjNo) -> bool
     requires { Stands graph.now object.0 }
     ensures { IsTrue result ↔ IsWithin scope.now graph.now object.0 }
 {

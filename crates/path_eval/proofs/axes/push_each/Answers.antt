@@ -1,11 +1,6 @@
-use Rattle.std.proofs.Common.{refl}
-use Rattle.itpg_base.proofs.Lists.{among_at}
 use Rattle.path_eval.specs.Axes.{StepTo}
 use Rattle.path_eval.proofs.Adding.{added_at, added_all}
 use Rattle.path_eval.proofs.axes.push_each.Goals as goal
-
-pub push_step-requires : goal.push_step-requires
-push_step-requires c = c.requires _ (_, among_at c.args.others.now c.loop-other.other-index _ c.loop-other-test.true, refl)
 
 pub loop-other-preserved : goal.loop-other-preserved
 loop-other-preserved c =

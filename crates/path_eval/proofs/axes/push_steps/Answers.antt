@@ -1,20 +1,13 @@
 use Rattle.path_eval.specs.Axes.{StepTo, StepToOne, StepsFrom, far_end}
 use Rattle.path_eval.proofs.Adding.{adds_as}
-use Rattle.path_eval.proofs.Leading.{edges_stand, edge_steps, node_steps, end_stands}
+use Rattle.path_eval.proofs.Leading.{edge_steps, node_steps}
 use Rattle.path_eval.proofs.axes.push_steps.Goals as goal
-
-pub push_step-requires : goal.push_step-requires
-push_step-requires c = rw c.far_end-end.ensures (end_stands c.args.graph.now c.args.direction c.in-Some.ends c.in-Some.ensures.nodes)
-
-pub push_each-requires : goal.push_each-requires
-push_each-requires c = edges_stand c.args.graph.now c.requires.good c.args.direction c.args.object.0 c.edges_at-edges.result.now c.edges_at-edges.ensures
 
 pub returns-in-Some : goal.returns-in-Some
 returns-in-Some c =
     let end = c.far_end-end.ensures in
-    let stands = end_stands c.args.graph.now c.args.direction c.in-Some.ends c.in-Some.ensures.nodes in
     adds_as (StepTo c.args.targets.now c.args.graph.now c.args.zone c.args.object (far_end c.args.direction c.in-Some.ends)) (StepsFrom c.args.direction c.args.targets.now c.args.graph.now c.args.zone c.args.object) c.args.items.now.items c.push_step.new.items.items
-    (edge_steps c.args.graph.now c.requires.good c.args.targets.now c.args.zone c.args.direction c.args.object c.in-Some.ends c.in-Some.ensures.ends stands) c.push_step.result (rw end at c.push_step.ensures)
+    (edge_steps c.args.graph.now c.requires.good c.args.targets.now c.args.zone c.args.direction c.args.object c.in-Some.ends c.in-Some.ensures.ends) c.push_step.result (rw end at c.push_step.ensures)
 
 pub returns-in-None : goal.returns-in-None
 returns-in-None c =
