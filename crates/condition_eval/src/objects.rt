@@ -1,7 +1,7 @@
 //! Objects by their labels.
 
 ghost use Rattle.std.specs.Prelude.{◌↔◌, IsTrue, IfOk};
-ghost use Rattle.itpg_base.specs.Graphs.{Stands};
+ghost use Rattle.itpg_base.specs.Graphs.{Good, Stands};
 ghost use Rattle.label_scope.specs.Scopes.{IsWithin};
 ghost use Rattle.condition_eval.specs.Within.{AreWithin};
 
@@ -16,7 +16,8 @@ pub fn objects_within(
     graph: &Part<'_>,
     scope: &Scope,
 ) -> Result<Vec<ObjNo>, AllocError>
-    ensures { IfOk result (λ objects. AreWithin scope.now graph.now objects.items) }
+    ensures within { IfOk result (λ objects. AreWithin scope.now graph.now objects.items) }
+    ensures good { Good graph.now }
 {
     let mut objects = Vec::new(alloc);
     let mut from = 0;

@@ -142,6 +142,10 @@ pub seen_good : (g seen : Graph) (listed : Option (List ObjNo)) → part_of g li
 seen_good g seen None e are good = subst Good e good
 seen_good g seen (Some objects) e are good = subst Good e (part_good g (only_of g objects) (HasNumber objects) good (only_is g objects) are.ends)
 
+-- by its list alone
+pub listed_good : (g seen : Graph) (listed : Option (List ObjNo)) (objects : List ObjNo) → listed ≡ Some objects → part_of g listed ≡ seen → IfSome listed (ArePart g) → Good seen
+listed_good g seen listed objects is e are = seen_good g seen listed e are (subst (λ l. IfSome l (ArePart g)) is are).good
+
 pub seen_begun : (g seen : Graph) (listed : Option (List ObjNo)) → part_of g listed ≡ seen → g.begun ≡ seen.begun
 seen_begun g seen None e = ap (λ (p : Graph). p.begun) e
 seen_begun g seen (Some objects) e = ap (λ (p : Graph). p.begun) e

@@ -1,6 +1,6 @@
 -- A part of a graph: some of its objects, as the graph in which no other object stands.
 use Rattle.std.specs.Prelude.{◌≡◌, ◌⊎◌, ◌≤◌, ◌<◌, ◌||◌, ℕ, suc, List, [], ◌∷◌, length, Option, Some, None, Bool, false, cond, nat_eq, option_map, slice_get}
-use Rattle.itpg_base.specs.Graphs.{Graph, Object, Stands, HasEnd}
+use Rattle.itpg_base.specs.Graphs.{Graph, Good, Object, Stands, HasEnd}
 use Rattle.itpg_base.specs.declared.object_number.ObjNo.{ObjNo}
 use Rattle.itpg_graph.specs.Changes.{dropped}
 use Rattle.itpg_graph.specs.Edges.{HasNumber, AreRising}
@@ -29,8 +29,9 @@ only_of g objects = record g { objects = kept_from (has_number objects) 0 g.obje
 abbrev pub HoldsEnds : Graph → (ℕ → Type 0) → Type 0
 HoldsEnds g S = (e a : ℕ) → S e → HasEnd g e a → S a
 
--- the objects rise and stand, and hold the ends of their edges
+-- the graph is good; the objects rise and stand, and hold the ends of their edges
 pub record ArePart (g : Graph) (objects : List ObjNo) : Type 0 where
+  pub good : Good g
   pub rising : AreRising objects
   pub stand : (o : ℕ) → HasNumber objects o → Stands g o
   pub ends : HoldsEnds g (HasNumber objects)

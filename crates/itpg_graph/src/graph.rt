@@ -116,6 +116,7 @@ impl Graph {
     pub fn next_standing(&self, from: usize) -> Option<ObjNo>
         ensures next { IfSome result (λ o. IsNextStanding self.now from o.0) }
         ensures none { IsNone result → NoneStands self.now from }
+        ensures good { Good self.now }
     {
         for number in from..self.declared() as usize {
             let object = ObjNo(number as u32);

@@ -73,6 +73,7 @@ impl<'a> Part<'a> {
     pub fn next_standing(&self, from: usize) -> Option<ObjNo>
         ensures next { IfSome result (λ o. IsNextStanding self.now from o.0) }
         ensures none { IsNone result → NoneStands self.now from }
+        ensures good { Good self.now }
     {
         match self.listed {
             Some(objects) => next_of(objects, from),

@@ -1,5 +1,4 @@
 //! What paths are worked out on.
-ghost use Rattle.itpg_base.specs.Graphs.{Good};
 ghost use Rattle.condition_eval.specs.Tested.{HasHorizon};
 
 use interval_set::Span;
@@ -14,5 +13,4 @@ pub(crate) struct Ground<'a> {
     pub(crate) horizon: Span,
     pub(crate) max_rows: u32,
     ghost begun: { HasHorizon graph.now horizon },
-    ghost good: { Good graph.now },
 }

@@ -1,6 +1,6 @@
 //! The objects within two scopes, at which a path that keeps its object starts and ends.
 ghost use Rattle.std.specs.Prelude.{◌↔◌, IsTrue, IfOk};
-ghost use Rattle.itpg_base.specs.Graphs.{Stands};
+ghost use Rattle.itpg_base.specs.Graphs.{Good, Stands};
 ghost use Rattle.relation_rows.specs.Relations.{Rise};
 ghost use Rattle.label_scope.specs.Scopes.{IsWithin};
 ghost use Rattle.condition_eval.specs.Tested.{Stand};
@@ -19,7 +19,8 @@ pub(crate) fn objects_within_both(
     a: &Scope,
     b: &Scope,
 ) -> Result<Vec<ObjNo>, AllocError>
-    ensures { IfOk result (λ objects. AreWithinBoth a.now b.now ground.now.graph.now objects.items) }
+    ensures within { IfOk result (λ objects. AreWithinBoth a.now b.now ground.now.graph.now objects.items) }
+    ensures good { Good ground.now.graph.now }
 {
     let sources = objects_within(ground.alloc, ground.graph, a)?;
     let both = those_within(ground, &sources, b)?;

@@ -29,5 +29,5 @@ loop-object-preserved c =
           (λ h. true≢false (sym (c.is_within.ensures.1 h) ∙ w.if-is_within.false)))
     ]
 
-pub returns : goal.returns
-returns c = all_found c.args.scope.now c.args.graph.now c.loop-object.from c.loop-object.objects.items (c.in_default.ensures.none refl) c.loop-object.invariant
+pub returns-clause-within : goal.returns-clause-within
+returns-clause-within c = all_found c.args.scope.now c.args.graph.now c.loop-object.from c.loop-object.objects.items (c.in_default.ensures.none refl) c.loop-object.invariant

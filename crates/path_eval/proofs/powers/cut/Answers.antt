@@ -9,8 +9,8 @@ pub returns-clause-rows : goal.returns-clause-rows
 returns-clause-rows c =
     let a = c.args in
     cut_normal a.ground.now.graph.now a.whole.now a.a.now a.b.now c.deref.result.now c.deref-2.result.now
-    (subst (λ (v : List ObjNo). AreWithin a.a.now a.ground.now.graph.now v) (sym c.deref.ensures.value) c.in_ok-sources.ensures)
-    (subst (λ (v : List ObjNo). AreWithin a.b.now a.ground.now.graph.now v) (sym c.deref-2.ensures.value) c.in_ok-targets.ensures)
+    (subst (λ (v : List ObjNo). AreWithin a.a.now a.ground.now.graph.now v) (sym c.deref.ensures.value) c.in_ok-sources.ensures.within)
+    (subst (λ (v : List ObjNo). AreWithin a.b.now a.ground.now.graph.now v) (sym c.deref-2.ensures.value) c.in_ok-targets.ensures.within)
     c.restrict.result c.restrict.ensures
 
 pub returns-clause-few : goal.returns-clause-few
