@@ -1,5 +1,5 @@
 -- Bytes as whole lines and a rest.
-use Rattle.std.proofs.Common.{◌≡◌, ℕ, List, [], ◌∷◌, ◌++◌, false, nat_eq, refl, true, zero, suc, ap, ◌∙◌, sym, append_assoc, ◌+◌, ◌<◌, ◌≤◌, length, take, drop, get_or, slice_index, Some, None, ◌≢◌, Bool, subst, add-one, drop-cons, take-append-drop, arith}
+use Rattle.std.proofs.Common.{◌≡◌, ℕ, List, [], ◌∷◌, ◌++◌, false, nat_eq, refl, true, zero, suc, ap, ◌∙◌, sym, append_assoc, ◌+◌, ◌<◌, ◌≤◌, length, take, drop, get_or, slice_index, Some, None, ◌≢◌, subst, add-one, drop-cons, take-append-drop, arith}
 use Rattle.std.specs.declared.option.Option.{Option}
 use Rattle.std.proofs.lemmas.Bool.{eqb-true, false_from_ne_true}
 use Rattle.std.proofs.lemmas.List.{take_all}

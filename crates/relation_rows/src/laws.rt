@@ -46,8 +46,10 @@ pub fn law_of_normal_rows()
 /// The normal list of a relation that a test gives, over finitely many points, has at most so many
 /// rows, or it has more. No relation has both. And where it has more, such a list is there.
 pub fn law_of_width<P: Pairs>(pairs: &P)
-    ensures either { (objects : ℕ) (low high : ℤ) (test : Point → Point → Bool) (limit : ℕ) → let pairs = of_test test in IsFinite objects low high pairs → Fits pairs limit ⊎ IsWide pairs limit }
-    ensures there { (objects : ℕ) (low high : ℤ) (test : Point → Point → Bool) (limit : ℕ) → let pairs = of_test test in IsFinite objects low high pairs → IsWide pairs limit → HasMoreRows pairs limit }
+    ensures either { (objects : ℕ) (low high : ℤ) (test : Point → Point → Bool) (limit : ℕ) → let pairs = of_test test in
+        IsFinite objects low high pairs → Fits pairs limit ⊎ IsWide pairs limit }
+    ensures there { (objects : ℕ) (low high : ℤ) (test : Point → Point → Bool) (limit : ℕ) → let pairs = of_test test in
+        IsFinite objects low high pairs → IsWide pairs limit → HasMoreRows pairs limit }
     ensures apart { (limit : ℕ) → Fits (P.holds pairs.now) limit → IsWide (P.holds pairs.now) limit → ⊥ }
 {}
 
