@@ -3,3 +3,4 @@ pub mod Nodes
 pub mod Growing
 pub mod Stored
 pub mod Footprints
+pub mod Shelves
