@@ -1,5 +1,5 @@
 -- What stays kept when an edit is forgotten, and that it is right on the graph after it.
-use Rattle.std.proofs.Common.{◌≡◌, ℕ, zero, suc, List, [], ◌∷◌, length, slice_get, Option, Some, None, refl, sym, ap, subst, ◌∙◌}
+use Rattle.std.proofs.Common.{◌≡◌, ◌↔◌, ℕ, zero, suc, List, [], ◌∷◌, length, slice_get, Option, Some, None, refl, sym, ap, subst, ◌∙◌}
 use Rattle.std.specs.Prelude.{IsSomeAnd}
 use Rattle.itpg_base.specs.declared.touch.Touch.{Touch}
 use Rattle.label_scope.specs.Members.{Member}
@@ -7,6 +7,7 @@ use Rattle.relation_rows.specs.declared.rows.Row.{Row}
 use Rattle.label_scope.specs.declared.footprint.Footprint.{Footprint}
 use Rattle.label_scope.specs.Touching.{Meets}
 use Rattle.plan_cache.specs.Nodes.{PlanNode, Kept}
+use Rattle.plan_cache.specs.Footprints.{footprint_of, footprints_of}
 use Rattle.plan_cache.specs.Shelves.{ForgetsAt, Forgets, AllKept}
 
 module _ (touch : Touch) where
@@ -61,3 +62,31 @@ forgets_as_many touch [] (o ∷ old) new h = absurd h
 forgets_as_many touch (f ∷ feet) [] new h = absurd h
 forgets_as_many touch (f ∷ feet) (o ∷ old) [] h = absurd h
 forgets_as_many touch (f ∷ feet) (o ∷ old) (y ∷ new) h = ap suc (forgets_as_many touch feet old new h.1)
+
+-- the footprint at a node's place is the node's
+own_foot : (nodes : List PlanNode) (k : ℕ) (n : PlanNode) → slice_get nodes k ≡ Some n → slice_get (footprints_of nodes) k ≡ Some (footprint_of n.member)
+own_foot [] k n e = cc
+own_foot (m ∷ nodes) zero n e = ap (λ (v : PlanNode). Some (footprint_of v.member)) (let same : m ≡ n = cc in same)
+own_foot (m ∷ nodes) (suc k) n e = own_foot nodes k n e
+
+one_foot : (o : Option Footprint) (f g : Footprint) → o ≡ Some f → o ≡ Some g → f ≡ g
+one_foot o f g e h = cc
+
+-- what is right of each node that isn't met before an edit, and is so after it, is kept right
+pub right_after : (R Q : Member → List Row → Type 0) (touch : Touch) (nodes : List PlanNode) (old new : List Kept)
+    → ((k : ℕ) (n : PlanNode) (rows : List Row) → slice_get nodes k ≡ Some n → ¬ Meets (footprint_of n.member) touch → R n.member rows → Q n.member rows)
+    → AllKept R nodes old → Forgets touch (footprints_of nodes) old new → AllKept Q nodes new
+right_after R Q touch nodes old new same right h =
+    right_forgotten touch R Q nodes (footprints_of nodes) old new
+    (λ k n f rows e g not r. same k n rows e (subst (λ (v : Footprint). ¬ Meets v touch) (one_foot (slice_get (footprints_of nodes) k) f (footprint_of n.member) g (own_foot nodes k n e)) not) r)
+    right h
+
+-- exactly what was kept and isn't met is kept
+pub kept_exactly : (touch : Touch) (nodes : List PlanNode) (old new : List Kept) (k : ℕ) (n : PlanNode) (rows : List Row) → Forgets touch (footprints_of nodes) old new → slice_get nodes k ≡ Some n
+    → (slice_get new k ≡ Some (Some rows)) ↔ ((slice_get old k ≡ Some (Some rows)) × (¬ Meets (footprint_of n.member) touch))
+kept_exactly touch nodes old new k n rows h e = (
+  λ g.
+      let s = still_kept touch (footprints_of nodes) old new k rows h g in
+      (s.3, subst (λ (v : Footprint). ¬ Meets v touch) (one_foot (slice_get (footprints_of nodes) k) s.0 (footprint_of n.member) s.1 (own_foot nodes k n e)) s.2),
+  λ w. kept_still touch (footprints_of nodes) old new k (footprint_of n.member) rows h (own_foot nodes k n e) w.1 w.0,
+)

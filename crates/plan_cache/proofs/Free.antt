@@ -1,10 +1,9 @@
 -- Places at which nothing is kept.
-use Rattle.std.proofs.Common.{◌≡◌, ℕ, zero, suc, ◌+◌, ◌≤◌, List, [], ◌∷◌, ◌++◌, length, map, take, replicate, None, refl, sym, ap, ◌∙◌, arith}
+use Rattle.std.proofs.Common.{◌≡◌, ℕ, zero, suc, List, [], ◌∷◌, ◌++◌, length, map, take, replicate, None, refl, ap, ◌∙◌, arith}
 use Rattle.std.proofs.lemmas.List.{append_assoc, length-append}
 use Rattle.label_scope.specs.declared.footprint.Footprint.{Footprint}
 use Rattle.plan_cache.specs.Nodes.{Kept}
 use Rattle.plan_cache.specs.Shelves.{rows_kept, AddsFree, IsShelf}
-use Rattle.plan_cache.proofs.Forgetting.{rows_none}
 
 append_none : (xs : List Kept) → xs ≡ xs ++ []
 append_none [] = refl

@@ -10,6 +10,6 @@ mod Placing
 mod Adding
 mod Footing
 mod Forgetting
-mod Edited
+pub mod Edited
 mod Known
 mod Free

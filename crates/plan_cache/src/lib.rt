@@ -14,7 +14,7 @@ mod operations;
 mod plans;
 mod shelf;
 
-pub use laws::{law_of_known_paths, law_of_lower_children};
+pub use laws::{law_of_forgetting, law_of_known_paths, law_of_lower_children};
 pub use nodes::MAX_NODES;
 pub use operations::{PlanNo, PlanOp, PlanTest};
 pub use plans::Plans;
