@@ -8,7 +8,7 @@ use Rattle.label_scope.specs.declared.footprint.Footprint.{Footprint}
 use Rattle.label_scope.specs.Touching.{Meets}
 use Rattle.plan_cache.specs.Nodes.{PlanNode, Kept}
 use Rattle.plan_cache.specs.Footprints.{footprint_of, footprints_of}
-use Rattle.plan_cache.specs.Shelves.{ForgetsAt, Forgets, AllKept}
+use Rattle.plan_cache.specs.KeptRows.{ForgetsAt, Forgets, AllKept}
 
 module _ (touch : Touch) where
   -- what happened at a place

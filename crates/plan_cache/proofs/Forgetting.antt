@@ -8,7 +8,8 @@ use Rattle.label_scope.specs.declared.footprint.Footprint.{Footprint}
 use Rattle.label_scope.specs.Touching.{Meets}
 use Rattle.plan_cache.specs.Nodes.{Kept}
 use Rattle.plan_cache.specs.declared.shelf.TheConstants.{MAX_KEPT_ROWS}
-use Rattle.plan_cache.specs.Shelves.{Shelved, rows_in, rows_kept, ForgetsAt, ForgetsFirst, Forgets, IsShelf, IsForgetting, LosesAt}
+use Rattle.plan_cache.specs.KeptRows.{rows_in, rows_kept, ForgetsAt, Forgets}
+use Rattle.plan_cache.specs.Shelves.{Shelved, ForgetsFirst, IsShelf, IsForgetting, LosesAt}
 
 module _ (touch : Touch) where
   -- once all places are done, it forgets at each

@@ -3,7 +3,8 @@ use Rattle.std.proofs.Common.{◌≡◌, ℕ, zero, suc, List, [], ◌∷◌, �
 use Rattle.std.proofs.lemmas.List.{append_assoc, length-append}
 use Rattle.label_scope.specs.declared.footprint.Footprint.{Footprint}
 use Rattle.plan_cache.specs.Nodes.{Kept}
-use Rattle.plan_cache.specs.Shelves.{rows_kept, AddsFree, IsShelf}
+use Rattle.plan_cache.specs.KeptRows.{rows_kept, AddsFree}
+use Rattle.plan_cache.specs.Shelves.{IsShelf}
 
 append_none : (xs : List Kept) → xs ≡ xs ++ []
 append_none [] = refl

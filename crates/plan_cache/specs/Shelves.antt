@@ -1,43 +1,24 @@
--- What is kept at the nodes of a table.
-use Rattle.std.specs.Prelude.{◌≡◌, ℕ, zero, suc, ◌+◌, ◌≤◌, ◌⊎◌, Bool, true, false, List, [], ◌∷◌, ◌++◌, replicate, length, slice_get, Option, Some, None, IsSomeAnd}
+-- For the crate's own functions: the places of a shelf.
+use Rattle.std.specs.Prelude.{◌≡◌, ℕ, zero, suc, ◌≤◌, ◌⊎◌, Bool, true, false, List, [], ◌∷◌, length, Option, Some, None}
 use Rattle.itpg_base.specs.declared.touch.Touch.{Touch}
-use Rattle.relation_rows.specs.declared.rows.Row.{Row}
-use Rattle.label_scope.specs.Members.{Member}
-use Rattle.plan_cache.specs.Nodes.{PlanNode, Kept}
-use Rattle.plan_cache.specs.Footprints.{footprints_of}
 use Rattle.label_scope.specs.declared.footprint.Footprint.{Footprint}
 use Rattle.label_scope.specs.Touching.{Meets}
 use Rattle.plan_cache.specs.declared.shelf.TheConstants.{MAX_KEPT_ROWS}
+use Rattle.plan_cache.specs.Nodes.{PlanNode, Kept}
+use Rattle.plan_cache.specs.Footprints.{footprints_of}
+use Rattle.plan_cache.specs.KeptRows.{ForgetsAt, rows_kept}
 
 -- for each place what its relation can depend on, and its relation's rows, if they are kept
 pub record Shelved : Type 0 where
   pub feet : List Footprint
   pub kept : List Kept
 
-abbrev pub rows_in : Kept → ℕ
-rows_in None = 0
-rows_in (Some rows) = length rows
-
--- how many rows are kept in all
-abbrev pub rows_kept : List Kept → ℕ
-rows_kept [] = 0
-rows_kept (k ∷ rest) = rows_in k + rows_kept rest
-
--- behind the others come places at which nothing is kept
-abbrev pub AddsFree : List Kept → List Kept → Type 0
-AddsFree old new = (more : ℕ) × (new ≡ old ++ replicate more None)
-
--- at a place that the touch meets nothing is kept any more, and at each other what was kept
-pub record ForgetsAt (touch : Touch) (foot : Footprint) (old new : Kept) : Type 0 where
-  pub gone : Meets foot touch → new ≡ None
-  pub stays : ¬ Meets foot touch → new ≡ old
-
 -- the place is to be cleared only where the touch meets its footprint, and is not where it doesn't or nothing is kept
 pub record LosesAt (touch : Touch) (foot : Footprint) (kept : Option Kept) (clears : Bool) : Type 0 where
   pub only : clears ≡ true → Meets foot touch
   pub unless : clears ≡ false → (¬ Meets foot touch) ⊎ (kept ≡ Some None)
 
--- so at the first places, so many, and at the others all is as it was
+-- at the first places, so many, the touch is forgotten, and at the others all is as it was
 abbrev pub ForgetsFirst : ℕ → Touch → List Footprint → List Kept → List Kept → Type 0
 ForgetsFirst zero touch feet old new = new ≡ old
 ForgetsFirst (suc n) touch [] [] [] = Unit {0}
@@ -46,15 +27,6 @@ ForgetsFirst (suc n) touch [] (o ∷ old) new = ⊥
 ForgetsFirst (suc n) touch (f ∷ feet) [] new = ⊥
 ForgetsFirst (suc n) touch (f ∷ feet) (o ∷ old) [] = ⊥
 ForgetsFirst (suc n) touch (f ∷ feet) (o ∷ old) (k ∷ new) = ForgetsAt touch f o k × ForgetsFirst n touch feet old new
-
--- so at each place
-abbrev pub Forgets : Touch → List Footprint → List Kept → List Kept → Type 0
-Forgets touch [] [] [] = Unit {0}
-Forgets touch [] [] (k ∷ new) = ⊥
-Forgets touch [] (o ∷ old) new = ⊥
-Forgets touch (f ∷ feet) [] new = ⊥
-Forgets touch (f ∷ feet) (o ∷ old) [] = ⊥
-Forgets touch (f ∷ feet) (o ∷ old) (k ∷ new) = ForgetsAt touch f o k × Forgets touch feet old new
 
 -- as many relations as footprints, few enough rows, and these are counted
 pub record IsShelf (feet : List Footprint) (kept : List Kept) (rows : ℕ) : Type 0 where
@@ -73,7 +45,3 @@ pub record IsForgetting (n : ℕ) (touch : Touch) (old new : Shelved) : Type 0 w
 pub record AreShelved (nodes : List PlanNode) (shelved : Shelved) : Type 0 where
   pub feet : shelved.feet ≡ footprints_of nodes
   pub each : length shelved.kept ≡ length nodes
-
--- each kept relation is one that is right for its node's member
-abbrev pub AllKept : (Member → List Row → Type 0) → List PlanNode → List Kept → Type 0
-AllKept Right nodes kept = (k : ℕ) (rows : List Row) → slice_get kept k ≡ Some (Some rows) → IsSomeAnd (slice_get nodes k) (λ n. Right n.member rows)

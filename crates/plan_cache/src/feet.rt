@@ -3,7 +3,7 @@ ghost use Rattle.std.specs.Prelude.{◌≡◌, ◌<◌, ◌≤◌, Some, length,
 ghost use Rattle.plan_cache.specs.Operations.{part_term, part_children};
 ghost use Rattle.plan_cache.specs.Nodes.{conditions, parts_of, test_read_back};
 ghost use Rattle.plan_cache.specs.Footprints.{footprint_of, footprints_of, AreFootprintsOf};
-ghost use Rattle.plan_cache.specs.Shelves.{AddsFree};
+ghost use Rattle.plan_cache.specs.KeptRows.{AddsFree};
 ghost use Rattle.label_scope.specs.declared.footprint.Footprint.{Footprint};
 ghost use Rattle.label_scope.specs.Footprints.{asked_of, of_either};
 

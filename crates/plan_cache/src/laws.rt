@@ -6,7 +6,7 @@ ghost use Rattle.label_scope.specs.Touching.{Meets};
 ghost use Rattle.relation_rows.specs.declared.rows.Row.{Row};
 ghost use Rattle.plan_cache.specs.Nodes.{PlanNode, Kept, IsNodeOf, AreShared};
 ghost use Rattle.plan_cache.specs.Footprints.{footprint_of, footprints_of};
-ghost use Rattle.plan_cache.specs.Shelves.{Forgets};
+ghost use Rattle.plan_cache.specs.KeptRows.{Forgets};
 ghost use Rattle.plan_cache.specs.Growing.{Grows, IsChild, AddsUnder};
 
 /// A table in which nodes are shared leads from each node to lower numbers alone.

@@ -6,7 +6,7 @@ ghost use Rattle.label_scope.specs.declared.scope.Scope.TheVariants.{All};
 ghost use Rattle.plan_cache.specs.Operations.{op_term};
 ghost use Rattle.plan_cache.specs.Nodes.{IsNodeOf, IsOperation, IsWalkScope, AreShared, narrowed_member};
 ghost use Rattle.plan_cache.specs.Footprints.{footprint_of, footprints_of};
-ghost use Rattle.plan_cache.specs.Shelves.{rows_kept, AddsFree, Forgets};
+ghost use Rattle.plan_cache.specs.KeptRows.{rows_kept, AddsFree, Forgets};
 ghost use Rattle.plan_cache.specs.Growing.{Grows, AddsUnder};
 ghost use Rattle.plan_cache.specs.declared.nodes.TheConstants.{MAX_NODES};
 
@@ -181,9 +181,9 @@ impl Plans {
     /// Forgets the relations whose node's footprint the touch meets, and keeps every other one. It takes no memory.
     ///
     /// ```text
-    ///     a touch of      node 1: F between {Person} and {Person}     node 2: {Exists} on {meets}
-    ///     live meets      stays                                       is forgotten
-    ///     shape Person    is forgotten                                stays
+    ///     touch           F between {Person} and {meets}     Exists on {meets}
+    ///     live meets      stays                              is forgotten
+    ///     shape Person    is forgotten                       stays
     /// ```
     pub fn forget(&mut self, touch: &Touch)
         ensures nodes { self.new.nodes ≡ self.old.nodes }

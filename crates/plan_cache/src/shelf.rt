@@ -1,6 +1,7 @@
 //! What each node's relation depends on, and the relation, if it is kept.
 ghost use Rattle.std.specs.Prelude.{◌≡◌, ◌+◌, ◌<◌, ◌≤◌, ◌↔◌, [], ◌∷◌, ◌++◌, length, take, slice_get, slice_set, Some, None, option_map, IfOk, IfErr, OnOk, OnErr, IsOk, IsTrue, IsSomeAnd};
-ghost use Rattle.plan_cache.specs.Shelves.{rows_in, rows_kept, AddsFree, Forgets, LosesAt};
+ghost use Rattle.plan_cache.specs.KeptRows.{rows_in, rows_kept, AddsFree, Forgets};
+ghost use Rattle.plan_cache.specs.Shelves.{LosesAt};
 
 use itpg_base::Touch;
 use label_scope::{Footprint, meets};

@@ -1,6 +1,7 @@
 use Rattle.std.proofs.Common.{◌≡◌, List, ◌∙◌, ◌+◌, length, take, sym, ap, subst, arith}
 use Rattle.plan_cache.specs.Nodes.{Kept}
-use Rattle.plan_cache.specs.Shelves.{Shelved, AddsFree}
+use Rattle.plan_cache.specs.KeptRows.{AddsFree}
+use Rattle.plan_cache.specs.Shelves.{Shelved}
 use Rattle.plan_cache.proofs.Footing.{children_there, begins_so, goes_on, on_err}
 use Rattle.plan_cache.proofs.Free.{one_more_free, one_longer}
 use Rattle.plan_cache.proofs.feet.add_places.Goals as goal

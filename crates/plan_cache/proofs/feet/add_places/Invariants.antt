@@ -1,6 +1,6 @@
 use Rattle.std.proofs.Common.{◌≡◌, ◌≤◌, length, take}
 use Rattle.plan_cache.specs.Footprints.{footprints_of}
-use Rattle.plan_cache.specs.Shelves.{AddsFree}
+use Rattle.plan_cache.specs.KeptRows.{AddsFree}
 use Rattle.plan_cache.proofs.feet.add_places.Given as goal
 
 abbrev pub invariant-loop-number : goal.invariant-loop-number

@@ -1,5 +1,6 @@
 use Rattle.std.proofs.Common.{map, option_map, take, sym, ap, subst, ◌∙◌}
-use Rattle.plan_cache.specs.Shelves.{Shelved, AddsFree}
+use Rattle.plan_cache.specs.KeptRows.{AddsFree}
+use Rattle.plan_cache.specs.Shelves.{Shelved}
 use Rattle.plan_cache.proofs.Free.{map_take, shelf_cut}
 use Rattle.plan_cache.proofs.shelf.Shelf.cut_back.Goals as goal
 
