@@ -1,5 +1,6 @@
 //! What each node's relation depends on, and the relation, if it is kept.
-ghost use Rattle.std.specs.Prelude.{◌≡◌, ◌+◌, ◌<◌, ◌≤◌, ◌↔◌, [], ◌∷◌, ◌++◌, length, take, slice_get, slice_set, Some, None, option_map, IfOk, IfErr, OnOk, OnErr, IsOk, IsTrue, IsSomeAnd};
+ghost use Rattle.std.specs.Prelude.{◌≡◌, ◌+◌, ◌<◌, ◌≤◌, ◌↔◌, [], ◌∷◌, ◌++◌, Some, None, option_map};
+ghost use Rattle.std.specs.Prelude.{length, take, slice_get, slice_set, IfErr, OnOk, OnErr, IsOk, IsSomeAnd};
 ghost use Rattle.plan_cache.specs.KeptRows.{rows_in, rows_kept, AddsFree, Forgets};
 ghost use Rattle.plan_cache.specs.Shelves.{LosesAt};
 
