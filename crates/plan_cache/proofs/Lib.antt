@@ -9,4 +9,7 @@ mod AlikeKeys
 mod Placing
 mod Adding
 mod Footing
+mod Forgetting
+pub mod Edited
 mod Known
+mod Free

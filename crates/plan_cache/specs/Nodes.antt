@@ -6,6 +6,7 @@ use Rattle.label_scope.specs.declared.scope.Scope.{Scope}
 use Rattle.label_scope.specs.declared.scope.Scope.TheVariants.{All}
 use Rattle.label_scope.specs.Narrowing.{narrowed}
 use Rattle.label_scope.specs.Members.{Member, middle, passed}
+use Rattle.relation_rows.specs.declared.rows.Row.{Row}
 use Rattle.plan_cache.specs.Operations.{PartTerm, Asks, Leads, BothHold, EitherHolds, Fails, OpTerm, Tests, GoesForward, GoesBackward, GoesNext, GoesPrevious, InTurn, OneOf, Times, op_children}
 
 -- a node: the path that it is read back as, between its two narrowed scopes, and the numbers of its children
@@ -13,9 +14,14 @@ pub record PlanNode : Type 0 where
   pub member : Member
   pub children : List ℕ
 
--- a table: its nodes, in order of their numbers
+-- the rows of a relation, if they are kept
+abbrev pub Kept : Type 0
+Kept = Option (List Row)
+
+-- a table: its nodes, in order of their numbers, and what is kept at each
 pub record Table : Type 0 where
   pub nodes : List PlanNode
+  pub kept : List Kept
 
 -- the path between these scopes, narrowed
 abbrev pub narrowed_member : PathTerm → Scope → Scope → Member

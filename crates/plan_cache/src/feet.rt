@@ -3,25 +3,33 @@ ghost use Rattle.std.specs.Prelude.{◌≡◌, ◌<◌, ◌≤◌, Some, length,
 ghost use Rattle.plan_cache.specs.Operations.{part_term, part_children};
 ghost use Rattle.plan_cache.specs.Nodes.{conditions, parts_of, test_read_back};
 ghost use Rattle.plan_cache.specs.Footprints.{footprint_of, footprints_of, AreFootprintsOf};
+ghost use Rattle.plan_cache.specs.KeptRows.{AddsFree};
 ghost use Rattle.label_scope.specs.declared.footprint.Footprint.{Footprint};
 ghost use Rattle.label_scope.specs.Footprints.{asked_of, of_either};
 
 use crate::nodes::Nodes;
 use crate::operations::{PlanNo, PlanOp, PlanTest};
+use crate::shelf::Shelf;
 use label_scope::{Footprint, Scope};
 use std::alloc::AllocError;
 
-/// Adds the footprints of the nodes that have none yet. Those before stay.
-pub(crate) fn add_feet(nodes: &Nodes, feet: &mut Vec<Footprint>) -> Result<(), AllocError>
-    requires few { length feet.old.items ≤ length nodes.now }
-    requires feet { feet.old.items ≡ footprints_of (take (length feet.old.items) nodes.now) }
-    ensures all { OnOk result (feet.new.items ≡ footprints_of nodes.now) }
-    ensures first { OnErr result (take (length feet.old.items) feet.new.items ≡ feet.old.items) }
+/// Adds a place with its footprint for each node that has none yet. Nothing is kept there.
+///
+/// # Errors
+///
+/// If memory runs out. Then some nodes have their places, and the places before stay.
+pub(crate) fn add_places(nodes: &Nodes, shelf: &mut Shelf) -> Result<(), AllocError>
+    requires few { length shelf.old.feet ≤ length nodes.now }
+    requires feet { shelf.old.feet ≡ footprints_of (take (length shelf.old.feet) nodes.now) }
+    ensures all { OnOk result (shelf.new.feet ≡ footprints_of nodes.now) }
+    ensures each { length shelf.new.kept ≡ length shelf.new.feet }
+    ensures first { OnErr result (take (length shelf.old.feet) shelf.new.feet ≡ shelf.old.feet) }
+    ensures free { AddsFree shelf.old.kept shelf.new.kept }
 {
     let count = nodes.len();
-    for number in feet.len() as u32..count {
-        let foot = foot_of(nodes, feet, PlanNo(number))?;
-        feet.push(foot)?;
+    for number in shelf.len() as u32..count {
+        let foot = foot_of(nodes, shelf.feet(), PlanNo(number))?;
+        shelf.push(foot)?;
     }
     Ok(())
 }

@@ -12,8 +12,10 @@ mod laws;
 mod nodes;
 mod operations;
 mod plans;
+mod shelf;
 
-pub use laws::{law_of_known_paths, law_of_lower_children};
+pub use laws::{law_of_forgetting, law_of_known_paths, law_of_lower_children};
 pub use nodes::MAX_NODES;
 pub use operations::{PlanNo, PlanOp, PlanTest};
 pub use plans::Plans;
+pub use shelf::MAX_KEPT_ROWS;
