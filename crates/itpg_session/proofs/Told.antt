@@ -1,5 +1,5 @@
 -- What is seen of a reply, and the parts of deciding one.
-use Rattle.std.proofs.Common.{◌≡◌, ◌≢◌, ℕ, List, [], true, false, refl, ap}
+use Rattle.std.proofs.Common.{◌≡◌, ◌≢◌, ℕ, List, [], true, false, refl, ap, sym, subst}
 use Rattle.std.specs.Prelude.{Result, Ok, Err}
 use Rattle.itpg_base.specs.Graphs.{Graph}
 use Rattle.itpg_base.specs.declared.rule_code.RuleCode.{RuleCode}
@@ -54,6 +54,10 @@ module _ {P : Turn → Type 0} where
   -- something is said, or nothing changes
   pub said : (s : Standing) (reply : Reply) → P (told s.machine reply) → IsDecided P s s reply
   said s reply p = record { turns = p; waits = λ some. refl; limit = refl }
+
+  -- the same where what it was said to is the session still
+  pub said_still : (old new : Standing) (reply : Reply) → new ≡ old → P (told old.machine reply) → IsDecided P old new reply
+  said_still old new reply same p = subst (λ (s : Standing). IsDecided P old s reply) (sym same) (said old reply p)
 
   -- nothing is said
   pub silent : (old new : Standing) → new.limit ≡ old.limit → P (told new.machine Silent) → IsDecided P old new Silent

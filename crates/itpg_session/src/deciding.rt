@@ -1,11 +1,12 @@
 //! Deciding the reply to a line. An edit, a watch or an unwatch that is accepted is made here; nothing is written.
-ghost use Rattle.std.specs.Prelude.{◌<◌, ◌||◌, length, slice_get, IfOk, IsSome, IsSomeAnd, IsTrue};
+ghost use Rattle.std.specs.Prelude.{◌≡◌, ◌<◌, ◌≤◌, ◌||◌, length, slice_get, IfOk, IsSome, IsSomeAnd, IsTrue};
 ghost use Rattle.itpg_edit.specs.Rules.{NoneOf};
 ghost use Rattle.itpg_edit.specs.Sites.{HasMoments};
 ghost use Rattle.edit_reader.specs.Readings.{reading_of, Changes};
 ghost use Rattle.edit_reader.specs.Moments.{AsksOfMoments};
 ghost use Rattle.path_ast.specs.Terms.{query_term, path_term};
-ghost use Rattle.path_ast.specs.Sizes.{IsPathInRange};
+ghost use Rattle.path_ast.specs.Sizes.{path_size, IsPathInRange};
+ghost use Rattle.path_ast.specs.declared.counts.TheConstants.{MAX_TERMS};
 ghost use Rattle.itpg_session.specs.Rules.{QueryBreaks, NameBreaks, TickBreaks, ask_rules, name_rules, tick_rules};
 ghost use Rattle.itpg_session.specs.Replies.{reply_of, line_reply, IsFound};
 ghost use Rattle.itpg_session.specs.Machine.{Answers, WatchesText, WatchesQuery, ShowsName, DropsName, TicksOrNot, Replies};
@@ -79,6 +80,7 @@ impl Session {
     // Watches a query, unless a rule forbids it.
     fn watch_query(&mut self, name: Name, query: Query) -> Result<Reply, AllocError>
         requires in_range { IsPathInRange (path_term query.path) }
+        requires terms { path_size (path_term query.path) ≤ MAX_TERMS }
         requires ends { IsTrue (query.first || query.last) }
         ensures { Decides (WatchesQuery self.old.machine name (query_term query)) (Unit {0}) self.old self.new result }
     {
@@ -91,6 +93,7 @@ impl Session {
     // Watches a query that may be asked, unless the name or the number of watches forbids it.
     fn add_watch(&mut self, name: Name, query: Query) -> Result<Reply, AllocError>
         requires in_range { IsPathInRange (path_term query.path) }
+        requires terms { path_size (path_term query.path) ≤ MAX_TERMS }
         requires ends { IsTrue (query.first || query.last) }
         requires asked { NoneOf (QueryBreaks self.old.machine.graph (query_term query)) ask_rules }
         ensures { Decides (WatchesQuery self.old.machine name (query_term query)) (Unit {0}) self.old self.new result }
@@ -104,8 +107,8 @@ impl Session {
     }
 
     // Shows what is found for the query of the watch of this name.
-    fn show(&self, name: &Name) -> Result<Reply, AllocError>
-        ensures { Decides (ShowsName self.now.limit self.now.machine name.now) (NoneOf (NameBreaks self.now.machine.graph self.now.machine.watches name.now) name_rules) self.now self.now result }
+    fn show(&mut self, name: &Name) -> Result<Reply, AllocError>
+        ensures { Decides (ShowsName self.old.limit self.old.machine name.now) (NoneOf (NameBreaks self.old.machine.graph self.old.machine.watches name.now) name_rules) self.old self.new result }
     {
         match place_of(&self.graph, &self.watches, name) {
             Ok(place) => Ok(Reply::from(self.show_at(place)?)),
@@ -114,14 +117,16 @@ impl Session {
     }
 
     // What is found for the query of the watch at a place.
-    fn show_at(&self, place: usize) -> Result<Asked, AllocError>
-        requires begun { IsSome self.now.machine.graph.begun }
-        requires there { place < length self.now.machine.watches }
-        ensures { IfOk result (λ asked. IsSomeAnd (slice_get self.now.machine.watches place) (λ w. IsFound self.now.machine.graph self.now.limit w.query (reply_of asked))) }
+    fn show_at(&mut self, place: usize) -> Result<Asked, AllocError>
+        requires begun { IsSome self.old.machine.graph.begun }
+        requires there { place < length self.old.machine.watches }
+        ensures found { IfOk result (λ asked. IsSomeAnd (slice_get self.old.machine.watches place) (λ w. IsFound self.old.machine.graph self.old.limit w.query (reply_of asked))) }
+        ensures same { self.new ≡ self.old }
     {
         found(
             self.alloc,
             &self.graph,
+            &mut self.plans,
             self.limits.max_rows(),
             self.watches.query(place),
         )
@@ -141,8 +146,8 @@ impl Session {
     }
 
     // Finds of each watch what was gained and lost since the tick before, or refuses to.
-    fn tick(&self) -> Result<Reply, AllocError>
-        ensures { Decides (TicksOrNot self.now.limit self.now.machine) (NoneOf (TickBreaks self.now.machine.graph) tick_rules) self.now self.now result }
+    fn tick(&mut self) -> Result<Reply, AllocError>
+        ensures { Decides (TicksOrNot self.old.limit self.old.machine) (NoneOf (TickBreaks self.old.machine.graph) tick_rules) self.old self.new result }
     {
         if let Some(rule) = broken_by_tick(&self.graph) {
             return Ok(Reply::Refused(rule));
@@ -150,6 +155,7 @@ impl Session {
         let found = tick_all(
             self.alloc,
             &self.graph,
+            &mut self.plans,
             self.limits.max_rows(),
             &self.watches,
         )?;

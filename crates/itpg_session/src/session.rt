@@ -16,6 +16,7 @@ use crate::texts::{write_bad, write_refused, write_rows, write_wide};
 use crate::ticking::{move_bases, write_all};
 use itpg_base::{Failed, Limits, Sink};
 use itpg_graph::Graph;
+use plan_cache::Plans;
 use standing_queries::Watches;
 use std::alloc::{AllocError, Global};
 use std::marker::Model;
@@ -54,7 +55,8 @@ impl From<Failed> for StepFault {
     }
 }
 
-/// A graph, the watches on it, and the limits of what is kept of it: what the lines so far have left.
+/// A graph, the watches on it, the plan nodes of what was asked, and the limits of what is kept: what the lines so far have
+/// left.
 ///
 /// ```text
 ///     line 1   graph g 0 100         nothing is written
@@ -72,6 +74,7 @@ impl From<Failed> for StepFault {
 pub struct Session {
     pub(crate) graph: Graph,
     pub(crate) watches: Watches,
+    pub(crate) plans: Plans,
     pub(crate) limits: Limits,
     pub(crate) alloc: Global,
 }
@@ -100,6 +103,7 @@ impl Session {
         Session {
             graph: Graph::new(alloc),
             watches: Watches::new(alloc),
+            plans: Plans::new(alloc),
             limits,
             alloc,
         }
@@ -119,7 +123,8 @@ impl Session {
         &self.watches
     }
 
-    /// The reply to a question with this query text, as a value. The session stays as it is.
+    /// The reply to a question with this query text, as a value. The session stays as it is, but for the plan nodes that it
+    /// has for later questions.
     ///
     /// ```text
     ///     MATCH (x:Person)              Rows: the moments at which each of them exists
@@ -136,13 +141,20 @@ impl Session {
     /// # Errors
     ///
     /// If memory runs out.
-    pub fn ask(&self, text: &[u8]) -> Result<Asked, AllocError>
-        ensures reply { IfOk result (λ asked. IsReply self.now.machine.graph self.now.limit text.now (reply_of asked)) }
-        ensures only { IfOk result (λ asked. (reply : PlainReply) → IsReply self.now.machine.graph self.now.limit text.now reply → reply_of asked ≡ reply) }
-        ensures declared { IfOk result (λ asked. NamesDeclared self.now.machine.graph (reply_of asked)) }
+    pub fn ask(&mut self, text: &[u8]) -> Result<Asked, AllocError>
+        ensures reply { IfOk result (λ asked. IsReply self.old.machine.graph self.old.limit text.now (reply_of asked)) }
+        ensures only { IfOk result (λ asked. (reply : PlainReply) → IsReply self.old.machine.graph self.old.limit text.now reply → reply_of asked ≡ reply) }
+        ensures declared { IfOk result (λ asked. NamesDeclared self.old.machine.graph (reply_of asked)) }
+        ensures same { self.new ≡ self.old }
     {
         law_of_asked();
-        reply_to(self.alloc, &self.graph, self.limits.max_rows(), text)
+        reply_to(
+            self.alloc,
+            &self.graph,
+            &mut self.plans,
+            self.limits.max_rows(),
+            text,
+        )
     }
 
     /// Takes a line without its LF, which has the number `no`, and writes its reply.

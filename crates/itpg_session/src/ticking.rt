@@ -13,6 +13,7 @@ use crate::texts::{tick_head, tick_wide};
 use itpg_base::{Failed, Name, Sink};
 use itpg_graph::Graph;
 use path_eval::EvalFault;
+use plan_cache::Plans;
 use relation_rows::Answer;
 use row_printer::print_rows;
 use standing_queries::{GainLoss, Watches, changes};
@@ -37,6 +38,7 @@ pub(crate) enum Ticked {
 pub(crate) fn tick_all(
     alloc: Global,
     graph: &Graph,
+    plans: &mut Plans,
     max_rows: u32,
     watches: &Watches,
 ) -> Result<Vec<Ticked>, AllocError>
@@ -45,7 +47,7 @@ pub(crate) fn tick_all(
 {
     let mut found = Vec::new(alloc);
     for place in 0..watches.len() {
-        found.push(tick_one(alloc, graph, max_rows, watches, place)?)?;
+        found.push(tick_one(alloc, graph, plans, max_rows, watches, place)?)?;
     }
     Ok(found)
 }
@@ -54,6 +56,7 @@ pub(crate) fn tick_all(
 fn tick_one(
     alloc: Global,
     graph: &Graph,
+    plans: &mut Plans,
     max_rows: u32,
     watches: &Watches,
     place: usize,
@@ -63,7 +66,7 @@ fn tick_one(
     ensures { IfOk result (λ found. IsSomeAnd (slice_get watches.now place) (λ w. IsTicked graph.now max_rows w (ticked_of found))) }
 {
     let name = watches.name(place);
-    match find(alloc, graph, max_rows, watches.query(place)) {
+    match find(alloc, graph, plans, max_rows, watches.query(place)) {
         Ok(now) => {
             let changes = changes(alloc, watches.base(place), &now)?;
             Ok(Ticked::Moves { name, now, changes })

@@ -12,7 +12,7 @@ use Rattle.script_lex.specs.declared.mark.Mark.TheVariants.{ParenR, BraceR, Plus
 use Rattle.script_lex.specs.Lexemes.{AWord, AMark}
 use Rattle.script_lex.specs.Numbers.{number_value, digits_of}
 use Rattle.script_lex.specs.declared.numbers.TheConstants.{MAX_NUMBER}
-use Rattle.match_parser.specs.declared.checks.TheConstants.{MAX_TERMS}
+use Rattle.path_ast.specs.declared.counts.TheConstants.{MAX_TERMS}
 use Rattle.path_ast.specs.Terms.{PathTerm, TestTerm, QueryTerm}
 use Rattle.path_ast.specs.Sizes.{path_size, IsBoundInRange, IsPathInRange, IsTestInRange}
 use Rattle.match_parser.specs.declared.words.Keyword.TheVariants.{Or}

@@ -13,7 +13,7 @@ use Rattle.script_lex.specs.Lexemes.{Lexeme}
 use Rattle.script_lex.specs.Lines.{Placed, behind_blanks, AreTokens}
 use Rattle.script_lex.proofs.Rows.{one_of_two}
 use Rattle.script_lex.specs.declared.token.TheConstants.{MAX_TOKENS}
-use Rattle.match_parser.specs.declared.checks.TheConstants.{MAX_TERMS}
+use Rattle.path_ast.specs.declared.counts.TheConstants.{MAX_TERMS}
 use Rattle.match_parser.specs.declared.scan.TheConstants.{MAX_DEPTH}
 use Rattle.path_ast.specs.Terms.{QueryTerm}
 use Rattle.path_ast.specs.Sizes.{path_size}

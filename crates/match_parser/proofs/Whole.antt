@@ -13,7 +13,7 @@ use Rattle.script_lex.specs.Numbers.{IsNumber, number_value}
 use Rattle.itpg_base.specs.Spans.{IsMoment}
 use Rattle.itpg_base.specs.TextCodes.{text_place}
 use Rattle.script_lex.specs.declared.token.TheConstants.{MAX_TOKENS}
-use Rattle.match_parser.specs.declared.checks.TheConstants.{MAX_TERMS}
+use Rattle.path_ast.specs.declared.counts.TheConstants.{MAX_TERMS}
 use Rattle.match_parser.specs.Kept.{is_tame}
 use Rattle.path_ast.specs.Terms.{QueryTerm}
 use Rattle.path_ast.specs.Sizes.{path_size}

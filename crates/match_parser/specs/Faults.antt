@@ -8,7 +8,7 @@ use Rattle.script_lex.specs.Numbers.{number_value}
 use Rattle.script_lex.specs.declared.mark.Mark.TheVariants.{ParenL, ParenR, BraceL, BraceR, BrackL, BrackR}
 use Rattle.script_lex.specs.declared.token.TheConstants.{MAX_TOKENS}
 use Rattle.itpg_base.specs.declared.name.TheConstants.{MAX_NAME}
-use Rattle.match_parser.specs.declared.checks.TheConstants.{MAX_TERMS}
+use Rattle.path_ast.specs.declared.counts.TheConstants.{MAX_TERMS}
 use Rattle.match_parser.specs.declared.scan.TheConstants.{MAX_DEPTH}
 use Rattle.path_ast.specs.Terms.{PathTerm, OfTest, Forward, Backward, Next, Previous, Sequence, Choice, Repetition, TestTerm, IsNode, IsEdge, HasLabel, HasValue, IsBelow, DoesExist, Condition, Conjunction, Disjunction, Negation}
 use Rattle.path_ast.specs.Sizes.{path_size}

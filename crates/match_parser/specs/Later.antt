@@ -6,7 +6,7 @@ use Rattle.itpg_base.specs.declared.text_code.TextCode.{TextCode}
 use Rattle.itpg_base.specs.declared.text_code.TextCode.TheVariants.{Number, Name, Range, Names, Terms}
 use Rattle.script_lex.specs.declared.token.What.{What}
 use Rattle.script_lex.specs.Lexemes.{Lexeme, lexeme, AWord, ANumber, AQuote, AMark}
-use Rattle.match_parser.specs.declared.checks.TheConstants.{MAX_TERMS}
+use Rattle.path_ast.specs.declared.counts.TheConstants.{MAX_TERMS}
 use Rattle.path_ast.specs.Sizes.{path_size}
 use Rattle.match_parser.specs.Faults.{has_backwards}
 use Rattle.match_parser.specs.Kept.{is_tame}

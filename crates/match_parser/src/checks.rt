@@ -10,11 +10,8 @@ ghost use Rattle.script_lex.specs.Lexemes.{lexeme};
 use crate::kept::tame_value;
 use crate::patterns::Chain;
 use itpg_base::{MAX_NAME, TextCode};
-use path_ast::{Path, Test, terms};
+use path_ast::{MAX_TERMS, Path, Test, terms};
 use script_lex::What;
-
-/// How many terms the path of a query may have.
-pub const MAX_TERMS: usize = 1_024;
 
 // Whether the token is a number out of range.
 fn is_wild(what: &What) -> bool

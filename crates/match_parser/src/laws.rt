@@ -4,7 +4,7 @@ ghost use Rattle.itpg_base.specs.declared.text_code.TextCode.{TextCode};
 ghost use Rattle.path_ast.specs.Terms.{QueryTerm};
 ghost use Rattle.path_ast.specs.Sizes.{path_size, IsPathInRange};
 ghost use Rattle.match_parser.specs.Reading.{Reads, FaultOf};
-ghost use Rattle.match_parser.specs.declared.checks.TheConstants.{MAX_TERMS};
+ghost use Rattle.path_ast.specs.declared.counts.TheConstants.{MAX_TERMS};
 
 use script_lex::law_of_tokens;
 

@@ -6,6 +6,9 @@ ghost use Rattle.path_ast.specs.Sizes.{path_size, test_size};
 
 use crate::ast::{Path, Test};
 
+/// How many terms the path of a query may have.
+pub const MAX_TERMS: usize = 1_024;
+
 /// The number of paths and tests in a path, where a path that is a test counts only its test.
 ///
 /// The path has at most 100,000 of them. `F/:meets` has three: the sequence, the axis and the test.

@@ -11,7 +11,7 @@ mod counts;
 mod laws;
 
 pub use ast::{Leaf, Path, Query, Test};
-pub use counts::terms;
+pub use counts::{MAX_TERMS, terms};
 pub use laws::{
     law_of_associativity, law_of_axes_and_kinds, law_of_decided_paths, law_of_decided_tests,
     law_of_kept_objects, law_of_points, law_of_powers, law_of_reverse_axes, law_of_steps,

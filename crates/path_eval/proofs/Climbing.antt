@@ -12,19 +12,9 @@ use Rattle.label_scope.specs.Members.{Member, worked, worked_conditions, middle,
 use Rattle.plan_cache.specs.Nodes.{PlanNode, AreShared, AreNodesOf, IsNodeOf, narrowed_member, conditions, parts, parts_of}
 use Rattle.plan_cache.specs.Growing.{IsChild}
 use Rattle.path_eval.specs.Evaluated.{members_of}
+use Rattle.path_eval.proofs.Working.{members_are}
 
--- the members of a path are those between its narrowed scopes
-members_are : (p : PathTerm) (a b : Scope) → members_of (narrowed_member p a b) ≡ worked p a b
-members_are (OfTest c) a b = refl
-members_are Forward a b = refl
-members_are Backward a b = refl
-members_are Next a b = refl
-members_are Previous a b = refl
-members_are (Sequence p q) a b = refl
-members_are (Choice p q) a b = refl
-members_are (Repetition r n m) a b = refl
-
--- so are those of a part that is known by an equation
+-- the members of a part that is known by an equation
 of_part : (p : PathTerm) (a b : Scope) (part m : Member) → narrowed_member p a b ≡ part → Among (members_of part) m → Among (worked p a b) m
 of_part p a b part m e h = subst (λ (v : List Member). Among v m) (members_are p a b) (subst (λ (v : Member). Among (members_of v) m) (sym e) h)
 

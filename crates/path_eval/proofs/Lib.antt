@@ -11,6 +11,7 @@ pub mod Marking
 pub mod Climbing
 pub mod Filled
 pub mod Steps
+pub mod Asked
 pub mod Walking
 pub mod Bounded
 pub mod Diagonals

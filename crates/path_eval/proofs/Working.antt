@@ -33,7 +33,7 @@ use Rattle.path_eval.proofs.MembersWithin.{none_fit, fit_both}
 use Rattle.path_eval.proofs.Joining.{sequence_from, from_sequence, choice_from, from_choice}
 
 -- the members of a path are those between its narrowed scopes
-members_are : (p : PathTerm) (a b : Scope) → members_between p (narrowed p a b).sources (narrowed p a b).targets ≡ worked p a b
+pub members_are : (p : PathTerm) (a b : Scope) → members_between p (narrowed p a b).sources (narrowed p a b).targets ≡ worked p a b
 members_are (OfTest c) a b = refl
 members_are Forward a b = refl
 members_are Backward a b = refl

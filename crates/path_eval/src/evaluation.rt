@@ -36,6 +36,7 @@ pub fn relation(
     requires there { no.0 < length plans.now.nodes }
     ensures rows { IfOk result (λ r. IsSomeAnd (slice_get plans.now.nodes no.0) (λ n. IsRight graph.now max_rows n.member r.value)) }
     ensures wide { IsErrOf result RelFault.Wide → IsSomeAnd (slice_get plans.now.nodes no.0) (λ n. NeedsWide graph.now max_rows n.member) }
+    ensures good { Good graph.now }
 {
     let whole = Part::whole(graph);
     let ground = Ground {

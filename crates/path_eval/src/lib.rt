@@ -1,9 +1,9 @@
-//! The relation of a path between two scopes, worked out on a graph, and the answer of a query.
+//! The relation of a plan node, worked out on a graph, and the answer of a query.
 //!
-//! Stands on `plan_cache`, whose nodes it works out, on `condition_eval`, by which tests are worked out, on `relation_rows`, by whose operations paths are, on
-//! `repeat_engine`, by which repetitions are, and on `label_scope`, whose scopes say between which objects. It promises that
-//! each path gives the normal rows of exactly what it means, and that a limit of rows refuses it exactly if some member
-//! that is worked out on the way has more. By its laws each question has one answer.
+//! Stands on `plan_cache`, whose nodes it works out, on `condition_eval`, by which tests are worked out, on `relation_rows`, by
+//! whose operations paths are, on `repeat_engine`, by which repetitions are, and on `label_scope`, whose scopes say between which
+//! objects. It promises that each node gives the normal rows of exactly what its path means, and that a limit of rows refuses it
+//! exactly if some member that is worked out on the way has more. By its laws each question has one answer.
 #![tactic(auto)]
 
 mod answering;

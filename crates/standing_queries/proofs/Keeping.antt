@@ -8,7 +8,8 @@ use Rattle.std.specs.Cmp.Lexicographic.{pointwise}
 use Rattle.itpg_base.specs.Words.{Word}
 use Rattle.itpg_base.proofs.Objects.{word_same, word_refl}
 use Rattle.path_ast.specs.Terms.{QueryTerm, query_term, path_term}
-use Rattle.path_ast.specs.Sizes.{IsPathInRange}
+use Rattle.path_ast.specs.Sizes.{path_size, IsPathInRange}
+use Rattle.path_ast.specs.declared.counts.TheConstants.{MAX_TERMS}
 use Rattle.itpg_base.specs.Lists.{Among}
 use Rattle.relation_rows.specs.declared.answered.Answer.{Answer}
 use Rattle.relation_rows.specs.Answered.{Answered, pairs, times, answered}
@@ -102,9 +103,9 @@ pushed items ws k v e =
     ∙ ap (λ (b : Answered). ws ++ record { name = k.name; query = query_term k.query; base = b } ∷ []) e
 
 pub pushed_sound : (items : List Kept) (ws : List Watch) (k : Kept) → map watch_of items ≡ ws → answered k.base ≡ no_rows (query_term k.query) → AreSound (map watch_of items)
-    → IsPathInRange (path_term k.query.path) → IsTrue (k.query.first || k.query.last) → (IsWatched ws k.name → ⊥) → length items < 32 → AreSound (map watch_of (items ++ k ∷ []))
-pushed_sound items ws k v e s in_range ends none few =
+    → IsPathInRange (path_term k.query.path) → path_size (path_term k.query.path) ≤ MAX_TERMS → IsTrue (k.query.first || k.query.last) → (IsWatched ws k.name → ⊥) → length items < 32 → AreSound (map watch_of (items ++ k ∷ []))
+pushed_sound items ws k v e s in_range terms ends none few =
     subst AreSound (sym (pushed items ws k v e))
     (sound_more ws (new_watch k.name (query_term k.query)) (subst AreSound v s)
-    (record { in_range = in_range; ends = ends; kind = kind_of_none (asks_for_both (query_term k.query)) (query_term k.query) refl })
+    (record { in_range = in_range; terms = terms; ends = ends; kind = kind_of_none (asks_for_both (query_term k.query)) (query_term k.query) refl })
     none (let same = ap length v in omega (arith, length-map items watch_of)))

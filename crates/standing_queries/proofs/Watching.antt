@@ -151,7 +151,7 @@ rebased_few (suc i) b (w ∷ ws) = ap suc (rebased_few i b ws)
 rebased_each : (i : ℕ) (b : Answered) (ws : List Watch) → ((w : Watch) → Among ws w → IsSound w) → IsSomeAnd (slice_get ws i) (λ w. IsOfKind w.query b)
     → (x : Watch) → Among (rebased i b ws) x → IsSound x
 rebased_each i b [] each k x a = absurd a
-rebased_each zero b (w ∷ ws) each k x (inl e) = let s = each w (inl refl) in subst IsSound e (record { in_range = s.in_range; ends = s.ends; kind = k })
+rebased_each zero b (w ∷ ws) each k x (inl e) = let s = each w (inl refl) in subst IsSound e (record { in_range = s.in_range; terms = s.terms; ends = s.ends; kind = k })
 rebased_each zero b (w ∷ ws) each k x (inr a) = each x (inr a)
 rebased_each (suc i) b (w ∷ ws) each k x (inl e) = each x (inl e)
 rebased_each (suc i) b (w ∷ ws) each k x (inr a) = rebased_each i b ws (λ v c. each v (inr c)) k x a

@@ -2,7 +2,8 @@
 ghost use Rattle.std.specs.Prelude.{◌≡◌, ◌↔◌, ◌<◌, ◌≤◌, ◌||◌, [], ◌∷◌, ◌++◌, length, slice_get};
 ghost use Rattle.std.specs.Prelude.{IsTrue, IfSome, IsNone, IsSomeAnd, IfOk, OnOk, OnErr, IsErrOf, IsErr};
 ghost use Rattle.path_ast.specs.Terms.{query_term, path_term};
-ghost use Rattle.path_ast.specs.Sizes.{IsPathInRange};
+ghost use Rattle.path_ast.specs.Sizes.{path_size, IsPathInRange};
+ghost use Rattle.path_ast.specs.declared.counts.TheConstants.{MAX_TERMS};
 ghost use Rattle.relation_rows.specs.Answered.{answered};
 ghost use Rattle.standing_queries.specs.Watches.{most_watches, IsWatched, IsOfKind, no_rows as rows_of_none, new_watch, without, rebased};
 
@@ -99,6 +100,7 @@ impl Watches {
     /// Then the watches stay as they are.
     pub fn add(&mut self, name: Name, query: Query) -> Result<(), WatchFault>
         requires in_range { IsPathInRange (path_term query.path) }
+        requires terms { path_size (path_term query.path) ≤ MAX_TERMS }
         requires ends { IsTrue (query.first || query.last) }
         ensures added { OnOk result (self.new ≡ self.old ++ new_watch name (query_term query) ∷ []) }
         ensures same { OnErr result (self.new ≡ self.old) }
@@ -168,6 +170,7 @@ impl Watches {
         requires { i < length self.now }
         ensures query { IsSomeAnd (slice_get self.now i) (λ w. w.query ≡ query_term result.now) }
         ensures in_range { IsPathInRange (path_term result.now.path) }
+        ensures terms { path_size (path_term result.now.path) ≤ MAX_TERMS }
         ensures ends { IsTrue (result.now.first || result.now.last) }
     {
         &self.items[i].query

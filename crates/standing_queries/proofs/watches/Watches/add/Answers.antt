@@ -17,4 +17,4 @@ invariant_of-self-2 c =
     let pushed : c.push_reserved.new.self.items ≡ items ++ kept ∷ [] = c.push_reserved.ensures.items ∙ ap (λ (v : List Kept). v ++ kept ∷ []) c.reserve.ensures.items in
     let few : length items < 32 = search rules in
     subst (λ (v : List Kept). AreSound (map watch_of v)) (sym pushed)
-    (pushed_sound items c.args.self.now kept c.self.view_is c.in_ok-base.ensures c.self.invariant c.requires.in_range c.requires.ends (c.find.ensures.none.0 (sym c.is_some.ensures ∙ c.if-is_some.false)) few)
+    (pushed_sound items c.args.self.now kept c.self.view_is c.in_ok-base.ensures c.self.invariant c.requires.in_range c.requires.terms c.requires.ends (c.find.ensures.none.0 (sym c.is_some.ensures ∙ c.if-is_some.false)) few)
