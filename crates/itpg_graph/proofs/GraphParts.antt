@@ -226,7 +226,7 @@ seen_nodes g seen None e (Some ends) same are stands is nodes = subst (λ p. IsN
 seen_nodes g seen (Some objects) e (Some ends) same are stands is nodes =
     let here = part_stands g objects e (subst (λ p. Stands p e) (sym same) stands) in
     let at : (a : ℕ) → HasEnd g e a → IsNode g a → IsNode seen a = λ a has node.
-        subst (λ p. IsNode p a) same (to_part g (only_of g objects) (HasNumber objects) (only_is g objects) _ a (are.ends e a here.0 has) node) in
+    subst (λ p. IsNode p a) same (to_part g (only_of g objects) (HasNumber objects) (only_is g objects) _ a (are.ends e a here.0 has) node) in
     (at ends.0.0 (source_end g e ends here.1 is) nodes.0, at ends.1.0 (target_end g e ends here.1 is) nodes.1)
 
 -- what is so of an edge by which the object is left, or reached
