@@ -1,11 +1,10 @@
 -- A part of a good graph that holds the ends of its edges is good; and a list of objects makes a part.
-use Rattle.std.proofs.Common.{◌≡◌, ◌⊎◌, inl, inr, ℕ, zero, suc, ◌+◌, ◌<◌, ◌≤◌, ℤ, List, [], ◌∷◌, ◌++◌, length, Bool, true, false, ◌||◌, cond, Option, Some, None, refl, sym, ◌∙◌, subst, ap, arith, true≢false}
+use Rattle.std.proofs.Common.{◌≡◌, ◌⊎◌, inl, inr, ℕ, zero, suc, ◌+◌, ◌≤◌, ℤ, List, [], ◌∷◌, length, Bool, true, false, ◌||◌, cond, Option, Some, None, refl, sym, ◌∙◌, subst, ap, arith, true≢false}
 use Rattle.std.specs.Prelude.{IsTrue, IsSomeAnd, IfSome, option_map, slice_get, ◌↔◌}
-use Rattle.std.proofs.lemmas.Bool.Decides.{eqb_tells, leb_tells}
+use Rattle.std.proofs.lemmas.Bool.Decides.{eqb_tells}
 use Rattle.std.proofs.lemmas.Option.{slice_get_within}
 use Rattle.itpg_base.specs.Spans.{Within}
 use Rattle.itpg_base.specs.Words.{Word}
-use Rattle.itpg_graph.proofs.Rising.{pushed_has, has_pushed, pushed_rising}
 use Rattle.interval_set.specs.Runs.{AreRunsOf}
 use Rattle.itpg_base.specs.Graphs.{Graph, HasEnd, Ends, Good, Valued, Begun, Object, IsObject, IsBegun, ObjectIs, Stands, Val, PropertiesHave}
 use Rattle.itpg_base.proofs.Objects.{there}

@@ -1,5 +1,5 @@
 -- The next number of a rising list.
-use Rattle.std.proofs.Common.{◌≡◌, ℕ, ◌<◌, ◌≤◌, List, length, get_or, Bool, true, false, Option, Some, None, Bor, inl, inr, refl, sym, subst, arith, true≢false}
+use Rattle.std.proofs.Common.{◌≡◌, ℕ, ◌<◌, ◌≤◌, List, length, get_or, Bool, true, false, Option, Some, None, Bor, inl, inr, sym, subst, arith, true≢false}
 use Rattle.std.specs.Prelude.{nat_lt, is_some, IfSome, IsNone}
 use Rattle.std.specs.Option.{option_copied}
 use Rattle.std.specs.List.Sorted.{IsPartitionedBy, IsPartitionPoint}

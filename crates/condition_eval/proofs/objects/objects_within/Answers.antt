@@ -1,4 +1,4 @@
-use Rattle.std.proofs.Common.{◌+◌, ◌-◌, ◌<◌, ℕ, length, sym, ◌∙◌, subst, ap, refl, arith, true≢false}
+use Rattle.std.proofs.Common.{◌+◌, ◌-◌, ◌<◌, length, sym, ◌∙◌, subst, ap, refl, arith, true≢false}
 use Rattle.std.specs.Global.{Global}
 use Rattle.std.specs.declared.vec.Vec.{Vec}
 use Rattle.itpg_base.specs.declared.object_number.ObjNo.{ObjNo}
