@@ -1,4 +1,5 @@
 pub mod Silence
+pub mod SimpleLines
 pub mod Counting
 pub mod Taking
 pub mod Stepping

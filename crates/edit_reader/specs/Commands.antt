@@ -24,7 +24,7 @@ command_word Command.Tick = codes "tick"
 -- all commands
 abbrev pub commands : List Command
 commands =
-    Command.Graph ∷ Command.Node ∷ Command.Edge ∷ Command.Live ∷ Command.Gone ∷ Command.Set ∷ Command.Unset ∷ Command.Drop ∷ Command.Ask ∷ Command.Watch ∷ Command.Show ∷ Command.Unwatch ∷ Command.Tick ∷ []
+    Command.Live ∷ Command.Set ∷ Command.Node ∷ Command.Edge ∷ Command.Gone ∷ Command.Unset ∷ Command.Drop ∷ Command.Ask ∷ Command.Show ∷ Command.Tick ∷ Command.Watch ∷ Command.Unwatch ∷ Command.Graph ∷ []
 
 -- the command that has this word
 unfoldable pub command_of : List ℕ → Option Command

@@ -7,5 +7,6 @@ pub mod Moments
 pub mod Steps
 pub mod Telling
 pub mod Scans
+pub mod Simple
 pub mod Taken
 pub mod Answers

@@ -19,20 +19,21 @@ pub(crate) enum Command {
     Tick,
 }
 
+// The words that scripts have most of stand first.
 const COMMANDS: [Command; 13] = [
-    Command::Graph,
+    Command::Live,
+    Command::Set,
     Command::Node,
     Command::Edge,
-    Command::Live,
     Command::Gone,
-    Command::Set,
     Command::Unset,
     Command::Drop,
     Command::Ask,
-    Command::Watch,
     Command::Show,
-    Command::Unwatch,
     Command::Tick,
+    Command::Watch,
+    Command::Unwatch,
+    Command::Graph,
 ];
 
 impl Command {

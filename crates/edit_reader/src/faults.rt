@@ -5,6 +5,8 @@ ghost use Rattle.script_lex.specs.Lines.{Placed, AreTokens};
 ghost use Rattle.edit_reader.specs.Faults as faults;
 ghost use Rattle.edit_reader.specs.Telling as telling;
 ghost use Rattle.edit_reader.specs.Scans.{IsScan, IsScanFault};
+ghost use Rattle.edit_reader.specs.Simple as simple;
+ghost use Rattle.std.specs.List.{list_all};
 
 use itpg_base::TextCode;
 use script_lex::{MAX_TOKENS, next_token};
@@ -44,6 +46,9 @@ pub(crate) fn check_tokens(line: &[u8]) -> Result<(), TextCode>
     ensures { (tokens : List Placed) (end : Option TextCode) → AreTokens line.now 0 tokens end →
         MatchResult result (λ _. (end ≡ None) × (length tokens ≤ MAX_TOKENS)) (IsScanFault tokens end) }
 {
+    if line.len() <= MAX_TOKENS && is_simple(line) {
+        return Ok(());
+    }
     let scan = scan_line(line);
     if is_byte(scan.end) {
         return Err(TextCode::Byte);
@@ -55,6 +60,25 @@ pub(crate) fn check_tokens(line: &[u8]) -> Result<(), TextCode>
         Some(code) => Err(code),
         None => Ok(()),
     }
+}
+
+// Whether the line has only blanks, letters, digits and `_`, as most lines do. A token begins with each of these that is no blank.
+fn is_simple(line: &[u8]) -> bool
+    ensures { result ≡ list_all simple.is_simple_byte line.now }
+{
+    for byte in line {
+        if !is_simple_byte(*byte) {
+            return false;
+        }
+    }
+    true
+}
+
+// Whether the byte is a blank, a letter, a digit or `_`.
+fn is_simple_byte(byte: u8) -> bool
+    ensures { result ≡ simple.is_simple_byte byte }
+{
+    byte == b' ' || byte == b'\t' || byte.is_ascii_alphanumeric() || byte == b'_'
 }
 
 // Whether the tokens end at a bad byte.

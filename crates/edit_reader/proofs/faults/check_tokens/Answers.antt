@@ -1,9 +1,17 @@
 use Rattle.std.proofs.Common.{length, sym, ap, ◌∙◌, ◌≤◌, arith, refl}
 use Rattle.script_lex.specs.declared.token.TheConstants.{MAX_TOKENS}
 use Rattle.edit_reader.proofs.Counting.{same_faults, many_told, few_told}
+use Rattle.edit_reader.proofs.SimpleLines.{ends_well, tokens_few}
 use Rattle.edit_reader.specs.Telling.{end_told}
 use Rattle.script_lex.proofs.OneList.{tokens_unique}
 use Rattle.edit_reader.proofs.faults.check_tokens.Goals as goal
+
+pub returns-then-is_simple : goal.returns-then-is_simple
+returns-then-is_simple c =
+    let simple = sym c.is_simple.ensures ∙ c.if-is_simple.true in
+    λ tokens end are.
+    let few = tokens_few c.args.line.now 0 tokens end (omega arith) are in
+    (ends_well c.args.line.now simple 0 tokens end are, (let short = c.if-line-le-MAX_TOKENS.true in omega (arith, few, short)))
 
 pub returns-then-is_byte : goal.returns-then-is_byte
 returns-then-is_byte c =
