@@ -7,7 +7,8 @@ use Rattle.std.specs.declared.alloc.AllocError.{AllocError}
 use Rattle.std.proofs.lemmas.Int.{ints}
 use Rattle.std.proofs.lemmas.List.{take_more}
 use Rattle.std.specs.List.Sorted.{IsPermutation, IsSortedByKey}
-use Rattle.std.specs.Ordering.{int_cmp}
+use Rattle.std.specs.List.{AllAdjacentBelow}
+use Rattle.std.specs.Ordering.{int_cmp, is_le}
 use Rattle.zone_core.specs.declared.Bounds.{Bounds}
 use Rattle.zone_core.specs.Zone.{Meets}
 use Rattle.band_normal.specs.declared.band.Band.{Band}
@@ -72,6 +73,13 @@ far_below m xs ys below = record {
 pub sorted_begins : (m : Measure) (zones : List Bounds) → IsSortedByKey (λ (z : Bounds). begin_of m z) int_cmp zones → Ordered (BeginsNoLater m) zones
 sorted_begins m zones h = ordered_from_neighbours (BeginsNoLater m) (λ x y z a b. omega (arith, ints)) zones (λ k d l. not_below _ _ (h k d (omega arith) l))
 
+-- zones that a look at neighbours finds in order
+pub found_begins : (m : Measure) (zones : List Bounds) → AllAdjacentBelow (λ (x y : Bounds). true ≡ is_le (int_cmp (begin_of m x) (begin_of m y))) zones (length zones) → Ordered (BeginsNoLater m) zones
+found_begins m zones h = ordered_from_neighbours (BeginsNoLater m) (λ x y z a b. omega (arith, ints)) zones (λ k d l. not_above _ _ (h k d l))
+  where
+    not_above : (a b : ℤ) → true ≡ is_le (int_cmp a b) → a ≤ℤ b
+    not_above a b e = grind (arith, ints)
+
 -- how far the zones reach with one more
 pub reached_more : (m : Measure) (zones : List Bounds) (i : ℕ) (z d : Bounds) (old new : ℤ) → i < length zones → z ≡ get_or zones i d → ((x : Bounds) → Among (take i zones) x → end_of m x ≤ℤ old) → old ≤ℤ new → end_of m z ≤ℤ new
     → (x : Bounds) → Among (take (i + 1) zones) x → end_of m x ≤ℤ new
@@ -79,6 +87,14 @@ reached_more m zones i z d old new lt is all le here x h = ⊎_elim
     (λ j. let a = all x j in omega (arith, ints))
     (λ j. ⊎_elim (λ (e : get_or zones i d ≡ x). subst (λ (v : Bounds). end_of m v ≤ℤ new) (is ∙ e) here) (λ f. absurd f) j)
     (among_append (take i zones) (get_or zones i d ∷ []) x (subst (λ (v : List Bounds). Among v x) (take_more zones i d lt) h))
+
+-- how far the bands depart with one more
+pub departs_more : (bands : List Band) (i : ℕ) (d : Band) (old new : ℤ) → i < length bands → ((b : Band) → Among (take i bands) b → b.to ≤ℤ old) → old ≤ℤ new → (get_or bands i d).to ≤ℤ new
+    → (b : Band) → Among (take (i + 1) bands) b → b.to ≤ℤ new
+departs_more bands i d old new lt all le here b h = ⊎_elim
+    (λ j. let a = all b j in omega (arith, ints))
+    (λ j. ⊎_elim (λ (e : get_or bands i d ≡ b). subst (λ (v : Band). v.to ≤ℤ new) e here) (λ f. absurd f) j)
+    (among_append (take i bands) (get_or bands i d ∷ []) b (subst (λ (v : List Band). Among v b) (take_more bands i d lt) h))
 
 -- a zone that begins above all that came before, and so do the zones after it
 pub group_apart : (m : Measure) (zones : List Bounds) (i : ℕ) (z d : Bounds) (reach : ℤ) → Ordered (BeginsNoLater m) zones → i < length zones → z ≡ get_or zones i d → ((x : Bounds) → Among (take i zones) x → end_of m x ≤ℤ reach)

@@ -1,10 +1,13 @@
 -- Zones and bands side by side: the pairs of several, and a band's bounds.
-use Rattle.std.specs.Prelude.{◌≡◌, ◌⊎◌, ℤ, pos, neg_ℤ, List, [], ◌∷◌, Option, Some, None}
+use Rattle.std.specs.Prelude.{◌≡◌, ◌⊎◌, ℤ, pos, neg_ℤ, List, [], ◌∷◌, ◌++◌, Option, Some, None}
 use Rattle.zone_core.specs.declared.Bounds.{Bounds}
 use Rattle.zone_core.specs.Zone.{Meets}
 use Rattle.band_normal.specs.declared.band.End.{End}
 use Rattle.band_normal.specs.declared.band.End.TheVariants.{Fixed, Moving}
 use Rattle.band_normal.specs.declared.band.Band.{Band}
+use Rattle.itpg_base.specs.Lists.{Among}
+use Rattle.band_normal.specs.Bands.{IsWellFormed}
+use Rattle.band_normal.specs.Normal.{Normal}
 
 -- some zone of the list holds the pair
 abbrev pub SomeMeets : List Bounds → ℤ → ℤ → Type 0
@@ -47,3 +50,10 @@ departing from to = record {
 -- the bounds of a band's pairs
 abbrev pub bounds_of : Band → Bounds
 bounds_of b = with_high b.high (with_low b.low (departing b.from b.to))
+
+-- the zone's normal bands were added
+pub record AddsBands (zone : Bounds) (old new : List Band) : Type 0 where
+  pub more : List Band
+  pub is : new ≡ old ++ more
+  pub normal : Normal (Meets zone) more
+  pub formed : (b : Band) → Among more b → IsWellFormed b

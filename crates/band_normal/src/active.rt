@@ -8,6 +8,7 @@ ghost use Rattle.band_normal.specs.Bands.{IsWellFormed, end_at};
 ghost use Rattle.band_normal.specs.Strips.{Holds, IsFront, AreMerged, AreRuns, BeginsEarlier};
 
 use crate::band::Band;
+use crate::rows::push_all;
 use crate::strips::{Ends, Stretch, Strips, cut_to, with_band};
 use std::alloc::{AllocError, Global};
 
@@ -146,7 +147,7 @@ pub fn begun_count(waiting: &[Band], left: Stretch) -> usize
 pub fn advance(active: &mut Vec<Band>, begun: &[Band], left: Stretch) -> Result<(), AllocError>
     ensures { OnOk result (active.new.items ≡ filter (λ b. int_le left.from b.to) (active.old.items ++ begun.now)) }
 {
-    active.extend_from_slice(begun)?;
+    push_all(active, begun)?;
     active.retain(|band| left.from <= band.to);
     Ok(())
 }

@@ -23,6 +23,6 @@ pub mod zones;
 
 pub use band::{Band, End};
 pub use strike::struck;
-pub use sweep::push_present;
+pub use sweep::{push_bands_of, push_present};
 pub use union::normal;
 pub use zones::{bands_of, zone_of};

@@ -25,6 +25,9 @@ pub fn in_order(mut rows: Vec<Band>) -> Result<Vec<Band>, AllocError>
     requires { CanOrder (Holds held) rows.items }
     ensures { IfOk result (λ v. Normal (Holds held) v.items) }
 {
+    if rows.is_sorted_by_key(|row| (row.from, first_low(row))) {
+        return Ok(rows);
+    }
     rows.sort_by_key(|row| (row.from, first_low(row)))?;
     Ok(rows)
 }

@@ -9,12 +9,11 @@ ghost use Rattle.band_normal.specs.declared.sweep.Effort.{Effort};
 
 use crate::band::Band;
 use crate::cuts::{add_linked, cut_in_two};
-use crate::sweep::{Effort, push_present, swept};
-use crate::zones::bands_of;
+use crate::sweep::{Effort, push_bands_of, swept};
 use std::alloc::{AllocError, Global};
 use zone_core::Zone;
 
-// Fewer zones than these aren't parted, since a sweep over them costs less.
+// Fewer zones than these are parted once by one measure, since a sweep over them costs less than more rounds.
 const FEW_ZONES: usize = 8;
 
 /// How often at most groups are parted further, before they are cut.
@@ -109,6 +108,9 @@ fn by_begin(alloc: Global, zones: &[Zone], measure: Measure) -> Result<Vec<Zone>
     ensures pairs { IfOk result (λ v. (t : ℤ) → (u : ℤ) → SomeMeets v.items t u ↔ SomeMeets zones.now t u) }
 {
     let mut sorted = Vec::from_slice(alloc, zones)?;
+    if sorted.is_sorted_by_key(|zone| begin(zone, measure)) {
+        return Ok(sorted);
+    }
     sorted.sort_by_key(|zone| begin(zone, measure))?;
     Ok(sorted)
 }
@@ -140,13 +142,13 @@ pub fn add_parted(
 {
     let mut rows = rows;
     if let [zone] = zones {
-        push_present(&mut rows, bands_of(zone))?;
+        push_bands_of(&mut rows, zone)?;
         return Ok(rows);
     }
     // What one measure leaves together another may part, and each part may then be parted by the first again. Once all three
     // part nothing, the zones are swept together; where the sweep would be slow they are cut, and a cut changes what they
     // reach, so that both parts are parted anew.
-    if zones.len() < FEW_ZONES || rounds == 0 || idle >= 3 {
+    if rounds == 0 || idle >= 3 || idle >= 1 && zones.len() < FEW_ZONES {
         let effort = if cuts == 0 {
             Effort::Full
         } else {

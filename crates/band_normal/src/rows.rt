@@ -86,6 +86,17 @@ pub fn push_some<T: Copy>(items: &mut Vec<T>, item: Option<T>) -> Result<(), All
     Ok(())
 }
 
+/// Adds the bands, of which there are often none.
+pub fn push_all(bands: &mut Vec<Band>, more: &[Band]) -> Result<(), AllocError>
+    ensures { OnOk result (bands.new.items ≡ bands.old.items ++ more.now) }
+{
+    if more.is_empty() {
+        return Ok(());
+    }
+    bands.extend_from_slice(more)?;
+    Ok(())
+}
+
 // The band with these ends along the stretch.
 fn strip_along(along: Stretch, ends: Ends) -> Band
     ensures { result ≡ strip along ends }
@@ -114,7 +125,7 @@ fn with_strip(
         mut next,
         mut passed,
     } = joining;
-    passed.extend_from_slice(under)?;
+    push_all(&mut passed, under)?;
     let joint = join_strip(row, strip);
     push_some(&mut complete, joint.complete)?;
     next.push(joint.reaching)?;
@@ -135,8 +146,8 @@ fn closed(joining: Joining, waiting: &[Band]) -> Result<Rows, AllocError>
         next,
         mut passed,
     } = joining;
-    passed.extend_from_slice(waiting)?;
-    complete.extend_from_slice(&passed)?;
+    push_all(&mut passed, waiting)?;
+    push_all(&mut complete, &passed)?;
     Ok(Rows {
         complete,
         reaching: next,

@@ -15,7 +15,7 @@ ghost use Rattle.zone_core.specs.Zone.{Meets, Within, moment_reach};
 ghost use Rattle.band_normal.specs.declared.band.Band.{Band};
 ghost use Rattle.itpg_base.specs.Lists.{Among, Ordered};
 ghost use Rattle.band_normal.specs.Bands.{IsWellFormed};
-ghost use Rattle.band_normal.specs.Zones.{SomeMeets, present};
+ghost use Rattle.band_normal.specs.Zones.{SomeMeets, present, AddsBands};
 ghost use Rattle.band_normal.specs.Strips.{Holds, Covers, BeginsEarlier};
 ghost use Rattle.band_normal.specs.Rows.{CanSweep, AreRowsTo};
 ghost use Rattle.band_normal.specs.Parts.{AreRowsOf};
@@ -23,6 +23,7 @@ ghost use Rattle.band_normal.specs.Parts.{AreRowsOf};
 use crate::active::{advance, begun_count, strips_before};
 use crate::band::Band;
 use crate::lasting::span_of;
+use crate::pieces::first_piece;
 use crate::rows::{Rows, join, push_some};
 use crate::strips::Stretch;
 use crate::zones::bands_of;
@@ -59,6 +60,20 @@ pub fn push_present(bands: &mut Vec<Band>, more: [Option<Band>; 3]) -> Result<()
     push_some(bands, third)
 }
 
+/// Adds the zone's normal bands, most often one. An error says that memory ran out; the first of them may have been added.
+pub fn push_bands_of(bands: &mut Vec<Band>, zone: &Zone) -> Result<(), AllocError>
+    ensures { OnOk result (AddsBands zone.now bands.old.items bands.new.items) }
+{
+    let k = zone.bounds();
+    let first = first_piece(k);
+    if first.to == k.b {
+        bands.push(first)?;
+        return Ok(());
+    }
+    push_present(bands, bands_of(zone))?;
+    Ok(())
+}
+
 // The bands of all zones.
 fn bands_of_all(alloc: Global, zones: &[Zone]) -> Result<Vec<Band>, AllocError>
     ensures pairs { IfOk result (λ v. (t : ℤ) → (u : ℤ) → Holds v.items t u ↔ SomeMeets zones.now t u) }
@@ -71,7 +86,33 @@ fn bands_of_all(alloc: Global, zones: &[Zone]) -> Result<Vec<Band>, AllocError>
     Ok(bands)
 }
 
-// Departures from the first one of the bands, which come by it, to the last that any may have.
+// The later of the departure and the band's last.
+fn later(last: i64, band: &Band) -> i64
+    requires last { Within moment_reach last }
+    requires band { Within moment_reach band.now.to }
+    ensures near { Within moment_reach result }
+    ensures old { last ≤ℤ result }
+    ensures band { band.now.to ≤ℤ result }
+{
+    last.max(band.to)
+}
+
+// The last departure of the bands, or the other one if it comes after that.
+fn last_departure(bands: &[Band], other: i64) -> i64
+    requires well_formed { (b : Band) → Among bands.now b → IsWellFormed b }
+    requires near { Within moment_reach other }
+    ensures near { Within moment_reach result }
+    ensures other { other ≤ℤ result }
+    ensures all { (b : Band) → Among bands.now b → b.to ≤ℤ result }
+{
+    let mut last = other;
+    for band in bands {
+        last = later(last, band);
+    }
+    last
+}
+
+// Departures from the first one of the bands, which come by it, to the last.
 fn departures(bands: &[Band]) -> Option<Stretch>
     requires well_formed { (b : Band) → Among bands.now b → IsWellFormed b }
     requires order { Ordered BeginsEarlier bands.now }
@@ -81,7 +122,7 @@ fn departures(bands: &[Band]) -> Option<Stretch>
     let first = bands.first()?;
     Some(Stretch {
         from: first.from,
-        to: 4_000_000_000_000,
+        to: last_departure(bands, first.to),
     })
 }
 

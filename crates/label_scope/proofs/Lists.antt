@@ -1,7 +1,9 @@
 -- What a list contains, element by element.
-use Rattle.std.proofs.Common.{◌≡◌, zero, suc, ◌<◌, List, [], ◌∷◌, Bool, true, false, ◌⊎◌, inl, inr, ⊎_elim, filter, length, refl, sym, ap, subst, ◌∙◌, cond, true≢false, arith}
+use Rattle.std.proofs.Common.{◌≡◌, ℕ, zero, suc, ◌+◌, ◌<◌, List, [], ◌∷◌, Bool, true, false, ◌⊎◌, inl, inr, ⊎_elim, filter, length, get_or, take, refl, sym, ap, subst, ◌∙◌, cond, true≢false, arith}
 use Rattle.std.specs.Prelude.{Contains}
 use Rattle.std.specs.Cmp.Lexicographic.{nat_list_eq_equiv}
+use Rattle.std.proofs.lemmas.Bool.Decides.{eqb_tells}
+use Rattle.std.proofs.lemmas.List.{length-take, get_or-take, get_or_default}
 use Rattle.std.proofs.lemmas.Map.Views.{list_any-from_Contains, Contains-from_any}
 use Rattle.itpg_base.specs.Words.{Word}
 use Rattle.itpg_base.proofs.Objects.{word_same}
@@ -19,6 +21,19 @@ more x y xs h = (suc h.0, (let below = h.1 in omega arith), h.2)
 pub first_or_more : {X : Type 0} (x y : X) (xs : List X) → Contains (y ∷ xs) x → (y ≡ x) ⊎ Contains xs x
 first_or_more x y xs (zero, below, is) = inl is
 first_or_more x y xs (suc k, below, is) = inr (k, omega (arith, below), is)
+
+-- what is among the first ones and one more is among the first ones, or is that one
+pub first_ones_or_next : {X : Type 0} (xs : List X) (i : ℕ) (d x : X) → i < length xs → d ≡ get_or xs i d → Contains (take (i + 1) xs) x → Contains (take i xs) x ⊎ (d ≡ x)
+first_ones_or_next xs i d x lt is (k, below, at) =
+    let near : k < i + 1 = omega (arith, below, length-take (i + 1) xs) in
+    let here = sym (get_or-take (i + 1) xs k x near) ∙ at in
+    elim (eqb_tells k i) [
+      | inl e ↦ inr (is ∙ get_or_default xs i d x lt ∙ subst (λ (v : ℕ). get_or xs v x ≡ x) e.1 here)
+      | inr n ↦ (
+          let before : k < i = (let ne = n.1 in omega arith) in
+          inl (k, omega (arith, before, length-take i xs), get_or-take i xs k x before ∙ here)
+          )
+    ]
 
 -- a list without a second element contains nothing else
 pub same_one : {X : Type 0} (xs : List X) (x y : X) → length xs < 2 → Contains xs x → Contains xs y → x ≡ y

@@ -92,11 +92,9 @@ impl Scope {
 fn has_some(names: &Labels, labels: &LabelSet) -> bool
     ensures { IsTrue result ↔ Has (Scope.These names.now) labels.now }
 {
-    for i in 0..labels.len() {
-        if let Some(label) = labels.get(i) {
-            if names.has(&label) {
-                return true;
-            }
+    for name in names.names() {
+        if labels.has(name) {
+            return true;
         }
     }
     false

@@ -1,21 +1,23 @@
 -- Ways that begin with a row, and those that begin with one of some rows.
-use Rattle.std.proofs.Common.{◌≡◌, ◌↔◌, ◌⊎◌, inl, inr, ⊎_elim, ℕ, ◌+◌, ◌<◌, ◌≤◌, ℤ, List, [], ◌∷◌, ◌++◌, length, slice_index_or, take, Option, Some, None, refl, sym, ◌∙◌, subst, arith}
+use Rattle.std.proofs.Common.{◌≡◌, ◌↔◌, ◌⊎◌, inl, inr, ⊎_elim, ℕ, ◌+◌, ◌<◌, ◌≤◌, ℤ, ◌≤ℤ◌, ◌<ℤ◌, List, [], ◌∷◌, ◌++◌, length, slice_index_or, take, Option, Some, None, refl, sym, ◌∙◌, subst, arith}
 use Rattle.std.proofs.lemmas.Int.{ints}
 use Rattle.std.proofs.lemmas.List.{take_more, take_all}
 use Rattle.itpg_base.specs.declared.object_number.ObjNo.{ObjNo}
 use Rattle.itpg_base.specs.Points.{Point}
 use Rattle.zone_core.specs.declared.Bounds.{Bounds}
-use Rattle.zone_core.specs.Zone.{Meets, Holds, IsZoneOf}
+use Rattle.zone_core.specs.Zone.{Between, Meets, Holds, IsZoneOf}
 use Rattle.zone_compose.specs.Compose.{HasMiddle, AreArrivals}
 use Rattle.itpg_base.specs.Lists.{Among, Ordered}
-use Rattle.band_normal.specs.Bands.{InBand, IsWellFormed}
+use Rattle.band_normal.specs.declared.band.Band.{Band}
+use Rattle.band_normal.specs.declared.band.End.{End}
+use Rattle.band_normal.specs.Bands.{end_at, InBand, IsWellFormed}
 use Rattle.itpg_base.proofs.Lists.{among_append, append_first, append_second, among_at}
 use Rattle.relation_rows.specs.declared.rows.Row.{Row}
 use Rattle.relation_rows.specs.declared.timetable.Leg.{Leg}
 use Rattle.relation_rows.specs.Rows.{InRow, RowsHold, RowBefore}
 use Rattle.relation_rows.specs.Relations.{Item, ItemsHold, HasMiddlePoint}
 use Rattle.relation_rows.specs.Timetables.{DepartsWithin, HasZone}
-use Rattle.relation_rows.specs.Ways.{ItemThere, GoesOn, GoesOnBy, AreComposed}
+use Rattle.relation_rows.specs.Ways.{ItemThere, GoesOn, GoesOnBy, GoesThrough, IsStill, AreComposed}
 use Rattle.relation_rows.proofs.Pushing.{items_more, rows_more}
 
 -- an item is pushed where its zone is there
@@ -35,32 +37,70 @@ holds_there : (source target : ObjNo) (o : Option Bounds) (x y : Point) → (sou
 holds_there source target None x y e f h = absurd h
 holds_there source target (Some z) x y e f h = record { source = e; target = f; pair = h }
 
+-- a composed zone has the pairs that go through
+pub through : (zone second : Bounds) (band : Band) → ((t u : ℤ) → Meets second t u ↔ InBand band t u) → (way : Option Bounds) → IsZoneOf (HasMiddle zone second) way → (t : ℤ) → (u : ℤ) → Holds way t u ↔ GoesThrough zone band t u
+through zone second band its way of t u = (
+  λ h. let w = (of.pairs t u).0 h in (w.middle, w.left, (its w.middle u).0 w.right),
+  λ h. (of.pairs t u).1 (record { middle = h.0; left = h.1; right = (its h.0 u).1 h.2 }),
+)
+
+-- by a still band go the pairs that arrive while it departs
+pub still_through : (zone : Bounds) (band : Band) → IsStill band → (way : Option Bounds) → ((t : ℤ) → (u : ℤ) → Holds way t u ↔ (Meets zone t u × Between band.from band.to u)) → (t : ℤ) → (u : ℤ) → Holds way t u ↔ GoesThrough zone band t u
+still_through zone band is way of t u = (
+  λ h. let w = (of t u).0 h in (
+    u,
+    w.0,
+    record {
+      from = (w.1).above;
+      to = (w.1).below;
+      low = subst (λ (v : End). end_at v u ≤ℤ u) (sym is.0) (omega (arith, ints));
+      high = subst (λ (v : End). u ≤ℤ end_at v u) (sym is.1) (omega (arith, ints));
+    },
+  ),
+  λ h.
+      let i = h.2 in
+      let low = subst (λ (v : End). end_at v h.0 ≤ℤ u) is.0 i.low in
+      let high = subst (λ (v : End). u ≤ℤ end_at v h.0) is.1 i.high in
+      let same : h.0 ≡ u = omega (arith, ints) in
+      let from = i.from in
+      let to = i.to in
+      (of t u).1 (subst (λ (v : ℤ). Meets zone t v) same h.1, record { above = omega (arith, ints); below = omega (arith, ints) }),
+)
+
+-- no pair goes through where the band departs too soon or too late
+pub none_through : (zone : Bounds) (first last : ℤ) (band : Band) → AreArrivals zone first last → (band.to <ℤ first) ⊎ (last <ℤ band.from) → (t : ℤ) → (u : ℤ) → Holds None t u ↔ GoesThrough zone band t u
+none_through zone first last band span apart t u = (λ h. absurd h, λ h. absurd (missed h.0 (span.least t h.0 h.1) (span.greatest t h.0 h.1) h.2.from h.2.to apart))
+  where
+    missed : (s : ℤ) → first ≤ℤ s → s ≤ℤ last → band.from ≤ℤ s → s ≤ℤ band.to → (band.to <ℤ first) ⊎ (last <ℤ band.from) → ⊥
+    missed s low high from to (inl l) = omega (arith, ints)
+    missed s low high from to (inr l) = omega (arith, ints)
+
 module _ (row : Row) (zone : Bounds) (is : (t u : ℤ) → Meets zone t u ↔ InBand row.band t u) where
   -- the ways by one row
-  pub one_way : (s : Row) (second : Bounds) → ((t u : ℤ) → Meets second t u ↔ InBand s.band t u) → s.source.0 ≡ row.target.0 → (way : Option Bounds) → IsZoneOf (HasMiddle zone second) way
+  pub one_way : (s : Row) → s.source.0 ≡ row.target.0 → (way : Option Bounds) → ((t : ℤ) → (u : ℤ) → Holds way t u ↔ GoesThrough zone s.band t u)
       → (x y : Point) → ItemThere row.source s.target way x y ↔ ((m : Point) × InRow row x m × InRow s m y)
-  one_way s second its same way of x y = (
+  one_way s same way of x y = (
     λ h.
         let k = there_holds row.source s.target way x y h in
-        let w = ((of.pairs x.moment y.moment).0 k.2) in (
-          record { object = row.target.0; moment = w.middle },
-          record { source = k.0; target = refl; pair = (is x.moment w.middle).0 w.left },
-          record { source = same; target = k.1; pair = (its w.middle y.moment).0 w.right },
+        let w = (of x.moment y.moment).0 k.2 in (
+          record { object = row.target.0; moment = w.0 },
+          record { source = k.0; target = refl; pair = (is x.moment w.0).0 w.1 },
+          record { source = same; target = k.1; pair = w.2 },
         ),
     λ h.
         let a = h.1 in let b = h.2 in
         holds_there row.source s.target way x y a.source b.target
-        ((of.pairs x.moment y.moment).1 (record { middle = (h.0).moment; left = (is x.moment (h.0).moment).1 a.pair; right = (its (h.0).moment y.moment).1 b.pair })),
+        ((of x.moment y.moment).1 ((h.0).moment, (is x.moment (h.0).moment).1 a.pair, b.pair)),
   )
 
   -- one more row
   pub next_more : (items now next : List Item) (here : List Row) (k : ℕ) (d : Row) → k < length here
-      → (second : Bounds) → ((t u : ℤ) → Meets second t u ↔ InBand (slice_index_or here k d).band t u) → (slice_index_or here k d).source.0 ≡ row.target.0 → (way : Option Bounds) → IsZoneOf (HasMiddle zone second) way
+      → (slice_index_or here k d).source.0 ≡ row.target.0 → (way : Option Bounds) → ((t : ℤ) → (u : ℤ) → Holds way t u ↔ GoesThrough zone (slice_index_or here k d).band t u)
       → ((x y : Point) → ItemsHold next x y ↔ (ItemsHold now x y ⊎ ItemThere row.source (slice_index_or here k d).target way x y))
       → ((x y : Point) → ItemsHold now x y ↔ (ItemsHold items x y ⊎ GoesOn row (take k here) x y))
       → (x y : Point) → ItemsHold next x y ↔ (ItemsHold items x y ⊎ GoesOn row (take (k + 1) here) x y)
-  next_more items now next here k d lt second its same way of pushed old x y =
-      let one = one_way (slice_index_or here k d) second its same way of x y in (
+  next_more items now next here k d lt same way of pushed old x y =
+      let one = one_way (slice_index_or here k d) same way of x y in (
         λ h. ⊎_elim
             (λ a. ⊎_elim
             (λ b. inl b)
@@ -86,7 +126,7 @@ module _ (row : Row) (zone : Bounds) (is : (t u : ℤ) → Meets zone t u ↔ In
   leg_more items now next legs k d lt second its same way of pushed old x y =
       let s : Leg = slice_index_or legs k d in
       let e = take_more legs k d lt in
-      let one = one_way (slice_index_or legs k d).row second its same way of x y in (
+      let one = one_way (slice_index_or legs k d).row same way (through zone second (slice_index_or legs k d).row.band its way of) x y in (
         λ h. ⊎_elim
             (λ a. ⊎_elim
             (λ b. inl b)

@@ -1,8 +1,9 @@
 -- The first items of a list in order that have one source and one target, and the rows in order that do.
-use Rattle.std.proofs.Common.{◌≡◌, ◌⊎◌, inl, inr, ⊎_elim, ℕ, ◌<◌, ◌≤◌, List, length, get_or, take, drop, Some, refl, sym, ◌∙◌, ap, subst, arith, true, false, true≢false}
+use Rattle.std.proofs.Common.{◌≡◌, ◌⊎◌, inl, inr, ⊎_elim, ℕ, ◌<◌, ◌≤◌, List, length, get_or, take, drop, Some, refl, sym, ◌∙◌, ap, subst, arith, Bool, true, false, true≢false}
 use Rattle.std.specs.Prelude.{slice_get}
 use Rattle.std.specs.List.Sorted.{IsPartitionedBy, IsPartitionPoint}
 use Rattle.std.proofs.lemmas.Bool.Decides.{eqb_tells}
+use Rattle.std.proofs.lemmas.List.{get_or_default}
 use Rattle.std.proofs.lemmas.Option.{slice_get_within, get_or_from_slice_get}
 use Rattle.std.proofs.lemmas.Bool.Decides.{Decides-ltb}
 use Rattle.std.specs.Prelude.{◌↔◌, ◌-◌}
@@ -61,6 +62,26 @@ module _ (items : List Item) (first : Item) (order : Ordered ItemUpTo items) (is
           )
       | inr e ↦ (let ne = e.1 in omega arith)
     ]
+
+-- where the second item has another key, the first is alone
+pub alone_point : (items : List Item) (first second : Item) → Ordered ItemUpTo items → slice_get items 0 ≡ Some first → 1 < length items → second ≡ get_or items 1 second → have_one_key second first ≡ false
+    → IsPartitionPoint (λ (i : Item). have_one_key i first ≡ true) (λ (i : Item). have_one_key i first ≡ false) items 1
+alone_point items first second order is more next other = (before, behind)
+  where
+    before : (k : ℕ) (d : Item) → 0 ≤ k → k < 1 → have_one_key (get_or items k d) first ≡ true
+    before k d le lk =
+        let zero_is : 0 ≡ k = omega arith in
+        let here : get_or items k d ≡ first = subst (λ (v : ℕ). get_or items v d ≡ first) zero_is (get_or_from_slice_get items 0 first d is) in
+        is_one_key (get_or items k d) first (subst (λ (v : Item). HaveOneKey v first) (sym here) (refl, refl))
+
+    behind : (k : ℕ) (d : Item) → 1 ≤ k → k < length items → have_one_key (get_or items k d) first ≡ false
+    behind k d le lk = by_test (have_one_key (get_or items k d) first) refl
+      where
+        by_test : (b : Bool) → have_one_key (get_or items k d) first ≡ b → have_one_key (get_or items k d) first ≡ false
+        by_test false e = e
+        by_test true e =
+            let early = one_key_partitioned items first order is 1 k d le lk e in
+            absurd (true≢false (sym (subst (λ (v : Item). have_one_key v first ≡ true) (get_or_default items 1 d second more ∙ sym next) early) ∙ other))
 
 pub comes_is : (r : Row) (o p : ℕ) → comes_before r o p ≡ true → KeyBefore r.source.0 r.target.0 o p
 comes_is r o p e = grind (arith, Decides-ltb)

@@ -1,12 +1,24 @@
 -- Two searches in a list in order: the first passes what comes early, the second takes what is looked for.
-use Rattle.std.proofs.Common.{◌≡◌, ◌↔◌, inl, inr, ⊎_elim, ℕ, ◌-◌, ◌<◌, ◌≤◌, List, length, get_or, take, drop, sym, ◌∙◌, subst, arith, Bool, true, false, true≢false}
+use Rattle.std.proofs.Common.{◌≡◌, ◌↔◌, ◌⊎◌, inl, inr, ⊎_elim, ℕ, ◌-◌, ◌<◌, ◌≤◌, List, length, get_or, take, drop, refl, sym, ◌∙◌, subst, arith, Bool, true, false, true≢false}
 use Rattle.std.specs.Prelude.{◌==◌, nat_lt}
 use Rattle.std.specs.List.Sorted.{IsPartitionedBy, IsPartitionPoint}
 use Rattle.std.proofs.lemmas.Bool.Decides.{eqb_tells, Decides-ltb}
-use Rattle.std.proofs.lemmas.List.{take_all, length-drop}
+use Rattle.std.proofs.lemmas.List.{take_all, length-drop, get_or_default}
 use Rattle.itpg_base.specs.Lists.{Among, Ordered}
 use Rattle.itpg_base.proofs.Lists.{among_at, ordered_by_place}
 use Rattle.relation_rows.proofs.Partitions.{among_before, among_behind, among_either, front_among, rest_among, rest_ordered}
+
+-- a place before which the test holds, and at which it doesn't
+pub place_between : {X : Type 0} (test : X → Bool) (xs : List X) (n : ℕ) (e : X) → IsPartitionedBy test xs → 0 < n → n < length xs → test (get_or xs (n - 1) e) ≡ true → test (get_or xs n e) ≡ false
+    → IsPartitionPoint (λ (x : X). test x ≡ true) (λ (x : X). test x ≡ false) xs n
+place_between {X} test xs n e parts some lt before here = (
+  λ k d le lk. parts k (n - 1) d (omega arith) (omega arith) (subst (λ (v : X). test v ≡ true) (get_or_default xs (n - 1) e d (omega arith)) before),
+  λ k d le lk. behind k d le lk (test (get_or xs k d)) refl,
+)
+  where
+    behind : (k : ℕ) (d : X) → n ≤ k → k < length xs → (b : Bool) → test (get_or xs k d) ≡ b → test (get_or xs k d) ≡ false
+    behind k d le lk false f = f
+    behind k d le lk true f = absurd (true≢false (sym (parts n k d le lk f) ∙ subst (λ (v : X). test v ≡ false) (get_or_default xs n e d lt) here))
 
 -- by any two tests: what comes before an early one is early, and before a fitting one early or fitting
 module _ {X : Type 0} (Before : X → X → Type 0) (is_early fits : X → Bool)
@@ -61,11 +73,30 @@ module _ {X : Type 0} (number : X → ℕ) (o : ℕ) where
   is_less : (r : X) → number r < o → has_less r ≡ true
   is_less r l = grind (arith, Decides-ltb)
 
+  is_not_less : (r : X) → o ≤ number r → has_less r ≡ false
+  is_not_less r l = grind (arith, Decides-ltb)
+
+  -- what stands before the place has a lower number than what stands behind it
+  pub less_apart : (rows : List X) (n : ℕ) → n ≤ length rows → IsPartitionPoint (λ (r : X). has_less r ≡ true) (λ (r : X). has_less r ≡ false) rows n
+      → (r s : X) → Among (take n rows) r → Among (drop n rows) s → number r < number s
+  less_apart rows n bound point r s a b =
+      let before = less_is r (among_before (λ (x : X). has_less x ≡ true) rows n bound point.0 r a) in
+      let late : ¬ (number s < o) = λ l. true≢false (sym (is_less s l) ∙ among_behind (λ (x : X). has_less x ≡ false) rows n bound point.1 s b) in
+      omega arith
+
   number_is : (r : X) → has_number r ≡ true → number r ≡ o
   number_is r e = ⊎_elim (λ k. k.1) (λ k. absurd (true≢false (sym e ∙ k.0))) (eqb_tells (number r) o)
 
   is_number : (r : X) → number r ≡ o → has_number r ≡ true
   is_number r e = ⊎_elim (λ k. k.0) (λ k. absurd (k.1 e)) (eqb_tells (number r) o)
+
+  not_number : (r : X) → (number r ≡ o → ⊥) → has_number r ≡ false
+  not_number r n = ⊎_elim (λ k. absurd (n k.1)) (λ k. k.0) (eqb_tells (number r) o)
+
+  -- a place before which the number is o, and at which it isn't
+  pub number_ends : (rows : List X) (n : ℕ) (e : X) → IsPartitionedBy has_number rows → 0 < n → n < length rows → number (get_or rows (n - 1) e) ≡ o → (number (get_or rows n e) ≡ o → ⊥)
+      → IsPartitionPoint (λ (r : X). has_number r ≡ true) (λ (r : X). has_number r ≡ false) rows n
+  number_ends rows n e parts some lt before here = place_between has_number rows n e parts some lt (is_number (get_or rows (n - 1) e) before) (not_number (get_or rows n e) here)
 
   module _ (Before : X → X → Type 0) (up : (r s : X) → Before r s → number r ≤ number s) (rows : List X) (order : Ordered Before rows) where
     less_down : (r s : X) → Before r s → has_less s ≡ true → has_less r ≡ true
@@ -79,6 +110,34 @@ module _ {X : Type 0} (number : X → ℕ) (o : ℕ) where
 
     pub less_partitioned : IsPartitionedBy has_less rows
     less_partitioned = early_partitioned Before has_less has_number less_down number_down number_apart rows order
+
+    -- a place at which no number is less, and before which there is none or one that is
+    pub place_is_point : (n : ℕ) (e : X) → n < length rows → o ≤ number (get_or rows n e) → (n ≡ 0) ⊎ (number (get_or rows (n - 1) e) < o)
+        → IsPartitionPoint (λ (r : X). has_less r ≡ true) (λ (r : X). has_less r ≡ false) rows n
+    place_is_point n e lt late early = (
+      λ k d le lk. is_less (get_or rows k d) (before k d lk early),
+      λ k d le lk. is_not_less (get_or rows k d) (behind k d le lk),
+    )
+      where
+        climb : (i j : ℕ) (d : X) → i ≤ j → j < length rows → number (get_or rows i d) ≤ number (get_or rows j d)
+        climb i j d le lj = elim (eqb_tells i j) [
+          | inl e ↦ subst (λ (v : ℕ). number (get_or rows i d) ≤ number (get_or rows v d)) e.1 (omega arith)
+          | inr m ↦ up (get_or rows i d) (get_or rows j d) (ordered_by_place Before rows order i j d (let ne = m.1 in omega arith) lj)
+        ]
+
+        behind : (k : ℕ) (d : X) → n ≤ k → k < length rows → o ≤ number (get_or rows k d)
+        behind k d le lk =
+            let at = subst (λ (v : X). o ≤ number v) (get_or_default rows n e d lt) late in
+            let higher = climb n k d le lk in
+            omega arith
+
+        before : (k : ℕ) (d : X) → k < n → (n ≡ 0) ⊎ (number (get_or rows (n - 1) e) < o) → number (get_or rows k d) < o
+        before k d lk (inl z) = absurd (omega arith)
+        before k d lk (inr less) =
+            let within : n - 1 < length rows = omega arith in
+            let at = subst (λ (v : X). number v < o) (get_or_default rows (n - 1) e d within) less in
+            let higher = climb k (n - 1) d (omega arith) within in
+            omega arith
 
     module _ (n : ℕ) (bound : n ≤ length rows) (point : IsPartitionPoint (λ (r : X). has_less r ≡ true) (λ (r : X). has_less r ≡ false) rows n)
         (from : List X) (is : from ≡ take (length rows - n) (drop n rows)) where

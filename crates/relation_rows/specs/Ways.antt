@@ -1,10 +1,13 @@
 -- Ways: a row, and then a leg's row from where it arrives.
-use Rattle.std.specs.Prelude.{◌≡◌, ◌↔◌, ℕ, ◌<◌, pos, ◌+ℤ◌, ◌≤ℤ◌, ◌<ℤ◌, Option, Some, None, List, length}
+use Rattle.std.specs.Prelude.{◌≡◌, ◌↔◌, ℕ, ◌<◌, ℤ, pos, ◌+ℤ◌, ◌≤ℤ◌, ◌<ℤ◌, Option, Some, None, List, length}
 use Rattle.itpg_base.specs.declared.object_number.ObjNo.{ObjNo}
 use Rattle.itpg_base.specs.Points.{Point, Relation}
 use Rattle.zone_core.specs.declared.Bounds.{Bounds}
 use Rattle.itpg_base.specs.Lists.{Among, Ordered}
-use Rattle.band_normal.specs.Bands.{IsWellFormed}
+use Rattle.zone_core.specs.Zone.{Meets}
+use Rattle.band_normal.specs.declared.band.Band.{Band}
+use Rattle.band_normal.specs.declared.band.End.TheVariants.{Moving}
+use Rattle.band_normal.specs.Bands.{InBand, IsWellFormed}
 use Rattle.relation_rows.specs.declared.rows.Row.{Row}
 use Rattle.relation_rows.specs.declared.timetable.Leg.{Leg}
 use Rattle.relation_rows.specs.Rows.{InRow, RowsHold, RowBefore}
@@ -15,6 +18,14 @@ use Rattle.relation_rows.specs.Timetables.{LegsHold, IsTimetable}
 abbrev pub ItemThere : ObjNo → ObjNo → Option Bounds → Relation
 ItemThere source target None x y = ⊥
 ItemThere source target (Some zone) x y = InItem (source, target, zone) x y
+
+-- each pair of the band arrives when it departs
+abbrev pub IsStill : Band → Type 0
+IsStill band = (band.low ≡ Moving (pos 0)) × (band.high ≡ Moving (pos 0))
+
+-- the zone has a pair that arrives where one of the band departs
+abbrev pub GoesThrough : Bounds → Band → ℤ → ℤ → Type 0
+GoesThrough zone band t u = (s : ℤ) × Meets zone t s × InBand band s u
 
 -- the row leads to a point from which some row of the list does
 abbrev pub GoesOn : Row → List Row → Relation

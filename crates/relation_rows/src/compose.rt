@@ -1,8 +1,8 @@
-//! Composition: the ways from one source after the other, by the rows that depart where they arrive.
+//! Composition: the ways from a few sources at a time, by the rows that depart where they arrive.
 //!
-//! The ways of one source are made normal together, target by target. Where there are many, they go by departure: once a moment is
-//! free at which no row departs, no later way can join the rows of those before it. So these rows are counted, and only their zones are
-//! kept, which is why a relation that is too wide is told by few ways more than its limit.
+//! The ways of these sources are made normal together, source by source and target by target. Where one source has many rows, its
+//! ways go by departure: once a moment is free at which no row departs, no later way can join the rows of those before it. So these
+//! rows are counted, and only their zones are kept, which is why a relation that is too wide is told by few ways more than its limit.
 
 ghost use Rattle.std.specs.Prelude.{◌≡◌, ◌↔◌, ◌<◌, ◌≤◌, pos, ◌+ℤ◌, ◌≤ℤ◌, ◌<ℤ◌, length, take, drop, slice_get, Some, IfOk, IsTrue};
 ghost use Rattle.itpg_base.specs.Points.{Point};
@@ -16,12 +16,16 @@ ghost use Rattle.relation_rows.specs.Ways.{HasBusy, AreComposed, DepartsNoLater,
 
 use crate::gather::{gathered_of, push_zones};
 use crate::known::Known;
+use crate::offsets::{Offsets, offsets_of};
 use crate::relations::Relation;
 use crate::rows::{RelFault, Row};
 use crate::timetable::Leg;
 use crate::ways::{FEW, MANY, with_ways};
 use itpg_base::count_leading;
 use std::alloc::{AllocError, Global};
+
+// So many rows of whole sources are worked together.
+const BATCH: usize = 32;
 
 // How many of the rows, from the first on, have its source.
 fn source_count(rows: &[Row], first: &Row) -> usize
@@ -33,6 +37,24 @@ fn source_count(rows: &[Row], first: &Row) -> usize
     ensures later { (r : PlainRow) → Among (drop result rows.now) r → first.now.source.0 < r.source.0 }
 {
     count_leading(rows, |row| row.source.0 == first.source.0)
+}
+
+// How many of the rows, from the first on, are worked together: few rows, if the first source hasn't many, of whole sources.
+fn batch_len(rows: &[Row], first: &Row) -> usize
+    requires order { Ordered RowBefore rows.now }
+    requires first { slice_get rows.now 0 ≡ Some first.now }
+    ensures some { 0 < result }
+    ensures within { result ≤ length rows.now }
+    ensures apart { (r : PlainRow) → (s : PlainRow) → Among (take result rows.now) r → Among (drop result rows.now) s → r.source.0 < s.source.0 }
+{
+    let Some(next) = rows.get(BATCH) else {
+        return rows.len();
+    };
+    let count = count_leading(rows, |row| row.source.0 < next.source.0);
+    if count > 0 {
+        return count;
+    }
+    source_count(rows, first)
 }
 
 /// The rows from the objects from which there are many.
@@ -99,10 +121,11 @@ fn stretch_len(rows: &[Row]) -> usize
 }
 
 // The relation of the ways that begin with the rows.
-fn of_source(
+fn of_sources(
     known: &mut Known,
     rows: &[Row],
     second: &[Row],
+    begins: &Offsets,
     busy: &[Leg],
     room: usize,
 ) -> Result<Relation, RelFault>
@@ -112,8 +135,9 @@ fn of_source(
 {
     let alloc = known.allocator();
     let mut found = Vec::new(alloc);
-    if rows.len() <= FEW {
-        let ways = with_ways(Vec::new(alloc), &mut found, rows, second, busy)?;
+    if rows.len() <= BATCH {
+        let space = Vec::with_capacity(alloc, BATCH)?;
+        let ways = with_ways(space, &mut found, rows, second, begins, busy)?;
         return gathered_of(known, ways, room);
     }
     let sorted = by_departure(alloc, rows)?;
@@ -123,7 +147,7 @@ fn of_source(
     let mut left = &sorted[..];
     while !left.is_empty() {
         let (part, later) = left.split_at(stretch_len(left));
-        ways = with_ways(ways, &mut found, part, second, busy)?;
+        ways = with_ways(ways, &mut found, part, second, begins, busy)?;
         if ways.len() > MANY {
             let complete = gathered_of(known, ways, room - count)?;
             count += complete.rows.len();
@@ -149,12 +173,20 @@ pub(crate) fn composed(
     requires second { AreComposed second.now busy.now }
     ensures { Gives result (HasMiddlePoint rows.now second.now) max_rows }
 {
+    let begins = offsets_of(alloc, second, rows.len())?;
     let mut known = Known::new(alloc);
     let mut done = Vec::new(alloc);
     let mut left = rows;
     while let Some(first) = left.first() {
-        let (group, later) = left.split_at(source_count(left, first));
-        let more = of_source(&mut known, group, second, busy, max_rows - done.len())?;
+        let (group, later) = left.split_at(batch_len(left, first));
+        let more = of_sources(
+            &mut known,
+            group,
+            second,
+            &begins,
+            busy,
+            max_rows - done.len(),
+        )?;
         done.extend_from_slice(&more.rows)?;
         left = later;
     }

@@ -22,10 +22,13 @@ ghost use Rattle.relation_rows.specs.Gathering.{ItemUpTo, HaveOneKey, IsCounted,
 use crate::known::Known;
 use crate::relations::Relation;
 use crate::rows::{RelFault, Row};
-use band_normal::{Band, bands_of, normal, push_present, zone_of};
+use band_normal::{Band, normal, push_bands_of, zone_of};
 use itpg_base::{ObjNo, count_leading};
 use std::alloc::{AllocError, Global};
 use zone_core::Zone;
+
+// For so many rows at most there is room from the start.
+const ROOM: usize = 64;
 
 /// A zone of moments from a source to a target.
 pub(crate) type Item = (ObjNo, ObjNo, Zone);
@@ -45,6 +48,11 @@ fn first_count(items: &[Item], first: &Item) -> usize
     ensures same { (i : Item) → Among (take result items.now) i → HaveOneKey first.now i }
     ensures later { (i : Item) → Among (drop result items.now) i → KeyBefore first.now.0.0 first.now.1.0 i.0.0 i.1.0 }
 {
+    if let Some(second) = items.get(1) {
+        if !are_of_one_key(second, first) {
+            return 1;
+        }
+    }
     count_leading(items, |item| are_of_one_key(item, first))
 }
 
@@ -81,7 +89,7 @@ fn find_bands(bands: &mut Vec<Band>, known: &mut Known, items: &[Item]) -> Resul
 {
     if let [item] = items {
         bands.clear();
-        push_present(bands, bands_of(&item.2))?;
+        push_bands_of(bands, &item.2)?;
         return Ok(());
     }
     known.learn(items)?;
@@ -115,7 +123,7 @@ pub(crate) fn gathered(known: &mut Known, items: &[Item], room: usize) -> Result
     ensures gives { Gives result (ItemsHold items.now) room }
     ensures counted { IsCounted result room }
 {
-    let mut rows = Vec::new(known.allocator());
+    let mut rows = Vec::with_capacity(known.allocator(), items.len().min(ROOM))?;
     let mut bands = Vec::new(known.allocator());
     let mut left = items;
     while let Some(first) = left.first() {

@@ -12,6 +12,7 @@ mod gather;
 mod known;
 pub mod laws;
 mod minus;
+mod offsets;
 mod parting;
 pub mod relations;
 pub mod rows;

@@ -1,6 +1,7 @@
 //! Searches among objects and rows.
 
-ghost use Rattle.std.specs.Prelude.{◌≡◌, ◌↔◌, ℕ, IsTrue, IfOk};
+ghost use Rattle.std.specs.Prelude.{◌≡◌, ◌↔◌, ◌==◌, ◌≤◌, ℕ, length, nat_lt, true, false, IsTrue, IfOk};
+ghost use Rattle.std.specs.List.Sorted.{IsPartitionedBy, IsPartitionPoint};
 ghost use Rattle.band_normal.specs.Bands.{InBand, IsWellFormed};
 ghost use Rattle.itpg_base.specs.Lists.{Among, Ordered};
 ghost use Rattle.relation_rows.specs.declared.rows.Row.{Row};
@@ -10,7 +11,7 @@ ghost use Rattle.relation_rows.specs.Searching.{AreKept, comes_before, has_key};
 
 use crate::rows::Row;
 use band_normal::Band;
-use itpg_base::ObjNo;
+use itpg_base::{ObjNo, count_leading};
 use std::alloc::{AllocError, Global};
 
 /// Whether the object is one of the list, which rises.
@@ -58,15 +59,43 @@ pub(crate) fn rows_of_key(rows: &[Row], source: ObjNo, target: ObjNo) -> &[Row]
     &from[..count]
 }
 
-/// The rows from the source, of rows in order.
-pub(crate) fn rows_from(rows: &[Row], source: ObjNo) -> &[Row]
+// How many of the rows come from an object before the source. The place that is told is looked at first.
+fn count_before(rows: &[Row], told: usize, source: ObjNo) -> usize
+    requires { Ordered RowBefore rows.now }
+    ensures within { result ≤ length rows.now }
+    ensures point { IsPartitionPoint (λ (r : Row). nat_lt r.source.0 source.0 ≡ true) (λ (r : Row). nat_lt r.source.0 source.0 ≡ false) rows.now result }
+{
+    if told < rows.len() && source.0 <= rows[told].source.0 {
+        if told == 0 || rows[told - 1].source.0 < source.0 {
+            return told;
+        }
+    }
+    rows.partition_point(|row| row.source.0 < source.0)
+}
+
+// How many of the rows, from the first on, come from the source. The number that is told is tried first.
+fn count_of(rows: &[Row], told: usize, source: ObjNo) -> usize
+    requires { IsPartitionedBy (λ (r : Row). r.source.0 == source.0) rows.now }
+    ensures within { result ≤ length rows.now }
+    ensures point { IsPartitionPoint (λ (r : Row). (r.source.0 == source.0) ≡ true) (λ (r : Row). (r.source.0 == source.0) ≡ false) rows.now result }
+{
+    if 0 < told && told < rows.len() {
+        if rows[told - 1].source.0 == source.0 && rows[told].source.0 != source.0 {
+            return told;
+        }
+    }
+    count_leading(rows, |row| row.source.0 == source.0)
+}
+
+/// The rows from the source, of rows in order. They are looked for first from the one place that is told to the other.
+pub(crate) fn rows_from(rows: &[Row], told: (usize, usize), source: ObjNo) -> &[Row]
     requires { Ordered RowBefore rows.now }
     ensures rows { (r : Row) → Among result.now r ↔ (Among rows.now r × (r.source.0 ≡ source.0)) }
     ensures order { Ordered RowBefore result.now }
 {
-    let begin = rows.partition_point(|row| row.source.0 < source.0);
+    let begin = count_before(rows, told.0, source);
     let from = &rows[begin..];
-    let count = from.partition_point(|row| row.source.0 == source.0);
+    let count = count_of(from, told.1.saturating_sub(begin), source);
     &from[..count]
 }
 

@@ -1,27 +1,30 @@
 //! The ways that begin with a row, or with one of some rows, and go on by a row that departs where that one arrives.
 //!
-//! The rows from one object stand together. A few of them are gone through; if there are more, those that depart in time are
-//! searched in a timetable, which has only the rows from such busy objects. Where the ways become many, the zones of their normal
-//! rows stand for them from then on, so that ways that lie within others take no memory for long.
+//! The rows from one object stand together, from a place that is listed. A few of them are gone through; if there are more, those
+//! that depart in time are searched in a timetable, which has only the rows from such busy objects. Where the ways become many, the
+//! zones of their normal rows stand for them from then on, so that ways that lie within others take no memory for long.
 
-ghost use Rattle.std.specs.Prelude.{◌≡◌, ◌⊎◌, ◌↔◌, IfOk, OnOk};
+ghost use Rattle.std.specs.Prelude.{◌≡◌, ◌⊎◌, ◌↔◌, ℤ, IsTrue, IfOk, OnOk};
 ghost use Rattle.itpg_base.specs.Points.{Point};
+ghost use Rattle.zone_core.specs.Zone.{Between, Holds, Meets};
+ghost use Rattle.zone_compose.specs.Compose.{AreArrivals};
 ghost use Rattle.itpg_base.specs.Lists.{Among};
 ghost use Rattle.band_normal.specs.Bands.{IsWellFormed};
 ghost use Rattle.relation_rows.specs.declared.rows.Row.{Row as PlainRow};
 ghost use Rattle.relation_rows.specs.Relations.{ItemsHold, HasMiddlePoint};
 ghost use Rattle.relation_rows.specs.Timetables.{IsTimetable};
-ghost use Rattle.relation_rows.specs.Ways.{ItemThere, GoesOn, GoesOnBy, AreComposed};
+ghost use Rattle.relation_rows.specs.Ways.{ItemThere, GoesOn, GoesOnBy, GoesThrough, IsStill, AreComposed};
 
 use crate::gather::{Item, gathered_all, push_zones};
+use crate::offsets::Offsets;
 use crate::rows::Row;
 use crate::search::rows_from;
 use crate::timetable::{Leg, find_departing};
-use band_normal::zone_of;
+use band_normal::{Band, End, zone_of};
 use itpg_base::ObjNo;
 use std::alloc::AllocError;
 use zone_compose::{arrivals, compose};
-use zone_core::Zone;
+use zone_core::{Zone, tight};
 
 /// More ways than these are united.
 pub(crate) const MANY: usize = 65_536;
@@ -43,6 +46,45 @@ fn push_there(
     Ok(())
 }
 
+// Whether each pair of the band arrives when it departs.
+fn is_still(band: &Band) -> bool
+    ensures { IsTrue result → IsStill band.now }
+{
+    match band.low {
+        End::Fixed(_) => false,
+        End::Moving(low) => match band.high {
+            End::Fixed(_) => false,
+            End::Moving(high) => low == 0 && high == 0,
+        },
+    }
+}
+
+// The zone's pairs that arrive while the band departs.
+fn arriving_in(zone: &Zone, band: &Band) -> Option<Zone>
+    requires { IsWellFormed band.now }
+    ensures { (t : ℤ) → (u : ℤ) → Holds result t u ↔ (Meets zone.now t u × Between band.now.from band.now.to u) }
+{
+    let mut bounds = zone.bounds();
+    bounds.c = bounds.c.max(band.from);
+    bounds.d = bounds.d.min(band.to);
+    tight(bounds)
+}
+
+// The zone of the ways by the zone's pairs and then the band's. Where these depart too soon or too late, there is none.
+fn way_by(zone: &Zone, span: (i64, i64), band: &Band) -> Option<Zone>
+    requires span { AreArrivals zone.now span.0 span.1 }
+    requires band { IsWellFormed band.now }
+    ensures { (t : ℤ) → (u : ℤ) → Holds result t u ↔ GoesThrough zone.now band.now t u }
+{
+    if band.to < span.0 || span.1 < band.from {
+        return None;
+    }
+    if is_still(band) {
+        return arriving_in(zone, band);
+    }
+    compose(zone, &zone_of(band))
+}
+
 // Adds the ways by the row and one of those from where it arrives.
 fn push_scanned(items: &mut Vec<Item>, row: &Row, here: &[Row]) -> Result<(), AllocError>
     requires row { IsWellFormed row.now.band }
@@ -51,8 +93,9 @@ fn push_scanned(items: &mut Vec<Item>, row: &Row, here: &[Row]) -> Result<(), Al
     ensures { OnOk result ((x : Point) → (y : Point) → ItemsHold items.new.items x y ↔ (ItemsHold items.old.items x y ⊎ GoesOn row.now here.now x y)) }
 {
     let zone = zone_of(&row.band);
+    let span = arrivals(&zone);
     for next in here {
-        let way = compose(&zone, &zone_of(&next.band));
+        let way = way_by(&zone, span, &next.band);
         push_there(items, row.source, next.target, way)?;
     }
     Ok(())
@@ -84,13 +127,14 @@ fn push_ways(
     found: &mut Vec<Leg>,
     row: &Row,
     second: &[Row],
+    begins: &Offsets,
     busy: &[Leg],
 ) -> Result<(), AllocError>
     requires row { IsWellFormed row.now.band }
     requires second { AreComposed second.now busy.now }
     ensures { OnOk result ((x : Point) → (y : Point) → ItemsHold items.new.items x y ↔ (ItemsHold items.old.items x y ⊎ GoesOn row.now second.now x y)) }
 {
-    let here = rows_from(second, row.target);
+    let here = rows_from(second, begins.of(row.target), row.target);
     if here.len() <= FEW {
         push_scanned(items, row, here)?;
         return Ok(());
@@ -119,6 +163,7 @@ pub(crate) fn with_ways(
     found: &mut Vec<Leg>,
     rows: &[Row],
     second: &[Row],
+    begins: &Offsets,
     busy: &[Leg],
 ) -> Result<Vec<Item>, AllocError>
     requires rows { (r : PlainRow) → Among rows.now r → IsWellFormed r.band }
@@ -129,7 +174,7 @@ pub(crate) fn with_ways(
     let mut most = MANY;
     for row in rows {
         most = most.max(all.len().saturating_mul(2));
-        push_ways(&mut all, found, row, second, busy)?;
+        push_ways(&mut all, found, row, second, begins, busy)?;
         all = united_beyond(all, most)?;
     }
     Ok(all)

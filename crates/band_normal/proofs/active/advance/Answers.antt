@@ -6,5 +6,5 @@ use Rattle.band_normal.proofs.active.advance.Goals as goal
 
 pub returns : goal.returns
 returns c =
-    subst (λ (v : List Band). c.retain.new.self.items ≡ filter (λ b. int_le c.args.left.from b.to) v) c.in_ok-extend_from_slice.ensures.items
+    subst (λ (v : List Band). c.retain.new.self.items ≡ filter (λ b. int_le c.args.left.from b.to) v) c.in_ok-push_all.ensures
     (filter_same _ (λ (b : Band). int_le c.args.left.from b.to) _ (λ x b q k. search (rules, tests)) _ _ c.retain.ensures.filtered)

@@ -19,7 +19,9 @@ pub returns : goal.returns
 returns t c = parting_end _ _ _ _ _ _ c.loop-left.invariant (none_left c.loop-left.left.now c.loop-left-test.ensures) (subst (λ (v : List Bounds). (t : ℤ) → (u : ℤ) → SomeMeets v t u ↔ SomeMeets c.args.zones.now t u) (sym c.deref-2.ensures.value) c.in_ok-sorted.ensures.pairs)
 
 pub returns-in-len1 : goal.returns-in-len1
-returns-in-len1 t c = only_adds _ _ _ _ _ c.in-len1.len_at_least c.in-len1.len_below c.zone-item.is c.bands_of.ensures.normal c.bands_of.ensures.well_formed c.in_ok-push_present.ensures
+returns-in-len1 t c =
+    let adds = c.in_ok-push_bands_of.ensures in
+    only_adds _ _ _ _ _ c.in-len1.len_at_least c.in-len1.len_below c.zone-item.is adds.normal adds.formed adds.is
 
 pub returns-in-Some : goal.returns-in-Some
 returns-in-Some t c = rows_added _ _ _ _ _ (rw c.in-Some.is at c.in_ok-more.ensures.rows) c.deref.ensures.value c.in_ok-extend_from_slice.ensures.items

@@ -1,6 +1,7 @@
-use Rattle.std.proofs.Common.{◌≡◌, ◌≤ℤ◌, List, [], ◌∷◌, inl, inr, ap, SFits, w64, to_z-of_z, arith, Some}
+use Rattle.std.proofs.Common.{◌≡◌, ◌≤ℤ◌, ℤ, sym, subst, List, [], ◌∷◌, inl, inr, ap, SFits, w64, to_z, of_z, to_z-of_z, arith, Some}
 use Rattle.std.specs.Prelude.{slice_get}
 use Rattle.std.proofs.lemmas.Int.{ints}
+use Rattle.zone_core.specs.Zone.{Within, moment_reach}
 use Rattle.band_normal.specs.declared.band.Band.{Band}
 use Rattle.itpg_base.specs.Lists.{Among, Ordered}
 use Rattle.band_normal.specs.Strips.{BeginsEarlier}
@@ -25,10 +26,14 @@ returns-clause-some c =
     let near = w.from in
     let fits : SFits w64 c.in_ok-first.first.now.from = omega (arith, ints) in
     let last = w.to in let span = w.span in
+    let end_near = c.last_departure.ensures.near in
+    let end_fits : SFits w64 c.last_departure.result = omega (arith, ints) in
+    let end = c.last_departure.ensures.other in
+    let e : to_z w64 (of_z w64 c.last_departure.result) ≡ c.last_departure.result = to_z-of_z end_fits in
     record {
       span = simp to_z-of_z (omega (arith, ints));
       from_near = simp to_z-of_z near;
-      to_near = record { above = omega (arith, ints); below = omega (arith, ints) };
+      to_near = subst (λ (v : ℤ). Within moment_reach v) (sym e) end_near;
       from = λ b i. let a = first_from c.args.bands.now c.in_ok-first.first.now c.in_ok-first.ensures.value c.requires.order b i in omega (arith, ints);
-      to = λ b i. let v = c.requires.well_formed b i in let t = v.to in omega (arith, ints);
+      to = λ b i. let a = c.last_departure.ensures.all b i in omega (arith, ints);
     }

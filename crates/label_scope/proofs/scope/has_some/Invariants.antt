@@ -3,5 +3,5 @@ use Rattle.std.specs.Prelude.{Contains}
 use Rattle.itpg_base.specs.Words.{Word}
 use Rattle.label_scope.proofs.scope.has_some.Given as goal
 
-abbrev pub invariant-loop-i : goal.invariant-loop-i
-invariant-loop-i l = (label : Word) → Contains (take l.i l.labels) label → Contains l.names label → ⊥
+abbrev pub invariant-loop-name : goal.invariant-loop-name
+invariant-loop-name l = (label : Word) → Contains (take l.name-index l.name-items) label → Contains l.labels label → ⊥

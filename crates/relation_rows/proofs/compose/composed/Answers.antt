@@ -20,25 +20,23 @@ loop-first-preserved c =
     let gives = c.in_ok-more.ensures in
     let all = extended ∙ ap (λ (v : List Row). c.loop-first.done.items ++ v) (c.deref.ensures.value ∙ c.more.view_is) in
     let count : c.len.result ≡ length c.loop-first.done.items = omega arith in (
-      next_composed c.args.rows.now c.args.second.now c.loop-first.left.now c.loop-first.done.items c.loop-first.invariant.0 c.in-Some.first.now c.in-Some.ensures.value c.source_count.result
-          c.source_count.ensures.same c.source_count.ensures.later c.split_at.result.0.now c.split_at.result.1.now c.split_at.ensures.front c.split_at.ensures.back
+      next_composed c.args.rows.now c.args.second.now c.loop-first.left.now c.loop-first.done.items c.loop-first.invariant.0 c.batch_len.result c.batch_len.ensures.apart c.split_at.result.0.now c.split_at.result.1.now c.split_at.ensures.front c.split_at.ensures.back
           c.in_ok-more.more gives.0
           (subst (λ (v : List Row). (r : Row) → Among v r → IsWellFormed r.band) c.more.view_is (c.more.invariant).formed)
           c.extend_from_slice.new.self.items all,
       within_limit c.args.max_rows c.len.result c.loop-first.done.items c.in_ok-more.more c.extend_from_slice.new.self.items all count c.loop-first.invariant.1 gives.1,
     )
 
-pub of_source-requires-clause-rows : goal.of_source-requires-clause-rows
-of_source-requires-clause-rows c = group_formed c.args.rows.now c.args.second.now c.loop-first.left.now c.loop-first.done.items c.loop-first.invariant.0 c.source_count.result c.split_at.result.0.now c.split_at.ensures.front c.requires.rows
+pub of_sources-requires-clause-rows : goal.of_sources-requires-clause-rows
+of_sources-requires-clause-rows c = group_formed c.args.rows.now c.args.second.now c.loop-first.left.now c.loop-first.done.items c.loop-first.invariant.0 c.batch_len.result c.split_at.result.0.now c.split_at.ensures.front c.requires.rows
 
 pub returns-in_err-more : goal.returns-in_err-more
 returns-in_err-more c =
-    let fault = err_from_is_err_and c.from_residual.result c.from_residual.ensures.1 in
+    let fault = err_from_is_err_and c.from_residual-in_err-more.result c.from_residual-in_err-more.ensures.1 in
     let gives = c.in_err-more.ensures in
     let count : c.len.result ≡ length c.loop-first.done.items = omega arith in
     rw (fault.1, fault.2)
-    (fault_after c.args.rows.now c.args.second.now c.loop-first.left.now c.loop-first.done.items c.loop-first.invariant.0 c.in-Some.first.now c.in-Some.ensures.value c.source_count.result
-    c.source_count.ensures.same c.source_count.ensures.later c.split_at.result.0.now c.split_at.result.1.now c.split_at.ensures.front c.split_at.ensures.back
+    (fault_after c.args.rows.now c.args.second.now c.loop-first.left.now c.loop-first.done.items c.loop-first.invariant.0 c.batch_len.result c.batch_len.ensures.apart c.split_at.result.0.now c.split_at.result.1.now c.split_at.ensures.front c.split_at.ensures.back
     c.args.max_rows c.len.result c.loop-first.invariant.1 count _ gives)
 
 pub invariant_of-result : goal.invariant_of-result

@@ -1,6 +1,8 @@
 use Rattle.std.proofs.Common.{◌≡◌, ◌≤◌, ◌<◌, List, [], ◌∷◌, ◌++◌, length, slice_index_or, map, inl, sym, ◌∙◌, subst, arith, ⊎_elim}
 use Rattle.zone_core.specs.Zone.{Meets}
 use Rattle.band_normal.specs.declared.band.Band.{Band}
+use Rattle.itpg_base.specs.Lists.{Among}
+use Rattle.band_normal.specs.Bands.{IsWellFormed}
 use Rattle.band_normal.specs.Normal.{Normal}
 use Rattle.band_normal.specs.Zones.{SomeMeets}
 use Rattle.band_normal.proofs.Sorting.{normal_like}
@@ -20,9 +22,16 @@ lone_normal (i ∷ j ∷ more) item rows some few is n = absurd (omega arith)
 
 pub returns-in-len1-clause-normal : goal.returns-in-len1-clause-normal
 returns-in-len1-clause-normal c =
-    let same = alone_is _ _ _ c.clear.ensures.items c.in_ok-push_present.ensures in
+    let adds = c.in_ok-push_bands_of.ensures in
+    let same = alone_is _ _ _ c.clear.ensures.items adds.is in
     lone_normal c.args.items.now c.item-item.result _ c.in-len1.len_at_least c.in-len1.len_below c.item-item.is
-    (subst (λ (v : List Band). Normal (Meets (zone_of_item c.item-item.result)) v) same c.bands_of.ensures.normal)
+    (subst (λ (v : List Band). Normal (Meets (zone_of_item c.item-item.result)) v) same adds.normal)
+
+pub returns-in-len1-clause-formed : goal.returns-in-len1-clause-formed
+returns-in-len1-clause-formed c =
+    let adds = c.in_ok-push_bands_of.ensures in
+    let same = alone_is _ _ _ c.clear.ensures.items adds.is in
+    subst (λ (v : List Band). (b : Band) → Among v b → IsWellFormed b) same adds.formed
 
 pub returns-clause-normal : goal.returns-clause-normal
 returns-clause-normal c =

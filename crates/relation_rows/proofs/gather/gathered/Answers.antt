@@ -7,8 +7,8 @@ use Rattle.relation_rows.proofs.gather.gathered.Goals as goal
 
 pub loop-first-init : goal.loop-first-init
 loop-first-init c = (
-  subst (λ (v : List Row). HasGathered c.args.items.now c.args.items.now v) (sym c.new-rows.ensures.items) (start c.args.items.now c.requires),
-  rw c.new-rows.ensures.items (omega arith),
+  subst (λ (v : List Row). HasGathered c.args.items.now c.args.items.now v) (sym c.in_ok-rows.ensures.items) (start c.args.items.now c.requires),
+  rw c.in_ok-rows.ensures.items (omega arith),
 )
 
 pub returns-then-len-room-clause-gives : goal.returns-then-len-room-clause-gives

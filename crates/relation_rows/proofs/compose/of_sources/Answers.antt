@@ -10,13 +10,13 @@ use Rattle.relation_rows.specs.Relations.{Item, ItemsHold, HasMiddlePoint}
 use Rattle.relation_rows.specs.Ways.{DepartsNoLater}
 use Rattle.relation_rows.proofs.Giving.{gives_alike}
 use Rattle.relation_rows.proofs.Counting.{IsUnderway, start, part_formed, step, count_all, fault_now, items_from, from_items, all_ways, ways_all}
-use Rattle.relation_rows.proofs.compose.of_source.Goals as goal
+use Rattle.relation_rows.proofs.compose.of_sources.Goals as goal
 
-pub returns-then-rows-le-FEW : goal.returns-then-rows-le-FEW
-returns-then-rows-le-FEW c =
+pub returns-then-rows-le-BATCH : goal.returns-then-rows-le-BATCH
+returns-then-rows-le-BATCH c =
     gives_alike (ItemsHold c.in_ok-ways.ways.items) (HasMiddlePoint c.args.rows.now c.args.second.now)
-    (all_ways c.args.second.now c.args.rows.now c.new.result.items c.in_ok-ways.ways.items c.new.ensures.items c.in_ok-ways.ensures)
-    (ways_all c.args.second.now c.args.rows.now c.new.result.items c.in_ok-ways.ways.items c.new.ensures.items c.in_ok-ways.ensures)
+    (all_ways c.args.second.now c.args.rows.now c.in_ok-space.space.items c.in_ok-ways.ways.items c.in_ok-space.ensures.items c.in_ok-ways.ensures)
+    (ways_all c.args.second.now c.args.rows.now c.in_ok-space.space.items c.in_ok-ways.ways.items c.in_ok-space.ensures.items c.in_ok-ways.ensures)
     c.args.room c.gathered_of.result c.gathered_of.ensures.gives
 
 pub loop-left-init : goal.loop-left-init
