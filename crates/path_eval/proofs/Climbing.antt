@@ -9,9 +9,9 @@ use Rattle.path_ast.specs.Terms.{PathTerm, OfTest, Forward, Backward, Next, Prev
 use Rattle.label_scope.specs.declared.scope.Scope.{Scope}
 use Rattle.label_scope.specs.declared.scope.Scope.TheVariants.{All}
 use Rattle.label_scope.specs.Members.{Member, worked, worked_conditions, middle, passed, powers_within, unions_within, further, members_between}
-use Rattle.plan_cache.specs.Nodes.{PlanNode, AreShared, AreNodesOf, IsNodeOf, narrowed_member, conditions, parts, parts_of}
-use Rattle.plan_cache.specs.Growing.{IsChild}
+use Rattle.plan_cache.specs.Nodes.{PlanNode, Kept, AreShared, AreNodesOf, IsNodeOf, narrowed_member, conditions, parts, parts_of}
 use Rattle.path_eval.specs.Evaluated.{members_of}
+use Rattle.path_eval.specs.Keeping.{LeadsTo}
 use Rattle.path_eval.proofs.Working.{members_are}
 
 -- the members of a part that is known by an equation
@@ -76,10 +76,10 @@ pub some_node : (P : PlanNode → Type 0) (o : Option PlanNode) → IsSomeAnd o 
 some_node P None h = absurd h
 some_node P (Some n) h = (n, refl, h)
 
-module _ (nodes : List PlanNode) (shared : AreShared nodes) where
-  child_members : (x y : ℕ) (n c : PlanNode) (m : Member) → slice_get nodes x ≡ Some n → slice_get nodes y ≡ Some c → IsChild nodes x y → Among (members_of c.member) m → Among (members_of n.member) m
+module _ (nodes : List PlanNode) (shared : AreShared nodes) (kept : List Kept) where
+  child_members : (x y : ℕ) (n c : PlanNode) (m : Member) → slice_get nodes x ≡ Some n → slice_get nodes y ≡ Some c → LeadsTo nodes kept x y → Among (members_of c.member) m → Among (members_of n.member) m
   child_members x y n c m e f l h =
-      let at = some_node (λ v. Among v.children y) (slice_get nodes x) l in
+      let at = some_node (λ v. Among v.children y) (slice_get nodes x) l.0 in
       let i = subst (λ (v : PlanNode). Among v.children y) (some_is at.0 n (sym at.1 ∙ e)) at.2 in
       let part = child_part (take x nodes) n.children (parts_of n.member) y (shared.lower x n e).children i in
       let is = some_node (λ v. v.member ≡ part.0) (slice_get nodes y) (of_taken nodes x y part.0 part.2) in
@@ -87,12 +87,12 @@ module _ (nodes : List PlanNode) (shared : AreShared nodes) where
       part_members n.member.path n.member.sources n.member.targets part.0 m part.1 (subst (λ (v : Member). Among (members_of v) m) same h)
 
   -- what is too wide on the way is too wide for the question
-  pub reached_members : (x : ℕ) (zs : List ℕ) (k : ℕ) (n c : PlanNode) (m : Member) → IsWalk (IsChild nodes) x zs k → slice_get nodes x ≡ Some n → slice_get nodes k ≡ Some c → Among (members_of c.member) m → Among (members_of n.member) m
+  pub reached_members : (x : ℕ) (zs : List ℕ) (k : ℕ) (n c : PlanNode) (m : Member) → IsWalk (LeadsTo nodes kept) x zs k → slice_get nodes x ≡ Some n → slice_get nodes k ≡ Some c → Among (members_of c.member) m → Among (members_of n.member) m
   reached_members x [] k n c m w e f h = subst (λ (v : PlanNode). Among (members_of v.member) m) (some_is c n (sym f ∙ ap (slice_get nodes) (sym w) ∙ e)) h
   reached_members x (z ∷ zs) k n c m w e f h =
       let next = first_of z zs k c w.1 f in
       child_members x z n next.0 m e next.1 w.0 (reached_members z zs k next.0 c m w.1 next.1 f h)
     where
-      first_of : (z : ℕ) (zs : List ℕ) (k : ℕ) (c : PlanNode) → IsWalk (IsChild nodes) z zs k → slice_get nodes k ≡ Some c → (v : PlanNode) × (slice_get nodes z ≡ Some v)
+      first_of : (z : ℕ) (zs : List ℕ) (k : ℕ) (c : PlanNode) → IsWalk (LeadsTo nodes kept) z zs k → slice_get nodes k ≡ Some c → (v : PlanNode) × (slice_get nodes z ≡ Some v)
       first_of z [] k c w f = (c, ap (slice_get nodes) w ∙ f)
-      first_of z (u ∷ zs) k c w f = let at = some_node (λ v. Among v.children u) (slice_get nodes z) w.0 in (at.0, at.1)
+      first_of z (u ∷ zs) k c w f = let at = some_node (λ v. Among v.children u) (slice_get nodes z) w.0.0 in (at.0, at.1)

@@ -9,6 +9,7 @@ pub mod Leading
 pub mod Working
 pub mod Marking
 pub mod Climbing
+pub mod KeptRows
 pub mod Filled
 pub mod Steps
 pub mod Asked

@@ -5,8 +5,8 @@ use Rattle.itpg_base.specs.Lists.{Among}
 use Rattle.itpg_base.specs.Walks.{IsWalk}
 use Rattle.label_scope.specs.Members.{Member}
 use Rattle.plan_cache.specs.Operations.{OpTerm, op_children}
-use Rattle.plan_cache.specs.Nodes.{PlanNode, AreNodesOf, AreShared, IsOperation}
-use Rattle.plan_cache.specs.Growing.{IsChild}
+use Rattle.plan_cache.specs.Nodes.{PlanNode, Kept, AreNodesOf, AreShared, IsOperation}
+use Rattle.path_eval.specs.Keeping.{LeadsTo}
 use Rattle.path_eval.specs.Reached.{AllBelow, marked, IsMarking, AreReached}
 
 pub marked_both : (ks ls : List ℕ) (marks : List Bool) → marked (ks ++ ls) marks ≡ marked ls (marked ks marks)
@@ -103,14 +103,14 @@ one_step R x y z [] w r = (subst (λ (v : ℕ). R v z) (sym w) r, refl)
 one_step R x y z (u ∷ zs) w r = (w.0, one_step R u y z zs w.1 r)
 
 -- all that is reached is marked in the end
-pub all_reached : (nodes : List PlanNode) (n : ℕ) (marks : List Bool) → IsMarking nodes n 0 marks → AreReached nodes n marks
-all_reached nodes n marks m = record {
+pub all_reached : (nodes : List PlanNode) (kept : List Kept) (n : ℕ) (marks : List Bool) → IsMarking nodes kept n 0 marks → AreReached nodes kept n marks
+all_reached nodes kept n marks m = record {
   long = m.long;
   sound = m.sound;
   whole = λ j h. along n h.0 j m.start h.1;
 }
   where
-    along : (x : ℕ) (zs : List ℕ) (j : ℕ) → slice_get marks x ≡ Some true → IsWalk (IsChild nodes) x zs j → slice_get marks j ≡ Some true
+    along : (x : ℕ) (zs : List ℕ) (j : ℕ) → slice_get marks x ≡ Some true → IsWalk (LeadsTo nodes kept) x zs j → slice_get marks j ≡ Some true
     along x [] j e w = subst (λ (v : ℕ). slice_get marks v ≡ Some true) w e
     along x (z ∷ zs) j e w = along z zs j (m.closed x z (omega arith) e w.0) w.1
 
@@ -120,10 +120,10 @@ which_first zero (suc x) l = inr (omega arith)
 which_first (suc k) zero l = absurd (let none : ⊥ = omega arith in none)
 which_first (suc k) (suc x) l = elim (which_first k x (omega arith)) [ inl e ↦ inl (ap suc e) | inr h ↦ inr (omega arith) ]
 
--- a node whose children are marked
-pub marks_on : (nodes : List PlanNode) → AreShared nodes → (n k : ℕ) (marks : List Bool) (op : OpTerm) → IsMarking nodes n (k + 1) marks → slice_get marks k ≡ Some true
-    → IsSomeAnd (slice_get nodes k) (λ x. IsOperation nodes x op) → k ≤ n → IsMarking nodes n k (marked (op_children op) marks)
-marks_on nodes shared n k marks op m here does l =
+-- a marked node at which nothing is kept, whose children are marked now
+pub marks_on : (nodes : List PlanNode) → AreShared nodes → (kept : List Kept) (n k : ℕ) (marks : List Bool) (op : OpTerm) → IsMarking nodes kept n (k + 1) marks → slice_get marks k ≡ Some true
+    → slice_get kept k ≡ Some None → IsSomeAnd (slice_get nodes k) (λ x. IsOperation nodes x op) → k ≤ n → IsMarking nodes kept n k (marked (op_children op) marks)
+marks_on nodes shared kept n k marks op m here free does l =
     let x = some_node (λ y. IsOperation nodes y op) (slice_get nodes k) does in
     let below = children_below nodes shared k op does in
     let long = m.long in
@@ -132,11 +132,11 @@ marks_on nodes shared n k marks op m here does l =
       long = length_marked (op_children op) marks ∙ m.long;
       start = marked_stays (op_children op) marks n m.start;
       sound = λ j e. elim (marked_from (op_children op) marks j e) [
-        | inl h ↦ (let w = m.sound k here in (w.0 ++ j ∷ [], one_step (IsChild nodes) n k j w.0 w.1 (leads j x.0 x.1 x.2.children h)))
+        | inl h ↦ (let w = m.sound k here in (w.0 ++ j ∷ [], one_step (LeadsTo nodes kept) n k j w.0 w.1 (leads j x.0 x.1 x.2.children h, free)))
         | inr h ↦ m.sound j h
       ];
       closed = λ a b g e t. elim (which_first k a g) [
-        | inl same ↦ marked_in (op_children op) marks b few (child b x.0 x.1 x.2.children (subst (λ (v : ℕ). IsSomeAnd (slice_get nodes v) (λ y. Among y.children b)) (sym same) t))
+        | inl same ↦ marked_in (op_children op) marks b few (child b x.0 x.1 x.2.children (subst (λ (v : ℕ). IsSomeAnd (slice_get nodes v) (λ y. Among y.children b)) (sym same) t.0))
         | inr more ↦ elim (marked_from (op_children op) marks a e) [
           | inl h ↦ absurd (let f = is_below k (op_children op) a below h in let no_ : ⊥ = omega arith in no_)
           | inr h ↦ marked_stays (op_children op) marks b (m.closed a b (omega arith) h t)
@@ -150,21 +150,21 @@ marks_on nodes shared n k marks op m here does l =
     child : (b : ℕ) (x : PlanNode) → slice_get nodes k ≡ Some x → x.children ≡ op_children op → IsSomeAnd (slice_get nodes k) (λ y. Among y.children b) → Among (op_children op) b
     child b x e f h = subst (λ (v : List ℕ). Among v b) f (subst (λ (v : Option PlanNode). IsSomeAnd v (λ y. Among y.children b)) e h)
 
--- a node that isn't marked
-pub marks_past : (nodes : List PlanNode) (n k : ℕ) (marks : List Bool) → IsMarking nodes n (k + 1) marks → (slice_get marks k ≡ Some true → ⊥) → IsMarking nodes n k marks
-marks_past nodes n k marks m not = record {
+-- a node that isn't marked, or at which a relation is kept
+pub marks_past : (nodes : List PlanNode) (kept : List Kept) (n k : ℕ) (marks : List Bool) → IsMarking nodes kept n (k + 1) marks → (slice_get marks k ≡ Some true → slice_get kept k ≡ Some None → ⊥) → IsMarking nodes kept n k marks
+marks_past nodes kept n k marks m not = record {
   long = m.long;
   start = m.start;
   sound = m.sound;
   closed = λ a b g e t. elim (which_first k a g) [
-    | inl same ↦ absurd (not (subst (λ (v : ℕ). slice_get marks v ≡ Some true) (sym same) e))
+    | inl same ↦ absurd (not (subst (λ (v : ℕ). slice_get marks v ≡ Some true) (sym same) e) (subst (λ (v : ℕ). slice_get kept v ≡ Some None) (sym same) t.1))
     | inr more ↦ m.closed a b (omega arith) e t
   ];
 }
 
 -- at first the node itself is marked alone
-pub first_marks : (nodes : List PlanNode) (n : ℕ) → IsMarking nodes n (n + 1) (replicate n false ++ true ∷ [])
-first_marks nodes n = record {
+pub first_marks : (nodes : List PlanNode) (kept : List Kept) (n : ℕ) → IsMarking nodes kept n (n + 1) (replicate n false ++ true ∷ [])
+first_marks nodes kept n = record {
   long = many n;
   start = last n;
   sound = λ j e. ([], only n j e);

@@ -5,5 +5,7 @@ pub mod Axes
 pub mod WithinBoth
 pub mod Powers
 pub mod Ready
+pub mod Keeping
 pub mod Reached
 pub mod Made
+pub mod Filled

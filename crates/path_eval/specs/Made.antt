@@ -1,5 +1,5 @@
 -- The relations of plan nodes, as far as they are worked out.
-use Rattle.std.specs.Prelude.{◌≡◌, ℕ, ◌<◌, List, [], ◌∷◌, length, slice_get, Option, Some, Bool, true, IsSomeAnd}
+use Rattle.std.specs.Prelude.{◌≡◌, ℕ, List, [], ◌∷◌, slice_get, Option, Some}
 use Rattle.itpg_base.specs.Graphs.{Graph}
 use Rattle.relation_rows.specs.declared.rows.Row.{Row}
 use Rattle.path_ast.specs.Sizes.{IsPathInRange}
@@ -30,8 +30,3 @@ AreMade g limit made (k ∷ ks) (m ∷ ms) = IsMade g limit made k m × AreMade 
 pub record HasParts (g : Graph) (limit : ℕ) (made : List MaybeRows) (n : PlanNode) : Type 0 where
   pub in_range : IsPathInRange n.member.path
   pub parts : AreMade g limit made n.children (parts_of n.member)
-
--- the nodes below k that are marked are made
-pub record AreFilled (g : Graph) (limit : ℕ) (nodes : List PlanNode) (marks : List Bool) (k : ℕ) (made : List MaybeRows) : Type 0 where
-  pub many : length made ≡ k
-  pub each : (j : ℕ) → j < k → slice_get marks j ≡ Some true → IsSomeAnd (slice_get nodes j) (λ n. IsMade g limit made j n.member)

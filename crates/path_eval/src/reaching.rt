@@ -1,5 +1,5 @@
-//! Which plan nodes are worked out for one of them.
-ghost use Rattle.std.specs.Prelude.{◌≡◌, ◌<◌, ◌∷◌, [], ◌++◌, length, replicate, slice_set, true, false, IfOk};
+//! Which plan nodes are needed for one of them.
+ghost use Rattle.std.specs.Prelude.{◌≡◌, ◌<◌, ◌↔◌, ◌∷◌, [], ◌++◌, length, replicate, slice_get, slice_set, true, false, Some, None, IfOk, IsTrue};
 ghost use Rattle.plan_cache.specs.Operations.{op_term, op_children, part_term, part_children};
 ghost use Rattle.plan_cache.specs.Nodes.{AreShared};
 ghost use Rattle.path_eval.specs.Reached.{AreReached, marked};
@@ -7,20 +7,22 @@ ghost use Rattle.path_eval.specs.Reached.{AreReached, marked};
 use plan_cache::{PlanNo, PlanOp, PlanTest, Plans};
 use std::alloc::{AllocError, Global};
 
-/// By number, whether a node is worked out for this one: it, its children, their children, and so on. None has a greater
-/// number.
+/// By number, whether a node's relation is needed for this one: it is the node itself, or a child of a needed node at which no
+/// relation is kept. None has a greater number.
 ///
 /// ```text
-///     number   operation   children
-///          0   F                         marks for 4:   yes no yes no yes
+///     number   operation   children   kept
+///          0   F                             marks for 6:   no no yes no yes yes yes
 ///          1   B
 ///          2   N
 ///          3   Seq         0, 1
-///          4   Alt         0, 2
+///          4   Alt         0, 3       yes
+///          5   Seq         4, 2
+///          6   Alt         5, 4
 /// ```
 pub(crate) fn reached(alloc: Global, plans: &Plans, no: PlanNo) -> Result<Vec<bool>, AllocError>
     requires { no.0 < length plans.now.nodes }
-    ensures reached { IfOk result (λ marks. AreReached plans.now.nodes no.0 marks.items) }
+    ensures reached { IfOk result (λ marks. AreReached plans.now.nodes plans.now.kept no.0 marks.items) }
     ensures shared { AreShared plans.now.nodes }
 {
     let _lower = plans.len();
@@ -28,11 +30,19 @@ pub(crate) fn reached(alloc: Global, plans: &Plans, no: PlanNo) -> Result<Vec<bo
     let mut rest = no.0 + 1;
     while rest > 0 {
         rest -= 1;
-        if marks[rest as usize] {
+        if marks[rest as usize] && is_free(plans, PlanNo(rest)) {
             mark_op(plans.op(PlanNo(rest)), &mut marks);
         }
     }
     Ok(marks)
+}
+
+// Whether no relation is kept at the node.
+fn is_free(plans: &Plans, no: PlanNo) -> bool
+    requires { no.0 < length plans.now.nodes }
+    ensures { IsTrue result ↔ (slice_get plans.now.kept no.0 ≡ Some None) }
+{
+    plans.kept(no).is_none()
 }
 
 // The number marked alone, behind those below it.

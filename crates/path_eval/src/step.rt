@@ -50,13 +50,13 @@ pub(crate) fn step(ground: &Ground<'_>, made: &Made<'_>, no: PlanNo) -> Result<R
         PlanOp::N => in_time(ground, 1, a, b),
         PlanOp::P => in_time(ground, -1, a, b),
         PlanOp::Seq(first, second) => {
-            let before = made.relation_of(*first);
-            let after = made.relation_of(*second);
+            let before = made.relations.relation_of(*first);
+            let after = made.relations.relation_of(*second);
             before.compose(after, ground.max_rows)
         }
         PlanOp::Alt(one, other) => {
-            let by_one = made.relation_of(*one);
-            let by_other = made.relation_of(*other);
+            let by_one = made.relations.relation_of(*one);
+            let by_other = made.relations.relation_of(*other);
             by_one.union(by_other, ground.max_rows)
         }
         PlanOp::Repeat { body, least, most } => {
@@ -91,7 +91,7 @@ fn repeated<'g, 'a>(
         ground,
         plans: made.plans,
         body,
-        relation: made.relation_of(body),
+        relation: made.relations.relation_of(body),
         passed: within,
     };
     powers.between(a, b, times.least, times.most)
@@ -134,7 +134,7 @@ fn marks_of(
     match test {
         PlanTest::Leaf(leaf) => leaf_marks(ground.alloc, ground.graph, objects, leaf),
         PlanTest::Cond(no) => {
-            let leading = made.relation_of(*no);
+            let leading = made.relations.relation_of(*no);
             starts_of(ground.alloc, ground.graph, objects, leading)
         }
         PlanTest::And(one, other) => {

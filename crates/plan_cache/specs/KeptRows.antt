@@ -24,6 +24,10 @@ AddsFree old new = (more : ℕ) × (new ≡ old ++ replicate more None)
 abbrev pub AllKept : (Member → List Row → Type 0) → List PlanNode → List Kept → Type 0
 AllKept Right nodes kept = (k : ℕ) (rows : List Row) → slice_get kept k ≡ Some (Some rows) → IsSomeAnd (slice_get nodes k) (λ n. Right n.member rows)
 
+-- what was kept at a number is kept there still
+abbrev pub Stays : List Kept → List Kept → Type 0
+Stays old new = (k : ℕ) (rows : List Row) → slice_get old k ≡ Some (Some rows) → slice_get new k ≡ Some (Some rows)
+
 -- at a place that the touch meets nothing is kept any more, and at each other what was kept
 pub record ForgetsAt (touch : Touch) (foot : Footprint) (old new : Kept) : Type 0 where
   pub gone : Meets foot touch → new ≡ None

@@ -1,5 +1,5 @@
-use Rattle.path_eval.specs.Made.{AreFilled}
+use Rattle.path_eval.specs.Filled.{IsFilling}
 use Rattle.path_eval.proofs.evaluation.below.Given as goal
 
 abbrev pub invariant-loop-k : goal.invariant-loop-k
-invariant-loop-k l = AreFilled l.fn.ground.graph.now l.fn.ground.max_rows l.fn.plans.nodes l.needed.items l.k l.relations.items
+invariant-loop-k l = IsFilling l.fn.ground l.initial.plans l.fn.no.0 l.k l.plans l.made
