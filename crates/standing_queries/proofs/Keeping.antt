@@ -1,49 +1,215 @@
 -- What is kept, and the watches that it stands for.
-use Rattle.std.proofs.Common.{◌≡◌, ⊎_elim, inl, inr, ℕ, zero, suc, ◌+◌, ◌<◌, ◌≤◌, Bool, true, false, cond, List, ◌∷◌, [], ◌++◌, length, map, take, set, get_or, Option, Some, None, refl, sym, ◌∙◌, ap, subst, arith, true≢false}
-use Rattle.std.proofs.lemmas.List.{length-map, map-append, take_all}
+use Rattle.std.proofs.Common.{◌≡◌, ◌↔◌, ⊎_elim, inl, inr, ℕ, zero, suc, ◌+◌, ◌<◌, ◌≤◌, Bool, true, false, cond, List, ◌∷◌, [], ◌++◌, length, map, take, set, get_or, Option, Some, None, refl, sym, ◌∙◌, ap, subst, arith, true≢false, length-set}
+use Rattle.std.proofs.lemmas.List.{length-map, map-append, take_all, length-append}
 use Rattle.std.proofs.lemmas.Option.{slice_get_read}
-use Rattle.std.specs.Prelude.{◌||◌, nat_eq, slice_get, is_some, IfSome, IsSomeAnd, IsTrue}
-use Rattle.std.specs.List.{remove}
+use Rattle.std.specs.Prelude.{nat_eq, slice_get, slice_set, option_map, is_some, IfSome, IsSome, IsNone, IsSomeAnd}
+use Rattle.std.specs.List.{remove, zip}
 use Rattle.std.specs.Cmp.Lexicographic.{pointwise}
 use Rattle.itpg_base.specs.Words.{Word}
-use Rattle.itpg_base.proofs.Objects.{word_same, word_refl}
-use Rattle.path_ast.specs.Terms.{QueryTerm, query_term, path_term}
-use Rattle.path_ast.specs.Sizes.{path_size, IsPathInRange}
-use Rattle.path_ast.specs.declared.counts.TheConstants.{MAX_TERMS}
+use Rattle.itpg_base.specs.Graphs.{changed_at}
+use Rattle.itpg_base.proofs.Objects.{word_same, word_refl, there, here, same_some}
+use Rattle.itpg_base.specs.Decided.{Decided}
+use Rattle.itpg_base.specs.declared.touch.Touch.{Touch}
+use Rattle.label_scope.specs.Touching.{Meets}
+use Rattle.path_ast.specs.declared.ast.Query.{Query}
+use Rattle.path_ast.specs.Terms.{QueryTerm, query_term}
 use Rattle.itpg_base.specs.Lists.{Among}
 use Rattle.relation_rows.specs.declared.answered.Answer.{Answer}
-use Rattle.relation_rows.specs.Answered.{Answered, pairs, times, answered}
+use Rattle.relation_rows.specs.Answered.{pairs, times, answered}
 use Rattle.relation_rows.proofs.Partitions.{among_more}
-use Rattle.standing_queries.specs.declared.watches.Kept.{Kept}
-use Rattle.standing_queries.specs.Watches.{Watch, IsWatched, asks_for_both, IsOfKind, no_rows, new_watch, without, rebased}
-use Rattle.standing_queries.specs.Stores.{watch_of, IsSound, AreSound}
-use Rattle.standing_queries.proofs.Watching.{get_among, map_among, named_at, not_watched, taken_out, based, sound_more, sound_without, sound_rebased}
+use Rattle.standing_queries.specs.declared.kept.Kept.{Kept}
+use Rattle.standing_queries.specs.Watches.{Watch, MayBeWatched, IsWatched, IsOnlyPlace, asks_for_both, IsOfKind, no_rows, new_watch, without, IsFresh, Keeps}
+use Rattle.standing_queries.specs.Stores.{watch_of, watches_of, IsSound, AreSound, AreStored}
+use Rattle.standing_queries.specs.Touched.{IsTouched, IsTouchedAt}
+use Rattle.standing_queries.proofs.DecidedTouch.{decide_meets}
+use Rattle.standing_queries.proofs.Pairs.{got, zip_get, zip_length, zip_remove, zip_set, zip_push, zip_second, zip_among, zip_first}
+use Rattle.standing_queries.proofs.Named.{get_among, place_among, one_place}
+use Rattle.standing_queries.proofs.Watching.{map_among, said_at, named_at, watched_in, taken_out, changed, set_mapped, some_mapped, sound_none, sound_more, sound_without, sound_changed}
 
--- what is read at a place
-pub read_at : (items : List Kept) (ws : List Watch) (i : ℕ) (k : Kept) → map watch_of items ≡ ws → i < length ws → k ≡ get_or items i k → slice_get items i ≡ Some k
-read_at items ws i k v lt e =
-    let same = ap length v in
-    slice_get_read items (length items) i k refl (omega (arith, length-map items watch_of)) e
+-- nothing is kept at first
+pub stored_none : AreStored [] []
+stored_none = record { paired = refl; sound = sound_none }
 
-pub sound_at : (items : List Kept) (i : ℕ) (k : Kept) → AreSound (map watch_of items) → slice_get items i ≡ Some k → IsSound (watch_of k)
-sound_at items i k s e = s.each (watch_of k) (map_among watch_of items k (get_among items i k e))
+-- what is kept stands for these watches
+module _ (qs : List Query) (ks : List Kept) (ws : List Watch) (v : watches_of qs ks ≡ ws) (s : AreStored qs ks) where
+  pub as_many : length ws ≡ length ks
+  as_many = let l = length-map (zip qs ks) watch_of in let z = zip_length qs ks s.paired in let e = ap length v in omega arith
 
-pub some_at : (items : List Kept) (ws : List Watch) (i : ℕ) (k : Kept) (P : Watch → Type 0) → map watch_of items ≡ ws → slice_get items i ≡ Some k → P (watch_of k) → IsSomeAnd (slice_get ws i) P
-some_at items ws i k P v e p =
-    subst (λ (w : List Watch). IsSomeAnd (slice_get w i) P) v (subst (λ o. IsSomeAnd o P) (sym (named_at watch_of items i k e)) p)
+  pub within_queries : (i : ℕ) → i < length ws → i < length qs
+  within_queries i lt = let many = as_many in let p = s.paired in omega arith
 
--- another base
-pub set_based : (items : List Kept) (ws : List Watch) (i : ℕ) (k : Kept) (b : Answer) → map watch_of items ≡ ws → slice_get items i ≡ Some k
-    → map watch_of (set items i (record { name = k.name; query = k.query; base = b })) ≡ rebased i (answered b) ws
-set_based items ws i k b v e = based watch_of items i k (record { name = k.name; query = k.query; base = b }) (answered b) e refl ∙ ap (rebased i (answered b)) v
+  pub within_items : (i : ℕ) → i < length ws → i < length ks
+  within_items i lt = let many = as_many in omega arith
 
-pub set_sound : (items : List Kept) (ws : List Watch) (i : ℕ) (k : Kept) (b : Answer) → map watch_of items ≡ ws → slice_get items i ≡ Some k → AreSound (map watch_of items)
-    → IsSomeAnd (slice_get ws i) (λ w. IsOfKind w.query (answered b)) → AreSound (map watch_of (set items i (record { name = k.name; query = k.query; base = b })))
-set_sound items ws i k b v e s kind = subst AreSound (sym (set_based items ws i k b v e)) (sound_rebased i (answered b) ws (subst AreSound v s) kind)
+  -- what is read at a place
+  pub kept_read : (i : ℕ) (k : Kept) → i < length ws → k ≡ get_or ks i k → slice_get ks i ≡ Some k
+  kept_read i k lt e = let many = as_many in slice_get_read ks (length ks) i k refl (omega arith) e
 
--- the search for a name
-pub none_yet : (items : List Kept) (name : Word) (k : Kept) → Among (take 0 items) k → k.name ≡ name → ⊥
-none_yet items name k a e = a
+  pub query_read : (i : ℕ) (q : Query) → i < length ws → q ≡ get_or qs i q → slice_get qs i ≡ Some q
+  query_read i q lt e = slice_get_read qs (length qs) i q refl (within_queries i lt) e
+
+  at_both : (i : ℕ) (q : Query) (k : Kept) → slice_get qs i ≡ Some q → slice_get ks i ≡ Some k → slice_get ws i ≡ Some (watch_of (q, k))
+  at_both i q k d e = subst (λ (w : List Watch). slice_get w i ≡ Some (watch_of (q, k))) v (named_at watch_of (zip qs ks) i (q, k) (zip_get qs ks i q k d e))
+
+  -- the watch of what is kept at a place
+  pub of_kept : (i : ℕ) (k : Kept) → i < length ws → slice_get ks i ≡ Some k → (q : Query) × (slice_get qs i ≡ Some q) × (slice_get ws i ≡ Some (watch_of (q, k)))
+  of_kept i k lt e = let q = got qs i (within_queries i lt) in (q.0, q.1, at_both i q.0 k q.1 e)
+
+  pub of_query : (i : ℕ) (q : Query) → i < length ws → slice_get qs i ≡ Some q → (k : Kept) × (slice_get ks i ≡ Some k) × (slice_get ws i ≡ Some (watch_of (q, k)))
+  of_query i q lt d =
+      let many = as_many in
+      let k = got ks i (omega arith) in (k.0, k.1, at_both i q k.0 d k.1)
+
+  pub sound_at : (i : ℕ) (w : Watch) → slice_get ws i ≡ Some w → IsSound w
+  sound_at i w e = (subst AreSound v s.sound).each w (get_among ws i w e)
+
+  -- a fact of it that says nothing of the query
+  pub kept_has : (i : ℕ) (k : Kept) (P : Watch → Type 0) → i < length ws → k ≡ get_or ks i k → ((q : Query) → P (watch_of (q, k))) → IsSomeAnd (slice_get ws i) P
+  kept_has i k P lt e has = let w = of_kept i k lt (kept_read i k lt e) in here ws i P (watch_of (w.0, k)) w.2 (has w.0)
+
+  pub sound_kept : (i : ℕ) (k : Kept) (P : Watch → Type 0) → i < length ws → k ≡ get_or ks i k → ((q : Query) → IsSound (watch_of (q, k)) → P (watch_of (q, k))) → IsSomeAnd (slice_get ws i) P
+  sound_kept i k P lt e has =
+      let w = of_kept i k lt (kept_read i k lt e) in
+      here ws i P (watch_of (w.0, k)) w.2 (has w.0 (sound_at i (watch_of (w.0, k)) w.2))
+
+  pub query_has : (i : ℕ) (q : Query) (P : Watch → Type 0) → i < length ws → q ≡ get_or qs i q → ((k : Kept) → P (watch_of (q, k))) → IsSomeAnd (slice_get ws i) P
+  query_has i q P lt e has = let w = of_query i q lt (query_read i q lt e) in here ws i P (watch_of (q, w.0)) w.2 (has w.0)
+
+  pub sound_query : (i : ℕ) (q : Query) → i < length ws → q ≡ get_or qs i q → MayBeWatched (query_term q)
+  sound_query i q lt e =
+      let w = of_query i q lt (query_read i q lt e) in
+      (sound_at i (watch_of (q, w.0)) w.2).asks
+
+  -- where what is kept at a place is changed
+  module _ (i : ℕ) (k z : Kept) (g : Watch → Watch) (lt : i < length ws) (e : slice_get ks i ≡ Some k) (goes : (q : Query) → watch_of (q, z) ≡ g (watch_of (q, k))) where
+    pub set_kept : watches_of qs (set ks i z) ≡ changed_at ws i g
+    set_kept =
+        let w = of_kept i k lt e in
+        ap (map watch_of) (zip_set qs ks i w.0 z w.1)
+        ∙ changed watch_of (zip qs ks) i (w.0, k) (w.0, z) g (zip_get qs ks i w.0 k w.1 e) (goes w.0)
+        ∙ ap (λ (us : List Watch). changed_at us i g) v
+
+    pub stored_kept : ((w : Watch) → (g w).name ≡ w.name) → ((w : Watch) → slice_get ws i ≡ Some w → IsSound w → IsSound (g w)) → AreStored qs (set ks i z)
+    stored_kept named sound = record {
+      paired = (let p = s.paired in let l = length-set ks i z in omega arith);
+      sound = subst AreSound (sym set_kept) (sound_changed g named i ws (subst AreSound v s.sound) (λ w at. sound w at (sound_at i w at)));
+    }
+
+  pub all_queries : map query_term qs ≡ map (λ (w : Watch). w.query) ws
+  all_queries = zip_first (λ p. query_term p.0) query_term (λ p. refl) qs ks s.paired ∙ of_watches (zip qs ks) ∙ ap (map (λ (w : Watch). w.query)) v
+    where
+      of_watches : (ps : List (Query × Kept)) → map (λ (p : Query × Kept). query_term p.0) ps ≡ map (λ (w : Watch). w.query) (map watch_of ps)
+      of_watches [] = refl
+      of_watches (p ∷ ps) = ap (λ (us : List QueryTerm). query_term p.0 ∷ us) (of_watches ps)
+
+  pub each_query : (q : Query) → Among qs q → MayBeWatched (query_term q)
+  each_query q a = let p = zip_among qs ks q s.paired a in (s.sound.each (watch_of (q, p.0)) (map_among watch_of (zip qs ks) (q, p.0) p.1)).asks
+
+  -- where a touch was asked of what is kept at a place
+  module _ (i : ℕ) (k z : Kept) (touch : Touch) (lt : i < length ws) (e : slice_get ks i ≡ Some k) (same : z ≡ record k { now = z.now })
+      (gone : Meets k.foot touch → z.now ≡ None) (stays : (Meets k.foot touch → ⊥) → z.now ≡ k.now) where
+    is_touched : (q : Query) → IsTouched touch (watch_of (q, k)) (watch_of (q, z))
+    is_touched q = record {
+      same = ap (λ (u : Kept). watch_of (q, u)) same;
+      gone = λ met. ap (option_map answered) (gone met);
+      stays = λ unmet. ap (option_map answered) (stays unmet);
+    }
+
+    pub touched_there : IsTouchedAt i touch ws (watches_of qs (set ks i z))
+    touched_there =
+        let w = of_kept i k lt e in (
+          watch_of (w.0, k),
+          watch_of (w.0, z),
+          w.2,
+          is_touched w.0,
+          ap (map watch_of) (zip_set qs ks i w.0 z w.1) ∙ set_mapped watch_of (zip qs ks) i (w.0, z) ∙ ap (λ (us : List Watch). slice_set us i (watch_of (w.0, z))) v,
+        )
+
+    pub touched_stored : AreStored qs (set ks i z)
+    touched_stored =
+        stored_kept i k z (λ (w : Watch). record w { now = option_map answered z.now }) lt e (λ q. ap (λ (u : Kept). watch_of (q, u)) same) (λ w. refl)
+        (λ w at sound. record { asks = sound.asks; kind = sound.kind; kept_kind = still_of_kind w at sound (decide_meets k.foot touch) })
+      where
+        still_of_kind : (w : Watch) → slice_get ws i ≡ Some w → IsSound w → Decided (Meets k.foot touch) → IfSome (option_map answered z.now) (IsOfKind w.query)
+        still_of_kind w at sound (inl met) = subst (λ o. IfSome (option_map answered o) (IsOfKind w.query)) (sym (gone met)) tt
+        still_of_kind w at sound (inr unmet) =
+            let own = of_kept i k lt e in
+            let is : w ≡ watch_of (own.0, k) = same_some w (watch_of (own.0, k)) (slice_get ws i) at own.2 in
+            let kept : w.now ≡ option_map answered z.now = ap (λ (u : Watch). u.now) is ∙ sym (ap (option_map answered) (stays unmet)) in
+            subst (λ o. IfSome o (IsOfKind w.query)) kept sound.kept_kind
+
+  -- the answer that is lent of what is kept at a place
+  module _ {B : Type 0} (now_of : B → Answer) (i : ℕ) (k : Kept) (lt : i < length ws) (read : k ≡ get_or ks i k) where
+    pub lent_kept : (r : Option B) → option_map now_of r ≡ k.now → IsSomeAnd (slice_get ws i) (λ w. w.now ≡ option_map (λ b. answered (now_of b)) r)
+    lent_kept r is = kept_has i k (λ w. w.now ≡ option_map (λ b. answered (now_of b)) r) lt read (λ q. ap (option_map answered) (sym is) ∙ as_one r)
+      where
+        as_one : (o : Option B) → option_map answered (option_map now_of o) ≡ option_map (λ b. answered (now_of b)) o
+        as_one None = refl
+        as_one (Some b) = refl
+
+    pub lent_kind : (r : Option B) → option_map now_of r ≡ k.now → IfSome r (λ b. IsSomeAnd (slice_get ws i) (λ w. IsOfKind w.query (answered (now_of b))))
+    lent_kind None is = tt
+    lent_kind (Some b) is =
+        sound_kept i k (λ w. IsOfKind w.query (answered (now_of b))) lt read
+        (λ q sound. let now = sym (ap (option_map answered) is) in subst (λ o. IfSome o (IsOfKind (watch_of (q, k)).query)) now sound.kept_kind)
+
+  -- the search for a name
+  pub found_here : (name : Word) (i : ℕ) (k : Kept) → i < length ks → k ≡ get_or ks i k → pointwise nat_eq k.name name ≡ true → IsSomeAnd (slice_get ws i) (λ w. w.name ≡ name)
+  found_here name i k lt e t = let many = as_many in kept_has i k (λ w. w.name ≡ name) (omega arith) e (λ q. word_same k.name name t)
+
+  pub only_here : (name : Word) (i : ℕ) → IsSomeAnd (slice_get ws i) (λ w. w.name ≡ name) → IsOnlyPlace ws name i
+  only_here name i at other too =
+      let that = there ws other (λ w. w.name ≡ name) too in
+      let this = there ws i (λ w. w.name ≡ name) at in
+      one_place (λ (u : Watch). u.name) ws other i that.0 this.0 (subst AreSound v s.sound).differ that.1 this.1 (that.2 ∙ sym this.2)
+
+  pub nowhere : (name : Word) (i : ℕ) → length ks ≤ i → ((x : Kept) → Among (take i ks) x → x.name ≡ name → ⊥) → IsWatched ws name → ⊥
+  nowhere name i le before h =
+      let w = watched_in watch_of (zip qs ks) name (subst (λ (us : List Watch). IsWatched us name) (sym v) h) in
+      before w.0.1 (subst (λ (xs : List Kept). Among xs w.0.1) (sym (take_all i ks le)) (zip_second qs ks w.0 w.1)) w.2
+
+  -- one less
+  module _ (name : Word) (i : ℕ) (at : IsSomeAnd (slice_get ws i) (λ w. w.name ≡ name)) where
+    pub removed : watches_of (remove qs i) (remove ks i) ≡ without name ws
+    removed =
+        let p = some_mapped watch_of (zip qs ks) i (λ w. w.name ≡ name) (subst (λ (us : List Watch). IsSomeAnd (slice_get us i) (λ x. x.name ≡ name)) (sym v) at) in
+        ap (map watch_of) (zip_remove qs ks i s.paired) ∙ taken_out watch_of (zip qs ks) i p.0 name p.1 p.2 s.sound.differ ∙ ap (without name) v
+
+    pub removed_stored : AreStored (remove qs i) (remove ks i)
+    removed_stored = record {
+      paired = as_long qs ks i s.paired;
+      sound = subst AreSound (sym removed) (sound_without name ws (subst AreSound v s.sound));
+    }
+      where
+        as_long : (xs : List Query) (ys : List Kept) (j : ℕ) → length xs ≡ length ys → length (remove xs j) ≡ length (remove ys j)
+        as_long [] [] zero l = refl
+        as_long [] [] (suc j) l = refl
+        as_long [] (y ∷ ys) j l = absurd (omega (arith, l))
+        as_long (x ∷ xs) [] j l = absurd (omega (arith, l))
+        as_long (x ∷ xs) (y ∷ ys) zero l = omega (arith, l)
+        as_long (x ∷ xs) (y ∷ ys) (suc j) l = ap suc (as_long xs ys j (omega (arith, l)))
+
+  -- one more
+  module _ (q : Query) (k : Kept) (base : answered k.base ≡ no_rows (query_term q)) (none : k.now ≡ None) where
+    pub pushed : watches_of (qs ++ q ∷ []) (ks ++ k ∷ []) ≡ ws ++ new_watch k.name (query_term q) k.plan.0 k.foot ∷ []
+    pushed =
+        ap (map watch_of) (zip_push qs ks q k s.paired)
+        ∙ map-append watch_of (zip qs ks) ((q, k) ∷ [])
+        ∙ ap (λ (us : List Watch). us ++ watch_of (q, k) ∷ []) v
+        ∙ ap (λ (w : Watch). ws ++ w ∷ []) (let now = none in rw (base, none) refl)
+
+    pub pushed_stored : MayBeWatched (query_term q) → (IsWatched ws k.name → ⊥) → length ks < 32 → AreStored (qs ++ q ∷ []) (ks ++ k ∷ [])
+    pushed_stored asks free few = record {
+      paired = (let p = s.paired in let a = length-append qs (q ∷ []) in let b = length-append ks (k ∷ []) in omega arith);
+      sound = subst AreSound (sym pushed)
+          (sound_more ws (new_watch k.name (query_term q) k.plan.0 k.foot) (subst AreSound v s.sound)
+          (record { asks = asks; kind = kind_of_none (asks_for_both (query_term q)) (query_term q) refl; kept_kind = tt })
+          free (let many = as_many in omega arith));
+    }
+      where
+        kind_of_none : (b : Bool) (t : QueryTerm) → asks_for_both t ≡ b → IsOfKind t (cond b (pairs []) (times []))
+        kind_of_none true t e = e
+        kind_of_none false t e = e
 
 pub not_more : (items : List Kept) (name : Word) (i : ℕ) (k : Kept) → i < length items → k ≡ get_or items i k → ((x : Kept) → Among (take i items) x → x.name ≡ name → ⊥) → pointwise nat_eq k.name name ≡ false
     → (x : Kept) → Among (take (i + 1) items) x → x.name ≡ name → ⊥
@@ -51,13 +217,6 @@ not_more items name i k lt e before other x a same = ⊎_elim
     (λ b. before x b same)
     (λ (here : k ≡ x). true≢false (sym (ap (λ (v : Word). pointwise nat_eq v name) (ap (λ (v : Kept). v.name) here ∙ same) ∙ word_refl name) ∙ other))
     (among_more items i k x lt e a)
-
-pub found_here : (items : List Kept) (ws : List Watch) (name : Word) (i : ℕ) (k : Kept) → map watch_of items ≡ ws → i < length items → k ≡ get_or items i k → pointwise nat_eq k.name name ≡ true → IsSomeAnd (slice_get ws i) (λ w. w.name ≡ name)
-found_here items ws name i k v lt e t = some_at items ws i k (λ w. w.name ≡ name) v (slice_get_read items (length items) i k refl lt e) (word_same k.name name t)
-
-pub nowhere : (items : List Kept) (ws : List Watch) (name : Word) (i : ℕ) → map watch_of items ≡ ws → length items ≤ i → ((x : Kept) → Among (take i items) x → x.name ≡ name → ⊥) → IsWatched ws name → ⊥
-nowhere items ws name i v le before h =
-    not_watched watch_of items name (λ x a. before x (subst (λ (w : List Kept). Among w x) (sym (take_all i items le)) a)) (subst (λ (w : List Watch). IsWatched w name) (sym v) h)
 
 -- what was found
 pub some_within : (ws : List Watch) (i : ℕ) (P : Watch → Type 0) → IsSomeAnd (slice_get ws i) P → i < length ws
@@ -74,38 +233,42 @@ pub watched_found : (ws : List Watch) (name : Word) (r : Option ℕ) → IfSome 
 watched_found ws name None h e = absurd (true≢false (sym e))
 watched_found ws name (Some i) h e = watched_some ws i name h
 
-some_kept : (items : List Kept) (i : ℕ) (P : Watch → Type 0) → IsSomeAnd (slice_get (map watch_of items) i) P → (k : Kept) × (slice_get items i ≡ Some k) × P (watch_of k)
-some_kept [] i P h = absurd h
-some_kept (k ∷ items) zero P h = (k, refl, h)
-some_kept (k ∷ items) (suc i) P h = some_kept items i P h
+-- the answer that is lent of the watch at a place, whose name it is
+module _ {B : Type 0} (now_of : B → Answer) (ws : List Watch) (name : Word) (i : ℕ) (named : IsSomeAnd (slice_get ws i) (λ w. w.name ≡ name)) where
+  the_watch : (w : Watch) × (slice_get ws i ≡ Some w)
+  the_watch = got ws i (some_within ws i (λ w. w.name ≡ name) named)
 
--- one less
-pub removed : (items : List Kept) (ws : List Watch) (name : Word) (i : ℕ) → map watch_of items ≡ ws → AreSound (map watch_of items) → IsSomeAnd (slice_get ws i) (λ w. w.name ≡ name)
-    → map watch_of (remove items i) ≡ without name ws
-removed items ws name i v s h =
-    let k = some_kept items i (λ w. w.name ≡ name) (subst (λ (w : List Watch). IsSomeAnd (slice_get w i) (λ x. x.name ≡ name)) (sym v) h) in
-    taken_out watch_of items i k.0 name k.1 k.2 s.differ ∙ ap (without name) v
+  lent_of : (r : Option B) → IsSomeAnd (slice_get ws i) (λ w. w.now ≡ option_map (λ b. answered (now_of b)) r) → (the_watch).0.now ≡ option_map (λ b. answered (now_of b)) r
+  lent_of r lent = said_at ws i (the_watch).0 (λ w. w.now ≡ option_map (λ b. answered (now_of b)) r) (the_watch).1 lent
 
-pub removed_sound : (items : List Kept) (ws : List Watch) (name : Word) (i : ℕ) → map watch_of items ≡ ws → AreSound (map watch_of items) → IsSomeAnd (slice_get ws i) (λ w. w.name ≡ name)
-    → AreSound (map watch_of (remove items i))
-removed_sound items ws name i v s h = subst AreSound (sym (removed items ws name i v s h)) (sound_without name ws (subst AreSound v s))
+  pub kept_answer : (r : Option B) → IsSomeAnd (slice_get ws i) (λ w. w.now ≡ option_map (λ b. answered (now_of b)) r)
+      → IfSome r (λ b. IsSomeAnd (slice_get ws i) (λ w. IsOfKind w.query (answered (now_of b)))) → IfSome r (λ b. Keeps ws name (answered (now_of b)))
+  kept_answer None lent kind = tt
+  kept_answer (Some b) lent kind =
+      let w = (the_watch).0 in
+      let at = (the_watch).1 in (
+        w,
+        get_among ws i w at,
+        said_at ws i w (λ u. u.name ≡ name) at named,
+        lent_of (Some b) lent,
+        said_at ws i w (λ u. IsOfKind u.query (answered (now_of b))) at kind,
+      )
 
--- one more
-kind_of_none : (b : Bool) (q : QueryTerm) → asks_for_both q ≡ b → IsOfKind q (cond b (pairs []) (times []))
-kind_of_none true q e = e
-kind_of_none false q e = e
-
-pub pushed : (items : List Kept) (ws : List Watch) (k : Kept) → map watch_of items ≡ ws → answered k.base ≡ no_rows (query_term k.query)
-    → map watch_of (items ++ k ∷ []) ≡ ws ++ new_watch k.name (query_term k.query) ∷ []
-pushed items ws k v e =
-    map-append watch_of items (k ∷ [])
-    ∙ ap (λ (w : List Watch). w ++ watch_of k ∷ []) v
-    ∙ ap (λ (b : Answered). ws ++ record { name = k.name; query = query_term k.query; base = b } ∷ []) e
-
-pub pushed_sound : (items : List Kept) (ws : List Watch) (k : Kept) → map watch_of items ≡ ws → answered k.base ≡ no_rows (query_term k.query) → AreSound (map watch_of items)
-    → IsPathInRange (path_term k.query.path) → path_size (path_term k.query.path) ≤ MAX_TERMS → IsTrue (k.query.first || k.query.last) → (IsWatched ws k.name → ⊥) → length items < 32 → AreSound (map watch_of (items ++ k ∷ []))
-pushed_sound items ws k v e s in_range terms ends none few =
-    subst AreSound (sym (pushed items ws k v e))
-    (sound_more ws (new_watch k.name (query_term k.query)) (subst AreSound v s)
-    (record { in_range = in_range; terms = terms; ends = ends; kind = kind_of_none (asks_for_both (query_term k.query)) (query_term k.query) refl })
-    none (let same = ap length v in omega (arith, length-map items watch_of)))
+  pub no_answer : IsOnlyPlace ws name i → (r : Option B) → IsSomeAnd (slice_get ws i) (λ w. w.now ≡ option_map (λ b. answered (now_of b)) r) → IsNone r ↔ (IsFresh ws name → ⊥)
+  no_answer only None lent = (
+    λ none fresh.
+        let w = (the_watch).0 in
+        let other = place_among ws fresh.0 fresh.1 in
+        let same : other.0 ≡ i = only other.0 (here ws other.0 (λ u. u.name ≡ name) fresh.0 other.1 fresh.2) in
+        let is : fresh.0 ≡ w = same_some fresh.0 w (slice_get ws i) (subst (λ (j : ℕ). slice_get ws j ≡ Some fresh.0) same other.1) (the_watch).1 in
+        let now : fresh.0.now ≡ None = ap (λ (u : Watch). u.now) is ∙ lent_of None lent in
+        true≢false (sym (subst (λ o. IsSome o) now fresh.3)),
+    λ unfresh. refl,
+  )
+  no_answer only (Some b) lent = (
+    λ none. absurd (true≢false none),
+    λ unfresh.
+        let w = (the_watch).0 in
+        let at = (the_watch).1 in
+        absurd (unfresh (w, get_among ws i w at, said_at ws i w (λ u. u.name ≡ name) at named, subst (λ o. IsSome o) (sym (lent_of (Some b) lent)) refl)),
+  )

@@ -1,14 +1,15 @@
--- Lists of watches: the search for a name, one more, one less, and another base.
+-- Lists of watches: the search for a name, one more, one less, and one that is changed.
 use Rattle.std.proofs.Common.{◌≡◌, ◌⊎◌, inl, inr, ⊎_elim, ℕ, zero, suc, ◌<◌, ◌≤◌, Bool, true, false, List, [], ◌∷◌, ◌++◌, map, length, set, take, drop, Some, refl, sym, ◌∙◌, ap, subst, arith, true≢false}
 use Rattle.std.proofs.lemmas.List.{length-append}
 use Rattle.std.specs.Prelude.{nat_eq, slice_get, IsSomeAnd}
 use Rattle.std.specs.Cmp.Lexicographic.{pointwise}
 use Rattle.itpg_base.specs.Words.{Word}
-use Rattle.itpg_base.proofs.Objects.{word_same, word_refl}
+use Rattle.itpg_base.specs.Graphs.{changed_at}
+use Rattle.itpg_base.proofs.Objects.{word_same, word_refl, length-changed_at}
 use Rattle.itpg_base.specs.Lists.{Among, Ordered}
-use Rattle.itpg_base.proofs.Lists.{among_append, append_ordered}
-use Rattle.relation_rows.specs.Answered.{Answered}
-use Rattle.standing_queries.specs.Watches.{Watch, IsWatched, IsOfKind, NamesDiffer, without, rebased}
+use Rattle.itpg_base.proofs.Lists.{among_append}
+use Rattle.standing_queries.proofs.Named.{get_among, more_ordered}
+use Rattle.standing_queries.specs.Watches.{Watch, IsWatched, NamesDiffer, without}
 use Rattle.standing_queries.specs.Stores.{IsSound, AreSound}
 
 -- what is in a mapped list is of something in the list
@@ -22,28 +23,22 @@ map_among f [] x a = absurd a
 map_among f (y ∷ ys) x (inl e) = inl (ap f e)
 map_among f (y ∷ ys) x (inr a) = inr (map_among f ys x a)
 
--- what stands at a place is in the list
-pub get_among : {X : Type 0} (xs : List X) (i : ℕ) (x : X) → slice_get xs i ≡ Some x → Among xs x
-get_among [] i x e = let no : ⊥ = cc in absurd no
-get_among (y ∷ ys) zero x e = inl (cc)
-get_among (y ∷ ys) (suc i) x e = inr (get_among ys i x e)
+-- what is said of the watch at a place
+pub said_at : (ws : List Watch) (i : ℕ) (w : Watch) (P : Watch → Type 0) → slice_get ws i ≡ Some w → IsSomeAnd (slice_get ws i) P → P w
+said_at ws i w P e h = subst (λ o. IsSomeAnd o P) e h
 
 pub sound_none : AreSound []
 sound_none = record { few = omega arith; differ = tt; each = λ w a. absurd a }
 
-pub more_ordered : (ws : List Watch) (w : Watch) → Ordered NamesDiffer ws → (IsWatched ws w.name → ⊥) → Ordered NamesDiffer (ws ++ w ∷ [])
-more_ordered ws w o none = append_ordered NamesDiffer ws (w ∷ []) o ((λ y a. absurd a), tt)
-    (λ x y a b. ⊎_elim (λ (e : w ≡ y). λ (same : x.name ≡ y.name). none (x, a, same ∙ ap (λ (v : Watch). v.name) (sym e))) (λ no. absurd no) b)
-
 pub sound_more : (ws : List Watch) (w : Watch) → AreSound ws → IsSound w → (IsWatched ws w.name → ⊥) → length ws < 32 → AreSound (ws ++ w ∷ [])
 sound_more ws w s k none few = record {
   few = omega (arith, length-append ws (w ∷ []));
-  differ = more_ordered ws w s.differ none;
+  differ = more_ordered (λ (v : Watch). v.name) ws w s.differ (λ v a e. none (v, a, e));
   each = λ x a. ⊎_elim (λ b. s.each x b) (λ b. ⊎_elim (λ (e : w ≡ x). subst IsSound e k) (λ no. absurd no) b) (among_append ws (w ∷ []) x a);
 }
 
 -- the two names are the same or differ
-same_names : (a b : Word) → ((pointwise nat_eq a b ≡ true) × (a ≡ b)) ⊎ ((pointwise nat_eq a b ≡ false) × (a ≡ b → ⊥))
+pub same_names : (a b : Word) → ((pointwise nat_eq a b ≡ true) × (a ≡ b)) ⊎ ((pointwise nat_eq a b ≡ false) × (a ≡ b → ⊥))
 same_names a b = by_test (pointwise nat_eq a b) refl
   where
     by_test : (t : Bool) → pointwise nat_eq a b ≡ t → ((pointwise nat_eq a b ≡ true) × (a ≡ b)) ⊎ ((pointwise nat_eq a b ≡ false) × (a ≡ b → ⊥))
@@ -103,11 +98,8 @@ module _ {X : Type 0} (f : X → Watch) where
   named_at (y ∷ ys) zero x e = ap Some (ap f (cc))
   named_at (y ∷ ys) (suc i) x e = named_at ys i x e
 
-  pub watched_at : (xs : List X) (x : X) (name : Word) → Among xs x → (f x).name ≡ name → IsWatched (map f xs) name
-  watched_at xs x name a e = (f x, map_among f xs x a, e)
-
-  pub not_watched : (xs : List X) (name : Word) → ((x : X) → Among xs x → (f x).name ≡ name → ⊥) → IsWatched (map f xs) name → ⊥
-  not_watched xs name none h = let w = among_map f xs h.0 h.1 in none w.0 w.1 (ap (λ (v : Watch). v.name) w.2 ∙ h.2)
+  pub watched_in : (xs : List X) (name : Word) → IsWatched (map f xs) name → (x : X) × Among xs x × ((f x).name ≡ name)
+  watched_in xs name h = let w = among_map f xs h.0 h.1 in (w.0, w.1, ap (λ (v : Watch). v.name) w.2 ∙ h.2)
 
   -- the one that is taken out at a place is the one of its name
   pub taken_out : (xs : List X) (i : ℕ) (x : X) (name : Word) → slice_get xs i ≡ Some x → (f x).name ≡ name → Ordered NamesDiffer (map f xs)
@@ -122,43 +114,46 @@ module _ {X : Type 0} (f : X → Watch) where
       ap (λ (v : List Watch). f y ∷ v) (taken_out ys i x name e n o.1)
       ∙ sym (without_other name (f y) (map f ys) (λ k. o.0 (f x) later (k ∙ sym n)))
 
-  pub based : (xs : List X) (i : ℕ) (x z : X) (b : Answered) → slice_get xs i ≡ Some x → f z ≡ record { name = (f x).name; query = (f x).query; base = b }
-      → map f (set xs i z) ≡ rebased i b (map f xs)
-  based [] i x z b e n = let no : ⊥ = cc in absurd no
-  based (y ∷ ys) zero x z b e n =
-      let same : y ≡ x = cc in
-      ap (λ (v : Watch). v ∷ map f ys) (n ∙ ap (λ (v : X). record { name = (f v).name; query = (f v).query; base = b }) (sym same))
-  based (y ∷ ys) (suc i) x z b e n = ap (λ (v : List Watch). f y ∷ v) (based ys i x z b e n)
+  -- one is changed at a place
+  pub changed : (xs : List X) (i : ℕ) (x z : X) (g : Watch → Watch) → slice_get xs i ≡ Some x → f z ≡ g (f x) → map f (set xs i z) ≡ changed_at (map f xs) i g
+  changed [] i x z g e n = let no : ⊥ = cc in absurd no
+  changed (y ∷ ys) zero x z g e n = let same : y ≡ x = cc in ap (λ (v : Watch). v ∷ map f ys) (n ∙ ap (λ (v : X). g (f v)) (sym same))
+  changed (y ∷ ys) (suc i) x z g e n = ap (λ (v : List Watch). f y ∷ v) (changed ys i x z g e n)
 
--- each watch has the name of one that stood
-rebased_named : (i : ℕ) (b : Answered) (ws : List Watch) (x : Watch) → Among (rebased i b ws) x → (w : Watch) × Among ws w × (w.name ≡ x.name)
-rebased_named i b [] x a = absurd a
-rebased_named zero b (w ∷ ws) x (inl e) = (w, inl refl, ap (λ (v : Watch). v.name) e)
-rebased_named zero b (w ∷ ws) x (inr a) = (x, inr a, refl)
-rebased_named (suc i) b (w ∷ ws) x (inl e) = (w, inl refl, ap (λ (v : Watch). v.name) e)
-rebased_named (suc i) b (w ∷ ws) x (inr a) = let h = rebased_named i b ws x a in (h.0, inr h.1, h.2)
+  pub set_mapped : (xs : List X) (i : ℕ) (z : X) → map f (set xs i z) ≡ set (map f xs) i (f z)
+  set_mapped [] i z = refl
+  set_mapped (x ∷ xs) zero z = refl
+  set_mapped (x ∷ xs) (suc i) z = ap (λ (v : List Watch). f x ∷ v) (set_mapped xs i z)
 
-rebased_ordered : (i : ℕ) (b : Answered) (ws : List Watch) → Ordered NamesDiffer ws → Ordered NamesDiffer (rebased i b ws)
-rebased_ordered i b [] o = tt
-rebased_ordered zero b (w ∷ ws) o = (λ y a. o.0 y a, o.1)
-rebased_ordered (suc i) b (w ∷ ws) o = ((λ y a. let h = rebased_named i b ws y a in λ e. o.0 h.0 h.1 (e ∙ sym h.2)), rebased_ordered i b ws o.1)
+  pub some_mapped : (xs : List X) (i : ℕ) (P : Watch → Type 0) → IsSomeAnd (slice_get (map f xs) i) P → (x : X) × (slice_get xs i ≡ Some x) × P (f x)
+  some_mapped [] i P h = absurd h
+  some_mapped (x ∷ xs) zero P h = (x, refl, h)
+  some_mapped (x ∷ xs) (suc i) P h = some_mapped xs i P h
 
-rebased_few : (i : ℕ) (b : Answered) (ws : List Watch) → length (rebased i b ws) ≡ length ws
-rebased_few i b [] = refl
-rebased_few zero b (w ∷ ws) = refl
-rebased_few (suc i) b (w ∷ ws) = ap suc (rebased_few i b ws)
+-- where one watch is changed and keeps its name
+module _ (g : Watch → Watch) (named : (w : Watch) → (g w).name ≡ w.name) where
+  changed_named : (i : ℕ) (ws : List Watch) (x : Watch) → Among (changed_at ws i g) x → (w : Watch) × Among ws w × (w.name ≡ x.name)
+  changed_named i [] x a = absurd a
+  changed_named zero (w ∷ ws) x (inl e) = (w, inl refl, sym (named w) ∙ ap (λ (v : Watch). v.name) e)
+  changed_named zero (w ∷ ws) x (inr a) = (x, inr a, refl)
+  changed_named (suc i) (w ∷ ws) x (inl e) = (w, inl refl, ap (λ (v : Watch). v.name) e)
+  changed_named (suc i) (w ∷ ws) x (inr a) = let h = changed_named i ws x a in (h.0, inr h.1, h.2)
 
-rebased_each : (i : ℕ) (b : Answered) (ws : List Watch) → ((w : Watch) → Among ws w → IsSound w) → IsSomeAnd (slice_get ws i) (λ w. IsOfKind w.query b)
-    → (x : Watch) → Among (rebased i b ws) x → IsSound x
-rebased_each i b [] each k x a = absurd a
-rebased_each zero b (w ∷ ws) each k x (inl e) = let s = each w (inl refl) in subst IsSound e (record { in_range = s.in_range; terms = s.terms; ends = s.ends; kind = k })
-rebased_each zero b (w ∷ ws) each k x (inr a) = each x (inr a)
-rebased_each (suc i) b (w ∷ ws) each k x (inl e) = each x (inl e)
-rebased_each (suc i) b (w ∷ ws) each k x (inr a) = rebased_each i b ws (λ v c. each v (inr c)) k x a
+  changed_ordered : (i : ℕ) (ws : List Watch) → Ordered NamesDiffer ws → Ordered NamesDiffer (changed_at ws i g)
+  changed_ordered i [] o = tt
+  changed_ordered zero (w ∷ ws) o = (λ y a e. o.0 y a (sym (named w) ∙ e), o.1)
+  changed_ordered (suc i) (w ∷ ws) o = ((λ y a. let h = changed_named i ws y a in λ e. o.0 h.0 h.1 (e ∙ sym h.2)), changed_ordered i ws o.1)
 
-pub sound_rebased : (i : ℕ) (b : Answered) (ws : List Watch) → AreSound ws → IsSomeAnd (slice_get ws i) (λ w. IsOfKind w.query b) → AreSound (rebased i b ws)
-sound_rebased i b ws s k = record {
-  few = (let e = rebased_few i b ws in let few = s.few in omega arith);
-  differ = rebased_ordered i b ws s.differ;
-  each = rebased_each i b ws s.each k;
-}
+  changed_each : (i : ℕ) (ws : List Watch) → ((w : Watch) → Among ws w → IsSound w) → ((w : Watch) → slice_get ws i ≡ Some w → IsSound (g w)) → (x : Watch) → Among (changed_at ws i g) x → IsSound x
+  changed_each i [] each k x a = absurd a
+  changed_each zero (w ∷ ws) each k x (inl e) = subst IsSound e (k w refl)
+  changed_each zero (w ∷ ws) each k x (inr a) = each x (inr a)
+  changed_each (suc i) (w ∷ ws) each k x (inl e) = each x (inl e)
+  changed_each (suc i) (w ∷ ws) each k x (inr a) = changed_each i ws (λ v c. each v (inr c)) k x a
+
+  pub sound_changed : (i : ℕ) (ws : List Watch) → AreSound ws → ((w : Watch) → slice_get ws i ≡ Some w → IsSound (g w)) → AreSound (changed_at ws i g)
+  sound_changed i ws s k = record {
+    few = (let e = length-changed_at ws i g in let few = s.few in omega arith);
+    differ = changed_ordered i ws s.differ;
+    each = changed_each i ws s.each k;
+  }

@@ -1,3 +1,4 @@
 pub mod Watches
+pub mod Touched
 pub mod Changes
 pub mod Stores

@@ -1,26 +1,33 @@
--- What is kept of the watches.
-use Rattle.std.specs.Prelude.{◌||◌, ◌≤◌, IsTrue, List, length}
+-- What is kept of the watches: their queries, and beside each the rest.
+use Rattle.std.specs.Prelude.{◌≡◌, ◌≤◌, IfSome, List, length, map, option_map}
+use Rattle.std.specs.List.{zip}
 use Rattle.itpg_base.specs.Lists.{Among, Ordered}
+use Rattle.path_ast.specs.declared.ast.Query.{Query}
 use Rattle.path_ast.specs.Terms.{query_term}
-use Rattle.path_ast.specs.Sizes.{path_size, IsPathInRange}
-use Rattle.path_ast.specs.declared.counts.TheConstants.{MAX_TERMS}
 use Rattle.relation_rows.specs.Answered.{answered}
-use Rattle.standing_queries.specs.Watches.{Watch, most_watches, IsOfKind, NamesDiffer}
-use Rattle.standing_queries.specs.declared.watches.Kept.{Kept}
+use Rattle.standing_queries.specs.Watches.{Watch, most_watches, MayBeWatched, IsOfKind, NamesDiffer}
+use Rattle.standing_queries.specs.declared.kept.Kept.{Kept}
 
--- the watch that is kept
-abbrev pub watch_of : Kept → Watch
-watch_of k = record { name = k.name; query = query_term k.query; base = answered k.base }
+-- the watch of a query and of what is kept beside it
+abbrev pub watch_of : Query × Kept → Watch
+watch_of p = record { name = p.1.name; query = query_term p.0; plan = p.1.plan.0; foot = p.1.foot; base = answered p.1.base; now = option_map answered p.1.now }
 
--- the query's numbers are in range, it has few terms, it asks for an end, and the base is of its kind
+abbrev pub watches_of : List Query → List Kept → List Watch
+watches_of queries items = map watch_of (zip queries items)
+
+-- the query may be watched, and both answers are of its kind
 pub record IsSound (w : Watch) : Type 0 where
-  pub in_range : IsPathInRange w.query.path
-  pub terms : path_size w.query.path ≤ MAX_TERMS
-  pub ends : IsTrue (w.query.first || w.query.last)
+  pub asks : MayBeWatched w.query
   pub kind : IsOfKind w.query w.base
+  pub kept_kind : IfSome w.now (IsOfKind w.query)
 
 -- few watches, of different names, each sound
 pub record AreSound (watches : List Watch) : Type 0 where
   pub few : length watches ≤ most_watches
   pub differ : Ordered NamesDiffer watches
   pub each : (w : Watch) → Among watches w → IsSound w
+
+-- as many queries as there is kept beside them, and sound watches
+pub record AreStored (queries : List Query) (items : List Kept) : Type 0 where
+  pub paired : length queries ≡ length items
+  pub sound : AreSound (watches_of queries items)

@@ -1,18 +1,23 @@
 //! The watches that stand.
-ghost use Rattle.std.specs.Prelude.{◌≡◌, ◌↔◌, ◌<◌, ◌≤◌, ◌||◌, [], ◌∷◌, ◌++◌, length, slice_get};
-ghost use Rattle.std.specs.Prelude.{IsTrue, IfSome, IsNone, IsSomeAnd, IfOk, OnOk, OnErr, IsErrOf, IsErr};
+ghost use Rattle.std.specs.Prelude.{◌≡◌, ◌↔◌, ◌<◌, ◌≤◌, ◌||◌, [], ◌∷◌, ◌++◌, length, map, slice_get, Some, None};
+ghost use Rattle.std.specs.Prelude.{option_map, IsTrue, IfSome, IsNone, IsSomeAnd, OnOk, OnErr, IsErrOf, IsErr};
 ghost use Rattle.path_ast.specs.Terms.{query_term, path_term};
+ghost use Rattle.itpg_base.specs.Lists.{Among};
 ghost use Rattle.path_ast.specs.Sizes.{path_size, IsPathInRange};
 ghost use Rattle.path_ast.specs.declared.counts.TheConstants.{MAX_TERMS};
+ghost use Rattle.path_ast.specs.declared.ast.Query.{Query};
 ghost use Rattle.relation_rows.specs.Answered.{answered};
-ghost use Rattle.standing_queries.specs.Watches.{most_watches, IsWatched, IsOfKind, no_rows as rows_of_none, new_watch, without, rebased};
+ghost use Rattle.standing_queries.specs.Watches.{most_watches, MayBeWatched, IsWatched, IsOnlyPlace, IsOfKind, new_watch, without, rebased, answered_now, replanned, IsFresh, Keeps};
+ghost use Rattle.standing_queries.specs.Touched.{AreTouched, IsTouchedAt};
 
-use itpg_base::Name;
+use crate::kept::{Kept, no_rows};
+use itpg_base::{Name, Touch};
+use label_scope::Footprint;
 use path_ast::Query;
-use relation_rows::{Answer, Relation};
+use plan_cache::PlanNo;
+use relation_rows::Answer;
 use std::alloc::{AllocError, Global};
 use std::marker::Model;
-use std::rc::Rc;
 
 /// How many watches may stand.
 pub const MAX_WATCHES: usize = 32;
@@ -43,30 +48,23 @@ impl From<AllocError> for WatchFault {
 #[derive(Clone, Copy, Debug, PartialEq, Eq, Drop)]
 pub struct Unknown;
 
-// A watch as it is kept.
-#[derive(Drop)]
-struct Kept {
-    name: Name,
-    query: Query,
-    base: Answer,
-}
-
 /// The watches that stand, in order of declaration. No two have the same name.
 ///
 /// ```text
-///     place   name     query                      base
-///     0       people   MATCH (x:Person)           a 0 9
-///     1       moves    MATCH (x)-/N*/-(y)         none as yet
+///     place   name     query                  plan   footprint             base          kept answer
+///     0       people   MATCH (x:Person)       0      shape, live Person    a 0 9         a 0 12
+///     1       moves    MATCH (x)-/N*/-(y)     7      shape, live All       none as yet   none
 /// ```
 ///
-/// A contract sees them as the list of their names, queries and bases.
+/// The plan is the number of the plan's node, the footprint what the answer can depend on. A contract sees the list of the watches.
 #[derive(Drop)]
 pub struct Watches {
+    queries: Vec<Query>,
     items: Vec<Kept>,
 }
 
 impl Model for Watches {
-    ghost use Rattle.std.specs.Prelude.{List, map};
+    ghost use Rattle.std.specs.Prelude.{List};
     ghost use Rattle.std.specs.Coded.{codes};
     ghost use Rattle.standing_queries.specs.Watches.{Watch};
     ghost use Rattle.path_ast.specs.Codes.{coded_path};
@@ -75,11 +73,11 @@ impl Model for Watches {
 
     ghost coded = { Prim.hlevel (codes, coded_path) };
 
-    ghost use Rattle.standing_queries.specs.Stores.{watch_of, AreSound};
+    ghost use Rattle.standing_queries.specs.Stores.{watches_of, AreStored};
 
-    ghost view = { λ w. map watch_of w.items.items };
+    ghost view = { λ w. watches_of w.queries.items w.items.items };
 
-    ghost invariant = { λ w. AreSound (map watch_of w.items.items) };
+    ghost invariant = { λ w. AreStored w.queries.items w.items.items };
 }
 
 impl Watches {
@@ -88,21 +86,28 @@ impl Watches {
         ensures { result ≡ [] }
     {
         Watches {
+            queries: Vec::new(alloc),
             items: Vec::new(alloc),
         }
     }
 
-    /// Adds a watch behind the others. Its base has no row.
+    /// Adds a watch behind the others. Its base has no row, and no answer of it is kept.
     ///
     /// # Errors
     ///
     /// `Taken` where a watch of this name stands, else `Full` where 32 watches stand, and `Memory` if memory runs out.
     /// Then the watches stay as they are.
-    pub fn add(&mut self, name: Name, query: Query) -> Result<(), WatchFault>
+    pub fn add(
+        &mut self,
+        name: Name,
+        query: Query,
+        plan: PlanNo,
+        foot: Footprint,
+    ) -> Result<(), WatchFault>
         requires in_range { IsPathInRange (path_term query.path) }
         requires terms { path_size (path_term query.path) ≤ MAX_TERMS }
         requires ends { IsTrue (query.first || query.last) }
-        ensures added { OnOk result (self.new ≡ self.old ++ new_watch name (query_term query) ∷ []) }
+        ensures added { OnOk result (self.new ≡ self.old ++ new_watch name (query_term query) plan.0 foot ∷ []) }
         ensures same { OnErr result (self.new ≡ self.old) }
         ensures taken { IsErrOf result WatchFault.Taken ↔ IsWatched self.old name }
         ensures full { IsErrOf result WatchFault.Full ↔ ((¬ IsWatched self.old name) × (most_watches ≤ length self.old)) }
@@ -110,12 +115,20 @@ impl Watches {
         if self.find(&name).is_some() {
             return Err(WatchFault::Taken);
         }
-        if self.items.len() >= MAX_WATCHES {
+        if self.len() >= MAX_WATCHES {
             return Err(WatchFault::Full);
         }
         let base = no_rows(*self.items.allocator(), &query)?;
+        self.queries.reserve(1)?;
         self.items.reserve(1)?;
-        self.items.push_reserved(Kept { name, query, base });
+        self.queries.push_reserved(query);
+        self.items.push_reserved(Kept {
+            name,
+            plan,
+            foot,
+            base,
+            now: None,
+        });
         Ok(())
     }
 
@@ -132,7 +145,8 @@ impl Watches {
         let Some(place) = self.find(name) else {
             return Err(Unknown);
         };
-        let _removed = self.items.remove(place);
+        let _query = self.queries.remove(place);
+        let _kept = self.items.remove(place);
         Ok(())
     }
 
@@ -144,9 +158,10 @@ impl Watches {
         self.items.len()
     }
 
-    /// The place of the watch of this name; `None` exactly if none stands.
+    /// The one place of the watch of this name; `None` exactly if none stands.
     pub fn find(&self, name: &Name) -> Option<usize>
         ensures some { IfSome result (λ i. IsSomeAnd (slice_get self.now i) (λ w. w.name ≡ name.now)) }
+        ensures only { IfSome result (λ i. IsOnlyPlace self.now name.now i) }
         ensures none { IsNone result ↔ (¬ IsWatched self.now name.now) }
     {
         for (place, kept) in self.items.iter().enumerate() {
@@ -173,7 +188,23 @@ impl Watches {
         ensures terms { path_size (path_term result.now.path) ≤ MAX_TERMS }
         ensures ends { IsTrue (result.now.first || result.now.last) }
     {
-        &self.items[i].query
+        &self.queries[i]
+    }
+
+    /// The queries of all watches, in order of declaration. Each asks for one end at least.
+    pub fn queries(&self) -> &[Query]
+        ensures queries { map query_term result.now ≡ map (λ w. w.query) self.now }
+        ensures each { (q : Query) → Among result.now q → MayBeWatched (query_term q) }
+    {
+        &self.queries
+    }
+
+    /// The number of the plan's node of the watch at a place.
+    pub fn plan(&self, i: usize) -> PlanNo
+        requires { i < length self.now }
+        ensures { IsSomeAnd (slice_get self.now i) (λ w. w.plan ≡ result.0) }
+    {
+        self.items[i].plan
     }
 
     /// The base of the watch at a place: the answer that the next tick compares with. It is of the query's kind.
@@ -193,16 +224,72 @@ impl Watches {
     {
         self.items[i].base = base;
     }
-}
 
-// The answer of the query's kind that has no row.
-fn no_rows(alloc: Global, query: &Query) -> Result<Answer, AllocError>
-    ensures { IfOk result (λ answer. answered answer ≡ rows_of_none (query_term query.now)) }
-{
-    let none = Relation::empty(alloc);
-    if query.first && query.last {
-        Ok(Answer::Pairs(Rc::new(alloc, none)?))
-    } else {
-        Ok(Answer::Times(none.sources()?))
+    /// The kept answer of the watch at a place; `None` if none is kept. It is of the query's kind.
+    pub fn kept(&self, i: usize) -> Option<&Answer>
+        requires { i < length self.now }
+        ensures kept { IsSomeAnd (slice_get self.now i) (λ w. w.now ≡ option_map (λ a. answered a.now) result) }
+        ensures kind { IfSome result (λ a. IsSomeAnd (slice_get self.now i) (λ w. IsOfKind w.query (answered a.now))) }
+    {
+        self.items[i].now.as_ref()
+    }
+
+    /// Keeps the answer of the watch at a place in place of what is kept. It is of the query's kind.
+    pub fn set_now(&mut self, i: usize, now: Answer)
+        requires there { i < length self.old }
+        requires kind { IsSomeAnd (slice_get self.old i) (λ w. IsOfKind w.query (answered now)) }
+        ensures { self.new ≡ answered_now i (Some (answered now)) self.old }
+    {
+        self.items[i].now = Some(now);
+    }
+
+    /// Keeps no answer of the watch at a place.
+    pub fn drop_now(&mut self, i: usize)
+        requires { i < length self.old }
+        ensures { self.new ≡ answered_now i None self.old }
+    {
+        self.items[i].now = None;
+    }
+
+    /// Has the watch at a place stand for another node of the plans.
+    pub fn set_plan(&mut self, i: usize, plan: PlanNo)
+        requires { i < length self.old }
+        ensures { self.new ≡ replanned i plan.0 self.old }
+    {
+        self.items[i].plan = plan;
+    }
+
+    /// Whether an answer of the watch of this name is kept.
+    pub fn fresh(&self, name: &Name) -> bool
+        ensures { IsTrue result ↔ IsFresh self.now name.now }
+    {
+        self.answer(name).is_some()
+    }
+
+    /// The kept answer of the watch of this name; `None` exactly if no watch has the name or nothing is kept. It is of the query's
+    /// kind.
+    pub fn answer(&self, name: &Name) -> Option<&Answer>
+        ensures some { IfSome result (λ answer. Keeps self.now name.now (answered answer.now)) }
+        ensures none { IsNone result ↔ (¬ IsFresh self.now name.now) }
+    {
+        let place = self.find(name)?;
+        self.kept(place)
+    }
+
+    /// Lets the kept answers go of exactly those watches whose footprint the touch meets. It takes no memory.
+    pub fn touched(&mut self, touch: &Touch)
+        ensures { AreTouched touch.now self.old self.new }
+    {
+        for i in 0..self.len() {
+            self.touch_at(i, touch);
+        }
+    }
+
+    // The same of the watch at a place alone.
+    fn touch_at(&mut self, i: usize, touch: &Touch)
+        requires { i < length self.old }
+        ensures { IsTouchedAt i touch.now self.old self.new }
+    {
+        self.items[i].touch(touch);
     }
 }

@@ -1,16 +1,21 @@
-use Rattle.standing_queries.proofs.Keeping.{read_at, set_based, set_sound}
+use Rattle.std.proofs.Common.{refl, ◌<◌, length, rules}
+use Rattle.relation_rows.specs.Answered.{answered}
+use Rattle.standing_queries.specs.Watches.{Watch, IsOfKind}
+use Rattle.standing_queries.proofs.Watching.{said_at}
+use Rattle.standing_queries.proofs.Keeping.{within_items, kept_read, set_kept, stored_kept}
 use Rattle.standing_queries.proofs.watches.Watches.set_base.Goals as goal
+
+pub index_mut-requires : goal.index_mut-requires
+index_mut-requires c = let within : c.args.i < length c.self.inside.items.items = within_items c.self.inside.queries.items c.self.inside.items.items c.args.self.now c.self.view_is c.self.invariant c.args.i c.requires.there in search rules
 
 pub invariant_of-self : goal.invariant_of-self
 invariant_of-self c =
-    let items = c.self.inside.items.items in
     let k = c.index_mut.result.now in
-    let at = read_at items c.args.self.now c.args.i k c.self.view_is c.requires.there c.index_mut.ensures.value in
-    set_sound items c.args.self.now c.args.i k c.args.base c.self.view_is at c.self.invariant c.requires.kind
+    let at = kept_read c.self.inside.queries.items c.self.inside.items.items c.args.self.now c.self.view_is c.self.invariant c.args.i k c.requires.there c.index_mut.ensures.value in
+    stored_kept c.self.inside.queries.items c.self.inside.items.items c.args.self.now c.self.view_is c.self.invariant c.args.i k (record { name = k.name; plan = k.plan; foot = k.foot; base = c.args.base; now = k.now }) (λ (w : Watch). record w { base = answered c.args.base }) c.requires.there at (λ q. refl) (λ w. refl) (λ w at sound. record { asks = sound.asks; kind = said_at c.args.self.now c.args.i w (λ u. IsOfKind u.query (answered c.args.base)) at c.requires.kind; kept_kind = sound.kept_kind })
 
 pub returns : goal.returns
 returns c =
-    let items = c.self.inside.items.items in
     let k = c.index_mut.result.now in
-    let at = read_at items c.args.self.now c.args.i k c.self.view_is c.requires.there c.index_mut.ensures.value in
-    set_based items c.args.self.now c.args.i k c.args.base c.self.view_is at
+    let at = kept_read c.self.inside.queries.items c.self.inside.items.items c.args.self.now c.self.view_is c.self.invariant c.args.i k c.requires.there c.index_mut.ensures.value in
+    set_kept c.self.inside.queries.items c.self.inside.items.items c.args.self.now c.self.view_is c.self.invariant c.args.i k (record { name = k.name; plan = k.plan; foot = k.foot; base = c.args.base; now = k.now }) (λ (w : Watch). record w { base = answered c.args.base }) c.requires.there at (λ q. refl)
