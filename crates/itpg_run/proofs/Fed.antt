@@ -3,7 +3,8 @@ use Rattle.std.proofs.Common.{◌≡◌, ℕ, ◌+◌, List, [], ◌∷◌, ◌+
 use Rattle.std.specs.declared.option.Option.{Option}
 use Rattle.std.specs.Io.KnownBytes.{Keeps}
 use Rattle.std.proofs.KnownBytes.{Appends-trans, Appends-kept}
-use Rattle.itpg_session.specs.Machine.{opening}
+use Rattle.itpg_session.specs.Machine.{Machine, Standing, opening}
+use Rattle.itpg_session.specs.Steps.{StandsAs}
 use Rattle.itpg_run.specs.Lines.{kept, lines, whole}
 use Rattle.itpg_run.specs.Out.{Output, LineOut, both, Runs}
 use Rattle.itpg_run.specs.Split.{NoEnd, NoEnds, joined, last_line}
@@ -27,7 +28,7 @@ fed_piece limit start now old new bytes piece s e session number failing line = 
   open_end = NoEnd-append s.rest piece s.open_end e;
   output = s.output;
   runs = s.runs;
-  session = session ∙ s.session;
+  session = subst (λ (t : Standing). StandsAs t s.output.next limit) (sym session) s.session;
   number = number ∙ s.number;
   line = line ∙ ap (λ t. take kept (t ++ piece)) s.line ∙ take_take kept s.rest piece;
   failing = failing ∙ s.failing;
@@ -37,7 +38,8 @@ fed_piece limit start now old new bytes piece s e session number failing line = 
 -- what the session answers is what the machine answers to the whole line
 replies_rest : (limit : ℕ) (start now : Option (List ℕ)) (r : Reader) (bytes : List ℕ) → (s : Fed limit start now r bytes) → (t : Output) → RepliesTo r t → LineOut limit s.output.next (1 + length s.lines) s.rest t
 replies_rest limit start now r bytes s t a =
-    subst (λ n. LineOut limit s.output.next n s.rest t) s.number (subst (λ m. LineOut m.limit m.machine r.number s.rest t) s.session (a s.rest s.line))
+    subst (λ n. LineOut limit s.output.next n s.rest t) s.number
+    (subst (λ (l : ℕ). LineOut l s.output.next r.number s.rest t) s.session.limit (subst (λ (m : Machine). LineOut r.session.limit m r.number s.rest t) s.session.machine (a s.rest s.line)))
 
 runs_rest : (limit : ℕ) (start now : Option (List ℕ)) (r : Reader) (bytes : List ℕ) → (s : Fed limit start now r bytes) → (t : Output) → RepliesTo r t → Runs limit opening 1 (s.lines ++ s.rest ∷ []) (both s.output t)
 runs_rest limit start now r bytes s t a = runs-push limit opening 1 s.lines s.rest s.output t s.runs (replies_rest limit start now r bytes s t a)
@@ -53,7 +55,7 @@ fed_line limit start before now old new bytes s e = record {
   open_end = tt;
   output = both s.output e.output;
   runs = runs_rest limit start before old bytes s e.output e.replies;
-  session = e.session ∙ ap (λ m. record { machine = e.output.next; limit = m.limit }) s.session;
+  session = record { machine = e.session.machine; limit = e.session.limit ∙ s.session.limit };
   number = omega (arith, s.number, e.number, length-append s.lines (s.rest ∷ []));
   line = e.line ∙ sym (take_nothing kept);
   failing = e.failing ∙ ap (λ t. t || e.output.failing) s.failing;

@@ -6,6 +6,7 @@ use Rattle.std.proofs.KnownBytes.{Consumes-trans, Consumes-kept, Appends-nil}
 use Rattle.itpg_run.specs.Lines.{kept, whole}
 use Rattle.itpg_run.specs.Out.{no_output, Runs}
 use Rattle.itpg_session.specs.Machine.{opening}
+use Rattle.itpg_session.specs.Steps.{StandsAs}
 use Rattle.itpg_run.specs.Served.{longest, Served, WritesWithin, WritesOut, EndsWell}
 use Rattle.itpg_run.specs.Fed.{Fed, Feeds, Stops, Ends}
 use Rattle.itpg_run.specs.Pumped.{Pumped, Pumping, status_of}
@@ -85,7 +86,7 @@ finished limit Memory before left start mid now r p e = record { bytes = p.bytes
 finished limit TooLong before left start mid now r p e = absurd e
 
 -- a new reader was fed nothing
-pub begins : (limit : ℕ) (held : Option (List ℕ)) (r : Reader) → r.session ≡ record { machine = opening; limit = limit } → r.number ≡ 1 → r.line.items ≡ [] → r.failing ≡ false → Fed limit held held r []
+pub begins : (limit : ℕ) (held : Option (List ℕ)) (r : Reader) → StandsAs r.session opening limit → r.number ≡ 1 → r.line.items ≡ [] → r.failing ≡ false → Fed limit held held r []
 unfolding Runs
 begins limit held r session number line failing = record {
   lines = [];

@@ -16,7 +16,7 @@ use Rattle.match_parser.specs.Reading.{Reads, FaultOf}
 use Rattle.path_eval.specs.Answering.{AnswersQuery}
 use Rattle.itpg_session.specs.Questions.{IsTooWide}
 use Rattle.itpg_session.specs.Rules.{QueryBreaks, ask_rules}
-use Rattle.itpg_session.specs.Replies.{Reply, Silent, Bad, Refused, Wide, Rows, PerWatch, IsReply}
+use Rattle.itpg_session.specs.Replies.{Reply, Silent, Bad, Refused, Wide, Rows, Shown, PerWatch, IsReply}
 use Rattle.itpg_session.specs.Machine.{Machine, Turn, opening, Replies, TurnOf, Answers}
 use Rattle.trial_script.specs.Script.{Text, AskNothing, edits, ask_lines, risk_line, contact_line, alone_line, script}
 use Rattle.itpg_run.specs.Summary.{Told, told_both, told_of, Tells}
@@ -57,7 +57,7 @@ next_graph laws limit m line edit next t good reads unbroken goes replies =
   where
     by_answer : TurnOf limit m (Ok (Changes edit)) t → t.next.graph ≡ next
     by_answer (inl refused) = absurd (laws.apart_edit m.graph edit refused.rule refused.first unbroken)
-    by_answer (inr made) = ap (λ (x : Turn). x.next.graph) made.is ∙ laws.one_next m.graph made.graph next edit good made.next goes
+    by_answer (inr made) = ap (λ (x : Turn). x.next.graph) made.is ∙ laws.one_next m.graph made.graph next edit good made.makes.next goes
 
 behind : ScriptLaws → (limit : ℕ) (m : Machine) (k : ℕ) (lines rest : List Text) (es : List Edit) (last : Graph) (all : Told) → AllRead lines es → AskNothing lines → Good m.graph → Lead m.graph es last
     → Tells limit m k (lines ++ rest) all → Behind limit last k rest all
@@ -100,6 +100,7 @@ asked_line laws limit m k line text q rest all asks begun (inl asked) =
     by_reply (Refused rule) e r =
         absurd (not_refused m.graph q rule begun asks.of_any (subst (λ (p : QueryTerm). FirstOf (QueryBreaks m.graph p) ask_rules rule) (laws.one_query text r.0 q r.1 asks.reads) r.2))
     by_reply Silent e r = absurd r.2.1
+    by_reply (Shown place found) e r = absurd r.2.1
     by_reply (PerWatch found) e r = absurd r.2.1
     by_reply Wide e r =
         line_of Wide e (inl (record { wide = subst (λ (p : QueryTerm). IsTooWide m.graph limit p) (laws.one_query text r.0 q r.1 asks.reads) r.2.1; is = refl }))

@@ -8,7 +8,8 @@ use Rattle.std.proofs.lemmas.List.{append-nil}
 use Rattle.std.proofs.KnownBytes.{Appends-nil, Appends-trans, Appends-kept}
 use Rattle.itpg_base.specs.Outside.{AppendsSome}
 use Rattle.itpg_session.specs.Replies.{Reply, IsReply}
-use Rattle.itpg_session.specs.Machine.{Turn, IsGood, Replies, opening}
+use Rattle.itpg_session.specs.Machine.{Machine, Turn, IsGood, Replies, opening}
+use Rattle.itpg_session.specs.Steps.{StandsAs}
 use Rattle.itpg_session.specs.MachineLaws.{GoodReply}
 use Rattle.trial_script.specs.Script.{Asks, script}
 use Rattle.itpg_run.specs.Summary.{Told, nothing, told_both, told_of, Tells, IsSummary, TellsAll, TellsWhole, TellsSome}
@@ -27,17 +28,22 @@ behind_other : (r : Running) (line : List ℕ) (turn : Turn) (lines : List (List
 unfolding Tells
 behind_other r line turn lines rest others replies goes = inr (record { others = others; turn = turn; replies = replies; goes_on = goes })
 
+-- what the session tells, the machine tells that it stands as
+stands_tells : (r : Running) (m : Machine) (limit : ℕ) (lines : List (List ℕ)) (rest : Told) → StandsAs r.session m limit → TellsFrom r lines rest → Tells limit m r.question lines rest
+stands_tells r m limit lines rest stands goes =
+    subst (λ (l : ℕ). Tells l m r.question lines rest) stands.limit (subst (λ (n : Machine). Tells r.session.limit n r.question lines rest) stands.machine goes)
+
 pub takes_question : (held now : Option (List ℕ)) (old new : Running) (line query text : List ℕ) (reply : Reply) → Asks line query → IsReply old.session.machine.graph old.session.limit query reply
     → text ≡ (told_of old.question reply).text → Appends held now text
-    → new.session ≡ old.session → new.question ≡ old.question + 1 → new.wide ≡ (old.wide || (told_of old.question reply).wide) → Takes held now old new line
+    → StandsAs new.session old.session.machine old.session.limit → new.question ≡ old.question + 1 → new.wide ≡ (old.wide || (told_of old.question reply).wide) → Takes held now old new line
 takes_question held now old new line query text reply asks replies is written session question wide = record {
   told = told_of old.question reply;
   goes_on = λ lines rest goes.
       behind_question old line query reply lines rest asks replies
-      (subst (λ k. Tells old.session.limit old.session.machine k lines rest) question (subst (λ s. Tells s.limit s.machine new.question lines rest) session goes));
+      (subst (λ k. Tells old.session.limit old.session.machine k lines rest) question (stands_tells new old.session.machine old.session.limit lines rest session goes));
   written = subst (Appends held now) is written;
   wide = wide;
-  good = λ good. subst (λ s. IsGood s.machine) (sym session) good;
+  good = λ good. subst IsGood (sym session.machine) good;
   question = omega (arith, question);
 }
 
@@ -52,15 +58,15 @@ takes_some laws held now old line query text reply asks replies is some = record
 }
 
 pub takes_other : GoodReply → (held : Option (List ℕ)) (old new : Running) (line : List ℕ) (turn : Turn) → ((query : List ℕ) → ¬ Asks line query) → Replies old.session.limit old.session.machine line turn
-    → new.session ≡ record { machine = turn.next; limit = old.session.limit } → new.question ≡ old.question → new.wide ≡ old.wide → Takes held held old new line
+    → StandsAs new.session turn.next old.session.limit → new.question ≡ old.question → new.wide ≡ old.wide → Takes held held old new line
 takes_other good_reply held old new line turn others replies session question wide = record {
   told = nothing;
   goes_on = λ lines rest goes.
       behind_other old line turn lines rest others replies
-      (subst (λ k. Tells old.session.limit turn.next k lines rest) question (subst (λ s. Tells s.limit s.machine new.question lines rest) session goes));
+      (subst (λ k. Tells old.session.limit turn.next k lines rest) question (stands_tells new turn.next old.session.limit lines rest session goes));
   written = Appends-nil held;
   wide = wide ∙ or_false old.wide;
-  good = λ good. subst (λ s. IsGood s.machine) (sym session) (good_reply old.session.limit old.session.machine line turn good replies);
+  good = λ good. subst IsGood (sym session.machine) (good_reply old.session.limit old.session.machine line turn good replies);
   question = omega (arith, question);
 }
   where
@@ -68,16 +74,16 @@ takes_other good_reply held old new line turn others replies session question wi
     or_false true = refl
     or_false false = refl
 
-pub underway_first : Laws → (limit number : ℕ) (held : Option (List ℕ)) (r : Running) → r.session ≡ record { machine = opening; limit = limit } → r.question ≡ 1 → r.wide ≡ false → Underway limit number held held r (script number)
+pub underway_first : Laws → (limit number : ℕ) (held : Option (List ℕ)) (r : Running) → StandsAs r.session opening limit → r.question ≡ 1 → r.wide ≡ false → Underway limit number held held r (script number)
 underway_first laws limit number held r session question wide = record {
   first = [];
   split = refl;
   told = nothing;
   closes = λ lines rest goes.
-      subst (λ k. Tells limit opening k lines rest) question (subst (λ s. Tells s.limit s.machine r.question lines rest) session goes);
+      subst (λ k. Tells limit opening k lines rest) question (stands_tells r opening limit lines rest session goes);
   written = Appends-nil held;
   wide = wide;
-  good = subst (λ s. IsGood s.machine) (sym session) laws.opening;
+  good = subst IsGood (sym session.machine) laws.opening;
 }
 
 pub underway_more : (limit number : ℕ) (start mid now : Option (List ℕ)) (old new : Running) (line : List ℕ) (left : List (List ℕ))

@@ -5,7 +5,7 @@ use Rattle.std.specs.Io.KnownBytes.{Appends}
 use Rattle.itpg_base.specs.Outside.{AppendsSome}
 use Rattle.itpg_base.specs.declared.outside.Sink.{Ghosts as SinkGhosts}
 use Rattle.itpg_session.specs.Machine.{Standing, opening}
-use Rattle.itpg_session.specs.Steps.{Sees}
+use Rattle.itpg_session.specs.Steps.{Sees, StandsAs}
 use Rattle.itpg_session.specs.declared.reply.Seen.{Seen}
 use Rattle.itpg_run.specs.Out.{Output, LineOut, Runs}
 use Rattle.itpg_run.specs.Split.{NoEnd, NoEnds, joined}
@@ -26,7 +26,7 @@ pub record AnswersLine (held now : Option (List ℕ)) (old : Reader) (session : 
   pub output : Output
   pub replies : RepliesTo old output
   pub written : Appends held now output.text
-  pub next : session ≡ record { machine = output.next; limit = old.session.limit }
+  pub next : StandsAs session output.next old.session.limit
   pub sees : Sees seen output.text output.failing
 
 -- the line that was read was answered, and the next one begins
@@ -34,7 +34,7 @@ pub record EndsLine (held now : Option (List ℕ)) (old new : Reader) : Type 0 w
   pub output : Output
   pub replies : RepliesTo old output
   pub written : Appends held now output.text
-  pub session : new.session ≡ record { machine = output.next; limit = old.session.limit }
+  pub session : StandsAs new.session output.next old.session.limit
   pub number : new.number ≡ old.number + 1
   pub line : new.line.items ≡ []
   pub failing : new.failing ≡ (old.failing || output.failing)
@@ -54,7 +54,7 @@ pub record Fed (limit : ℕ) (start now : Option (List ℕ)) (r : Reader) (bytes
   pub open_end : NoEnd rest
   pub output : Output
   pub runs : Runs limit opening 1 lines output
-  pub session : r.session ≡ record { machine = output.next; limit = limit }
+  pub session : StandsAs r.session output.next limit
   pub number : r.number ≡ 1 + length lines
   pub line : r.line.items ≡ take kept rest
   pub failing : r.failing ≡ output.failing

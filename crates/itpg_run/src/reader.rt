@@ -7,6 +7,7 @@ ghost use Rattle.std.specs.Prelude.{take, length, false, true, IfOk, OnOk, OnErr
 ghost use Rattle.std.specs.declared.option.Option.{Option};
 ghost use Rattle.itpg_base.specs.Sinks.{GetsNothing, HasFailed};
 ghost use Rattle.itpg_session.specs.Machine.{opening};
+ghost use Rattle.itpg_session.specs.Steps.{StandsAs};
 
 use crate::Status;
 use itpg_base::{Limits, Sink};
@@ -31,7 +32,7 @@ pub(crate) struct Reader {
 
 impl Reader {
     pub(crate) fn new(alloc: Global, limits: Limits) -> Self
-        ensures session { result.session ≡ record { machine = opening; limit = limits } }
+        ensures session { StandsAs result.session opening limits }
         ensures line { result.line.items ≡ [] }
         ensures number { result.number ≡ 1 }
         ensures failing { result.failing ≡ false }

@@ -3,6 +3,7 @@ ghost use Rattle.std.specs.Prelude.{◌≡◌, ◌++◌, ◌-◌, ◌^◌, ◌<�
 ghost use Rattle.std.specs.declared.option.Option.{Option};
 ghost use Rattle.itpg_base.specs.Sinks.{GetsNothing, HasFailed};
 ghost use Rattle.itpg_session.specs.Machine.{opening};
+ghost use Rattle.itpg_session.specs.Steps.{StandsAs};
 ghost use Rattle.trial_script.specs.Script.{Asks};
 ghost use Rattle.itpg_run.specs.Summary.{TellsAllTo, TellsWholeTo, TellsSomeTo};
 ghost use Rattle.itpg_run.specs.Underway.{Takes, TakesTo, TakesSomeTo};
@@ -52,7 +53,7 @@ pub(crate) struct Running {
 
 impl Running {
     fn new(alloc: Global, limits: Limits) -> Running
-        ensures session { result.session ≡ record { machine = opening; limit = limits } }
+        ensures session { StandsAs result.session opening limits }
         ensures question { result.question ≡ 1 }
         ensures wide { result.wide ≡ false }
     {

@@ -7,18 +7,28 @@ use Rattle.itpg_base.specs.declared.rule_code.RuleCode.{RuleCode}
 use Rattle.itpg_base.specs.declared.rule_code.RuleCode.TheVariants.{Taken, Unknown, Full}
 use Rattle.itpg_base.specs.declared.text_code.TextCode.{TextCode}
 use Rattle.itpg_edit.specs.declared.edit.Edit.{Edit}
-use Rattle.itpg_edit.specs.Rules.{FirstOf, NoneOf, Broken, Unbroken}
-use Rattle.itpg_edit.specs.Next.{Next}
+use Rattle.itpg_edit.specs.Rules.{FirstOf, NoneOf, Broken}
+use Rattle.itpg_base.specs.declared.touch.Touch.{Touch}
+use Rattle.itpg_edit.specs.Next.{Makes as MakesGraph}
 use Rattle.edit_reader.specs.Readings.{Reading, Nothing, Changes, Asks, Watches, Shows, Unwatches, Ticks}
 use Rattle.edit_reader.specs.Lines.{LineOf}
 use Rattle.path_ast.specs.Terms.{QueryTerm}
 use Rattle.match_parser.specs.Reading.{Reads, FaultOf}
-use Rattle.standing_queries.specs.Watches.{Watch, IsWatched, most_watches, new_watch, without}
+use Rattle.standing_queries.specs.Watches.{most_watches}
+use Rattle.itpg_session.specs.PlainWatches.{PlainWatch, IsWatched, new_watch, without, AreMarkedAfter}
 use Rattle.itpg_session.specs.Rules.{QueryBreaks, WatchBreaks, NameBreaks, TickBreaks, ask_rules, watch_rules, name_rules, tick_rules}
 use Rattle.itpg_session.specs.Replies.{Reply, Bad, Refused, IsReply}
 use Rattle.itpg_session.specs.Machine.{Machine, Turn, Refuses, AsksText, WatchesText, WatchesQuery, AddsWatch, ShowsName, DropsWatch, DropsName, TicksOrNot, Answers, TurnOf, Replies, quiet_turn, told}
 
 module _ (limit : ℕ) (m : Machine) where
+  pub turn_read : (reading : Reading) (t : Turn) → Answers limit m reading t → TurnOf limit m (Ok reading) t
+  unfolding TurnOf
+  turn_read reading t a = a
+
+  pub turn_bad : (code : TextCode) (t : Turn) → t ≡ told m (Bad code) → TurnOf limit m (Err code) t
+  unfolding TurnOf
+  turn_bad code t a = a
+
   pub replies_read : (line : List ℕ) (reading : Reading) → LineOf line (Ok reading) → (t : Turn) → Answers limit m reading t → Replies limit m line t
   unfolding TurnOf
   replies_read line reading is t a = record { what = Ok reading; line_of = is; turn = a }
@@ -58,9 +68,10 @@ module _ (limit : ℕ) (m : Machine) where
   unfolding Answers
   edit_refused edit rule first t is = inl (record { rule = rule; first = first; is = is })
 
-  pub edit_made : (edit : Edit) (g : Graph) → Unbroken m.graph edit → Next m.graph edit g → Answers limit m (Changes edit) (quiet_turn (record { graph = g; watches = m.watches }))
+  pub edit_made : (edit : Edit) (g : Graph) (touch : Touch) (ws : List PlainWatch) → MakesGraph m.graph edit g touch → AreMarkedAfter touch m.watches ws
+      → Answers limit m (Changes edit) (quiet_turn (record { graph = g; watches = ws }))
   unfolding Answers
-  edit_made edit g unbroken next = inr (record { unbroken = unbroken; graph = g; next = next; is = refl })
+  edit_made edit g touch ws makes marked = inr (record { graph = g; touch = touch; makes = makes; watches = ws; marked = marked; is = refl })
 
 pub refuses : (m : Machine) (broken : RuleCode → Type 0) (rules : List RuleCode) (rule : RuleCode) → FirstOf broken rules rule → (t : Turn) → t ≡ told m (Refused rule) → Refuses m broken rules t
 refuses m broken rules rule first t is = record { rule = rule; first = first; is = is }
@@ -77,21 +88,21 @@ pub refusal : (m : Machine) (broken : RuleCode → Type 0) (rules : List RuleCod
 refusal m broken rules Other rule first t is = inl (refuses m broken rules rule first t is)
 
 module _ (m : Machine) (name : Word) where
-  pub added : (q : QueryTerm) → NoneOf (WatchBreaks m.graph m.watches name q) watch_rules → (ws : List Watch) → ws ≡ m.watches ++ new_watch name q ∷ [] → AddsWatch m name q (quiet_turn (record { graph = m.graph; watches = ws }))
-  added q unbroken ws is = record { unbroken = unbroken; is = ap (λ (vs : List Watch). quiet_turn (record { graph = m.graph; watches = vs })) is }
+  pub added : (q : QueryTerm) → NoneOf (WatchBreaks m.graph m.watches name q) watch_rules → (ws : List PlainWatch) → ws ≡ m.watches ++ new_watch name q ∷ [] → AddsWatch m name q (quiet_turn (record { graph = m.graph; watches = ws }))
+  added q unbroken ws is = record { unbroken = unbroken; is = ap (λ (vs : List PlainWatch). quiet_turn (record { graph = m.graph; watches = vs })) is }
 
-  pub dropped : NoneOf (NameBreaks m.graph m.watches name) name_rules → (ws : List Watch) → ws ≡ without name m.watches → DropsWatch m name (quiet_turn (record { graph = m.graph; watches = ws }))
-  dropped unbroken ws is = record { unbroken = unbroken; is = ap (λ (vs : List Watch). quiet_turn (record { graph = m.graph; watches = vs })) is }
+  pub dropped : NoneOf (NameBreaks m.graph m.watches name) name_rules → (ws : List PlainWatch) → ws ≡ without name m.watches → DropsWatch m name (quiet_turn (record { graph = m.graph; watches = ws }))
+  dropped unbroken ws is = record { unbroken = unbroken; is = ap (λ (vs : List PlainWatch). quiet_turn (record { graph = m.graph; watches = vs })) is }
 
 -- the rules of a query that is to be watched, where asking it breaks none
-module _ (m : Machine) (name : Word) (q : QueryTerm) (asked : NoneOf (QueryBreaks m.graph q) ask_rules) where
-  pub may_watch : (IsWatched m.watches name → ⊥) → (most_watches ≤ length m.watches → ⊥) → NoneOf (WatchBreaks m.graph m.watches name q) watch_rules
+module _ (g : Graph) (ws : List PlainWatch) (name : Word) (q : QueryTerm) (asked : NoneOf (QueryBreaks g q) ask_rules) where
+  pub may_watch : (IsWatched ws name → ⊥) → (most_watches ≤ length ws → ⊥) → NoneOf (WatchBreaks g ws name q) watch_rules
   may_watch free few = (asked.0, (asked.1.0, (free, (few, tt))))
 
-  pub is_taken : IsWatched m.watches name → FirstOf (WatchBreaks m.graph m.watches name q) watch_rules Taken
+  pub is_taken : IsWatched ws name → FirstOf (WatchBreaks g ws name q) watch_rules Taken
   is_taken taken = inr (asked.0, inr (asked.1.0, inl (taken, refl)))
 
-  pub is_full : (IsWatched m.watches name → ⊥) → most_watches ≤ length m.watches → FirstOf (WatchBreaks m.graph m.watches name q) watch_rules Full
+  pub is_full : (IsWatched ws name → ⊥) → most_watches ≤ length ws → FirstOf (WatchBreaks g ws name q) watch_rules Full
   is_full free full = inr (asked.0, inr (asked.1.0, inr (free, inl (full, refl))))
 
 -- the rules of a watch's name, where a graph is begun

@@ -11,7 +11,8 @@ use Rattle.itpg_base.proofs.Objects.{word_same, word_refl}
 use Rattle.itpg_base.proofs.Searches.{at_most}
 use Rattle.itpg_edit.specs.Rules.{FirstOf, NoneOf}
 use Rattle.path_ast.specs.Terms.{QueryTerm}
-use Rattle.standing_queries.specs.Watches.{Watch, IsWatched, most_watches}
+use Rattle.standing_queries.specs.Watches.{most_watches}
+use Rattle.itpg_session.specs.PlainWatches.{PlainWatch, IsWatched}
 use Rattle.itpg_session.specs.Rules.{QueryBreaks, WatchBreaks, NameBreaks, TickBreaks}
 
 decide_same : (a b : Word) → Decided (a ≡ b)
@@ -44,13 +45,13 @@ decide_ask g q GraphName = decide_name q.graph_name g.begun
 decide_ask g q _ = inr (λ no. no)
 
 -- of lists of watches it is decided whether a name is one of theirs
-pub decide_watched : (ws : List Watch) (name : Word) → Decided (IsWatched ws name)
+pub decide_watched : (ws : List PlainWatch) (name : Word) → Decided (IsWatched ws name)
 decide_watched [] name = inr (λ h. absurd h.1)
 decide_watched (w ∷ ws) name = elim (decide_same w.name name) [
   | inl e ↦ inl (w, inl refl, e)
   | inr n ↦ elim (decide_watched ws name) [
     | inl h ↦ inl (h.0, inr h.1, h.2)
-    | inr k ↦ inr (λ h. ⊎_elim (λ e. n (ap (λ (v : Watch). v.name) e ∙ h.2)) (λ a. k (h.0, a, h.2)) h.1)
+    | inr k ↦ inr (λ h. ⊎_elim (λ e. n (ap (λ (v : PlainWatch). v.name) e ∙ h.2)) (λ a. k (h.0, a, h.2)) h.1)
   ]
 ]
 
@@ -58,7 +59,7 @@ decide_not : {P : Type 0} → Decided P → Decided (P → ⊥)
 decide_not (inl p) = inr (λ n. n p)
 decide_not (inr n) = inl n
 
-pub decide_watch : (g : Graph) (ws : List Watch) (name : Word) (q : QueryTerm) (rule : RuleCode) → Decided (WatchBreaks g ws name q rule)
+pub decide_watch : (g : Graph) (ws : List PlainWatch) (name : Word) (q : QueryTerm) (rule : RuleCode) → Decided (WatchBreaks g ws name q rule)
 decide_watch g ws name q NoGraph = decide_begun g.begun
 decide_watch g ws name q GraphName = decide_name q.graph_name g.begun
 decide_watch g ws name q Taken = decide_watched ws name
@@ -73,7 +74,7 @@ decide_watch g ws name q Absent = inr (λ no. no)
 decide_watch g ws name q Held = inr (λ no. no)
 decide_watch g ws name q Incident = inr (λ no. no)
 
-pub decide_named : (g : Graph) (ws : List Watch) (name : Word) (rule : RuleCode) → Decided (NameBreaks g ws name rule)
+pub decide_named : (g : Graph) (ws : List PlainWatch) (name : Word) (rule : RuleCode) → Decided (NameBreaks g ws name rule)
 decide_named g ws name NoGraph = decide_begun g.begun
 decide_named g ws name Unknown = decide_not (decide_watched ws name)
 decide_named g ws name _ = inr (λ no. no)
@@ -83,5 +84,5 @@ decide_tick g NoGraph = decide_begun g.begun
 decide_tick g _ = inr (λ no. no)
 
 -- where it isn't so that no watch has the name, one has it
-pub some_watch : (ws : List Watch) (name : Word) → ((IsWatched ws name → ⊥) → ⊥) → IsWatched ws name
+pub some_watch : (ws : List PlainWatch) (name : Word) → ((IsWatched ws name → ⊥) → ⊥) → IsWatched ws name
 some_watch ws name not_none = elim (decide_watched ws name) [ inl h ↦ h | inr n ↦ absurd (not_none n) ]

@@ -1,13 +1,13 @@
 -- From a good machine a line has exactly one turn, and it leaves a good machine.
 use Rattle.std.proofs.Common.{◌≡◌, ℕ, ◌≤◌, List, ◌⊎◌, inl, inr, refl, sym, ap, ◌∙◌, subst}
-use Rattle.std.specs.Prelude.{◌↔◌, Result, Ok, Err, take}
+use Rattle.std.specs.Prelude.{◌↔◌, slice_get, Option, Some, is_some, Result, Ok, Err, take}
 use Rattle.itpg_base.specs.Words.{Word}
 use Rattle.itpg_base.specs.Graphs.{Graph, Good}
 use Rattle.itpg_base.specs.declared.rule_code.RuleCode.{RuleCode}
 use Rattle.itpg_base.specs.declared.text_code.TextCode.{TextCode}
 use Rattle.itpg_edit.specs.declared.edit.Edit.{Edit}
 use Rattle.itpg_edit.specs.Rules.{FirstOf, Breaks, Broken, NoneOf, Unbroken, rules_of}
-use Rattle.itpg_edit.specs.Next.{Next}
+use Rattle.itpg_edit.specs.Next.{Next, Makes as MakesGraph}
 use Rattle.itpg_edit.specs.Sites.{HasMoments, HasLabels}
 use Rattle.itpg_edit.proofs.FirstOf.{first_unique, first_or_unbroken}
 use Rattle.edit_reader.specs.Readings.{Reading, Nothing, Changes, Asks, Watches, Shows, Unwatches, Ticks}
@@ -16,21 +16,27 @@ use Rattle.edit_reader.specs.Moments.{AsksOfMoments, AsksForLabels}
 use Rattle.match_parser.specs.Reading.{Reads}
 use Rattle.match_parser.proofs.InRange.{asks_for_one}
 use Rattle.path_ast.specs.Terms.{QueryTerm}
-use Rattle.standing_queries.specs.Watches.{Watch, IsWatched, IsOfKind, new_watch}
+use Rattle.itpg_base.specs.declared.touch.Touch.{Touch}
+use Rattle.itpg_base.proofs.Objects.{same_some}
+use Rattle.relation_rows.specs.Answered.{Answered}
+use Rattle.standing_queries.specs.Watches.{IsOfKind}
 use Rattle.standing_queries.specs.Changes.{OneRest, SomeRest}
+use Rattle.itpg_session.specs.PlainWatches.{PlainWatch, IsWatched, new_watch, marked_at, AreMarkedAfter}
 use Rattle.itpg_session.specs.Rules.{WatchBreaks, NameBreaks, TickBreaks, watch_rules, name_rules, tick_rules}
 use Rattle.itpg_session.specs.Watching.{AsksForOne}
 use Rattle.itpg_session.specs.Ticks.{Ticked}
-use Rattle.itpg_session.specs.Replies.{Reply, Silent, Bad, Refused, Wide, Rows, PerWatch, IsFound, IsReply}
+use Rattle.itpg_session.specs.Replies.{Reply, Silent, Bad, Refused, Wide, Rows, Shown, PerWatch, FindsFor, IsReply}
 use Rattle.itpg_session.specs.Machine.{Machine, IsGood, Turn, Refuses, AsksText, WatchesText, WatchesQuery, AddsWatch, ShowsWatch, DropsWatch, TicksAll, Answers, TurnOf, Replies, after, told, quiet_turn}
 use Rattle.itpg_session.specs.MachineLaws.{OneReply, SomeReply, GoodReply, FrontReplies}
 use Rattle.itpg_session.proofs.Decided.{first_or_none, decide_watch, decide_named, decide_tick, some_watch}
-use Rattle.itpg_session.proofs.Replying.{TextLaws, one_asked, some_asked, one_found, some_found}
-use Rattle.standing_queries.proofs.Watching.{more_ordered, without_among, without_ordered}
-use Rattle.itpg_session.proofs.Watching.{one_named, kind_at_first, each_added}
+use Rattle.itpg_session.proofs.Replying.{TextLaws, one_asked, some_asked, one_finding, some_finding}
+use Rattle.standing_queries.proofs.Named.{place_among, one_place, more_ordered}
+use Rattle.itpg_session.proofs.Watching.{without_among, without_ordered, kind_at_first, each_added}
+use Rattle.itpg_session.proofs.Marks.{one_marked, some_marked, AreRemarked, remarked_at, remarked_after, differ_remarked, each_remarked}
+use Rattle.itpg_session.proofs.OneTouch.{one_touch, some_touch}
 use Rattle.itpg_session.proofs.TickSteps.{among_moved, differ_moved}
 use Rattle.itpg_session.proofs.Changing.{kinds_moved, one_tick, some_tick}
-use Rattle.itpg_session.proofs.Answering.{replies_read, replies_bad, blank_answers, asks_answers, asked_asks, watches_answers, watch_bad, watch_read, shows_answers, unwatches_answers, ticks_answers, edit_refused, edit_made, refusal}
+use Rattle.itpg_session.proofs.Answering.{replies_read, replies_bad, blank_answers, asks_answers, asked_asks, watches_answers, watch_bad, watch_read, shows_answers, unwatches_answers, ticks_answers, edit_refused, refusal}
 
 one_refusal : (m : Machine) (broken : RuleCode → Type 0) (rules : List RuleCode) (x y : Turn) → Refuses m broken rules x → Refuses m broken rules y → x ≡ y
 one_refusal m broken rules x y a b = a.is ∙ ap (λ (r : RuleCode). told m (Refused r)) (first_unique broken rules a.rule b.rule a.first b.first) ∙ sym b.is
@@ -72,9 +78,12 @@ module _ (below : Below) (limit : ℕ) (m : Machine) (good : IsGood m) where
 
   one_shown : (name : Word) (x y : Turn) → ShowsWatch limit m name x → ShowsWatch limit m name y → x ≡ y
   one_shown name x y a b =
-      let v : a.watch ≡ b.watch = one_named m.watches good.differ a.watch b.watch a.among b.among (a.named ∙ sym b.named) in
-      let finds = subst (λ (w : Watch). IsFound m.graph limit w.query a.reply) v a.finds in
-      a.is ∙ ap (told m) (one_found m.graph limit (b.watch).query a.reply b.reply finds b.finds) ∙ sym b.is
+      let place : a.place ≡ b.place = one_place (λ (w : PlainWatch). w.name) m.watches a.place b.place a.watch b.watch good.differ a.at b.at (a.named ∙ sym b.named) in
+      let at : slice_get m.watches b.place ≡ Some a.watch = subst (λ (i : ℕ). slice_get m.watches i ≡ Some a.watch) place a.at in
+      let watch : a.watch ≡ b.watch = same_some a.watch b.watch (slice_get m.watches b.place) at b.at in
+      let finds = subst (λ (w : PlainWatch). FindsFor m.graph limit w.query a.found) watch a.finds in
+      let found : a.found ≡ b.found = one_finding m.graph limit (b.watch).query a.found b.found finds b.finds in
+      a.is ∙ ap (λ (i : ℕ). told m (Shown i a.found)) place ∙ ap (λ (f : Option Answered). told m (Shown b.place f)) found ∙ sym b.is
 
   one_ticked : (x y : Turn) → TicksAll limit m x → TicksAll limit m y → x ≡ y
   one_ticked x y a b = a.is ∙ ap (λ (f : List Ticked). told m (PerWatch f)) (one_tick m.graph limit below.one_rest m.watches a.found b.found a.finds b.finds) ∙ sym b.is
@@ -82,9 +91,15 @@ module _ (below : Below) (limit : ℕ) (m : Machine) (good : IsGood m) where
   one_change : (edit : Edit) (x y : Turn) → Answers limit m (Changes edit) x → Answers limit m (Changes edit) y → x ≡ y
   unfolding Answers
   one_change edit x y (inl a) (inl b) = one_refusal m (Breaks m.graph edit) (rules_of edit) x y a b
-  one_change edit x y (inl a) (inr b) = absurd (first_or_unbroken (Breaks m.graph edit) (rules_of edit) a.rule a.first b.unbroken)
-  one_change edit x y (inr a) (inl b) = absurd (first_or_unbroken (Breaks m.graph edit) (rules_of edit) b.rule b.first a.unbroken)
-  one_change edit x y (inr a) (inr b) = a.is ∙ ap (λ (g : Graph). let n : Machine = record { graph = g; watches = m.watches } in quiet_turn n) (below.one_next m.graph a.graph b.graph edit good.graph a.next b.next) ∙ sym b.is
+  one_change edit x y (inl a) (inr b) = absurd (first_or_unbroken (Breaks m.graph edit) (rules_of edit) a.rule a.first b.makes.unbroken)
+  one_change edit x y (inr a) (inl b) = absurd (first_or_unbroken (Breaks m.graph edit) (rules_of edit) b.rule b.first a.makes.unbroken)
+  one_change edit x y (inr a) (inr b) =
+      let touch : a.touch ≡ b.touch = one_touch m.graph edit good.graph a.touch b.touch a.makes.touches b.makes.touches in
+      let marked = subst (λ (t : Touch). AreMarkedAfter t m.watches a.watches) touch a.marked in
+      a.is
+      ∙ ap (λ (g : Graph). let n : Machine = record { graph = g; watches = a.watches } in quiet_turn n) (below.one_next m.graph a.graph b.graph edit good.graph a.makes.next b.makes.next)
+      ∙ ap (λ (ws : List PlainWatch). let n : Machine = record { graph = b.graph; watches = ws } in quiet_turn n) (one_marked b.touch m.watches a.watches b.watches marked b.marked)
+      ∙ sym b.is
 
   one_answer : (reading : Reading) (x y : Turn) → Answers limit m reading x → Answers limit m reading y → x ≡ y
   unfolding Answers
@@ -111,21 +126,14 @@ module _ (below : Below) (limit : ℕ) (m : Machine) (good : IsGood m) where
   good_refusal : (broken : RuleCode → Type 0) (rules : List RuleCode) (t : Turn) → Refuses m broken rules t → IsGood t.next
   good_refusal broken rules t a = same_good t (sym (ap (λ (u : Turn). u.next) a.is))
 
-  -- a reply to a text, and what is found for a query, leave it too
-  found_after : (q : QueryTerm) (reply : Reply) → IsFound m.graph limit q reply → m ≡ after m reply
-  found_after q Silent a = absurd a
-  found_after q (Bad code) a = absurd a
-  found_after q (Refused rule) a = absurd a
-  found_after q Wide a = refl
-  found_after q (Rows answer) a = refl
-  found_after q (PerWatch found) a = absurd a
-
+  -- a reply to a text leaves it too
   asked_after : (text : List ℕ) (reply : Reply) → IsReply m.graph limit text reply → m ≡ after m reply
   asked_after text Silent a = refl
   asked_after text (Bad code) a = refl
   asked_after text (Refused rule) a = refl
   asked_after text Wide a = refl
   asked_after text (Rows answer) a = refl
+  asked_after text (Shown place found) (q, reads, a) = absurd a.1
   asked_after text (PerWatch found) (q, reads, a) = absurd a.1
 
   good_ask : (text : List ℕ) (t : Turn) → AsksText limit m text t → IsGood t.next
@@ -137,9 +145,9 @@ module _ (below : Below) (limit : ℕ) (m : Machine) (good : IsGood m) where
       let free : IsWatched m.watches name → ⊥ = a.unbroken.1.1.0 in
       subst (λ (u : Turn). IsGood u.next) (sym a.is) (record {
         graph = good.graph;
-        differ = more_ordered m.watches (new_watch name q) good.differ free;
-        asks = each_added (λ (w : Watch). AsksForOne w.query) m.watches (new_watch name q) good.asks (asks_for_one text q reads);
-        kinds = each_added (λ (w : Watch). IsOfKind w.query w.base) m.watches (new_watch name q) good.kinds (kind_at_first q);
+        differ = more_ordered (λ (w : PlainWatch). w.name) m.watches (new_watch name q) good.differ (λ w a e. free (w, a, e));
+        asks = each_added (λ (w : PlainWatch). AsksForOne w.query) m.watches (new_watch name q) good.asks (asks_for_one text q reads);
+        kinds = each_added (λ (w : PlainWatch). IsOfKind w.query w.base) m.watches (new_watch name q) good.kinds (kind_at_first q);
       })
 
   good_watch : (name : Word) (text : List ℕ) (t : Turn) → WatchesText m name text t → IsGood t.next
@@ -147,18 +155,24 @@ module _ (below : Below) (limit : ℕ) (m : Machine) (good : IsGood m) where
   good_watch name text t (inr (q, s, inl b)) = good_refusal (WatchBreaks m.graph m.watches name q) watch_rules t b
   good_watch name text t (inr (q, s, inr b)) = good_added name text q t s b
 
+  -- other marks
+  good_marks : (g : Graph) (ws : List PlainWatch) → Good g → AreRemarked m.watches ws → IsGood (record { graph = g; watches = ws })
+  good_marks g ws graph same = record {
+    graph = graph;
+    differ = differ_remarked m.watches ws same good.differ;
+    asks = each_remarked (λ (w : PlainWatch). AsksForOne w.query) (λ w mark h. h) m.watches ws same good.asks;
+    kinds = each_remarked (λ (w : PlainWatch). IsOfKind w.query w.base) (λ w mark h. h) m.watches ws same good.kinds;
+  }
+
   good_change : (edit : Edit) (t : Turn) → HasMoments edit → HasLabels edit → Answers limit m (Changes edit) t → IsGood t.next
   unfolding Answers
   good_change edit t moments labels (inl a) = good_refusal (Breaks m.graph edit) (rules_of edit) t a
-  good_change edit t moments labels (inr a) = subst (λ (u : Turn). IsGood u.next) (sym a.is) (record {
-    graph = below.good_next m.graph a.graph edit good.graph moments labels a.unbroken a.next;
-    differ = good.differ;
-    asks = good.asks;
-    kinds = good.kinds;
-  })
+  good_change edit t moments labels (inr a) = subst (λ (u : Turn). IsGood u.next) (sym a.is)
+      (good_marks a.graph a.watches (below.good_next m.graph a.graph edit good.graph moments labels a.makes.unbroken a.makes.next) (remarked_after a.touch m.watches a.watches a.marked))
 
   good_shown : (name : Word) (t : Turn) → ShowsWatch limit m name t → IsGood t.next
-  good_shown name t a = same_good t (found_after (a.watch).query a.reply a.finds ∙ sym (ap (λ (u : Turn). u.next) a.is))
+  good_shown name t a = subst (λ (u : Turn). IsGood u.next) (sym a.is)
+      (good_marks m.graph (marked_at a.place (is_some a.found) m.watches) good.graph (remarked_at a.place (is_some a.found) m.watches))
 
   -- a watch less
   good_dropped : (name : Word) (t : Turn) → DropsWatch m name t → IsGood t.next
@@ -218,16 +232,23 @@ module _ (below : Below) (limit : ℕ) (m : Machine) (good : IsGood m) where
   some_shown : (name : Word) → NoneOf (NameBreaks m.graph m.watches name) name_rules → (t : Turn) × ShowsWatch limit m name t
   some_shown name none =
       let w = some_watch m.watches name none.1.0 in
-      let f = some_found m.graph limit (w.0).query (good.asks w.0 w.1) in
-      (told m f.0, record { unbroken = none; watch = w.0; among = w.1; named = w.2; reply = f.0; finds = f.1; is = refl })
+      let place = place_among m.watches w.0 w.1 in
+      let f = some_finding m.graph limit (w.0).query (good.asks w.0 w.1) in
+      (told m (Shown place.0 f.0), record { unbroken = none; place = place.0; watch = w.0; at = place.1; named = w.2; found = f.0; finds = f.1; is = refl })
 
   some_ticked : NoneOf (TickBreaks m.graph) tick_rules → (t : Turn) × TicksAll limit m t
   some_ticked none = let f = some_tick m.graph limit below.some_rest m.watches good.asks good.kinds in (told m (PerWatch f.0), record { unbroken = none; found = f.0; finds = f.1; is = refl })
 
+  some_made : (edit : Edit) (g : Graph) (touch : Touch) → MakesGraph m.graph edit g touch → (t : Turn) × Answers limit m (Changes edit) t
+  unfolding Answers
+  some_made edit g touch makes =
+      let marked = some_marked touch m.watches in
+      (_, inr (record { graph = g; touch = touch; makes = makes; watches = marked.0; marked = marked.1; is = refl }))
+
   some_change : (edit : Edit) → (t : Turn) × Answers limit m (Changes edit) t
   some_change edit = elim (below.rules m.graph edit good.graph) [
     | inl f ↦ (told m (Refused f.0), edit_refused limit m edit f.0 f.1 _ refl)
-    | inr u ↦ let n = below.some_next m.graph edit good.graph u in (_, edit_made limit m edit n.0 u n.1)
+    | inr u ↦ let n = below.some_next m.graph edit good.graph u in let touch = some_touch m.graph n.0 edit n.1 in some_made edit n.0 touch.0 (record { unbroken = u; next = n.1; touches = touch.1 })
   ]
 
   some_answer : (reading : Reading) → (t : Turn) × Answers limit m reading t

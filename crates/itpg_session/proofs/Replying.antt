@@ -1,5 +1,5 @@
 -- On each graph a query text has exactly one reply, and each object of its rows was declared.
-use Rattle.std.proofs.Common.{◌≡◌, ◌⊎◌, inl, inr, ◌||◌, ℕ, ◌<◌, List, Bool, true, false, length, refl, sym, ap, ◌∙◌, subst, arith}
+use Rattle.std.proofs.Common.{◌≡◌, ◌⊎◌, inl, inr, ◌||◌, ℕ, ◌<◌, List, Bool, true, false, length, Option, None, Some, refl, sym, ap, ◌∙◌, subst, arith}
 use Rattle.std.specs.Prelude.{IsTrue}
 use Rattle.std.proofs.lemmas.Int.{ints}
 use Rattle.std.proofs.lemmas.Option.{slice_get_within}
@@ -32,7 +32,7 @@ use Rattle.path_eval.proofs.Finite.{cut_rows, departures, arrivals, fit_or_wide,
 use Rattle.row_printer.specs.Texts.{AreDeclared}
 use Rattle.itpg_session.specs.Questions.{HasAnswer}
 use Rattle.itpg_session.specs.Rules.{QueryBreaks, ask_rules}
-use Rattle.itpg_session.specs.Replies.{Reply, Silent, Bad, Refused, Wide, Rows, PerWatch, IsFound, IsReply, IsReplyTo, NamesDeclared}
+use Rattle.itpg_session.specs.Replies.{Reply, Silent, Bad, Refused, Wide, Rows, Shown, PerWatch, IsFound, FindsFor, IsReply, IsReplyTo, NamesDeclared}
 use Rattle.itpg_session.proofs.Decided.{first_or_none, decide_ask}
 
 -- ---- what answers a query
@@ -96,30 +96,47 @@ module _ (g : Graph) (limit : ℕ) (q : QueryTerm) where
   one_found Silent y a b = absurd a
   one_found (Bad c) y a b = absurd a
   one_found (Refused r) y a b = absurd a
+  one_found (Shown i f) y a b = absurd a
   one_found (PerWatch f) y a b = absurd a
   one_found Wide Silent a b = absurd b
   one_found Wide (Bad c) a b = absurd b
   one_found Wide (Refused r) a b = absurd b
+  one_found Wide (Shown i f) a b = absurd b
   one_found Wide (PerWatch f) a b = absurd b
   one_found Wide Wide a b = refl
   one_found Wide (Rows y) a b = absurd (b.0 a)
   one_found (Rows x) Silent a b = absurd b
   one_found (Rows x) (Bad c) a b = absurd b
   one_found (Rows x) (Refused r) a b = absurd b
+  one_found (Rows x) (Shown i f) a b = absurd b
   one_found (Rows x) (PerWatch f) a b = absurd b
   one_found (Rows x) Wide a b = absurd (a.0 b)
   one_found (Rows x) (Rows y) a b = ap Rows (one_answered x y a b)
 
-  pub some_found : IsTrue (q.first || q.last) → (found : Reply) × IsFound g limit q found
-  some_found ends = elim (fit_or_wide g limit (worked q.path All All)) [
-    | inl fits ↦ let a = some_answer q.first q.last g q.path ends in (Rows a.0, (fit_apart g limit (worked q.path All All) fits, a.1))
-    | inr wide ↦ (Wide, wide)
+  pub one_finding : (x y : Option Answered) → FindsFor g limit q x → FindsFor g limit q y → x ≡ y
+  one_finding None None a b = refl
+  one_finding None (Some y) a b = absurd (b.0 a)
+  one_finding (Some x) None a b = absurd (a.0 b)
+  one_finding (Some x) (Some y) a b = ap Some (one_answered x y a b)
+
+  pub some_finding : IsTrue (q.first || q.last) → (found : Option Answered) × FindsFor g limit q found
+  some_finding ends = elim (fit_or_wide g limit (worked q.path All All)) [
+    | inl fits ↦ let a = some_answer q.first q.last g q.path ends in (Some a.0, (fit_apart g limit (worked q.path All All) fits, a.1))
+    | inr wide ↦ (None, wide)
   ]
+
+  some_found : IsTrue (q.first || q.last) → (found : Reply) × IsFound g limit q found
+  some_found ends = let f = some_finding ends in by_finding f.0 f.1
+    where
+      by_finding : (found : Option Answered) → FindsFor g limit q found → (reply : Reply) × IsFound g limit q reply
+      by_finding None is = (Wide, is)
+      by_finding (Some answer) is = (Rows answer, is)
 
   pub found_declared : (found : Reply) → IsFound g limit q found → NamesDeclared g found
   found_declared Silent a = tt
   found_declared (Bad c) a = tt
   found_declared (Refused r) a = tt
+  found_declared (Shown i f) a = tt
   found_declared (PerWatch f) a = tt
   found_declared Wide a = tt
   found_declared (Rows x) a = declared g q.path q.first q.last x a.1
@@ -139,6 +156,7 @@ module _ (g : Graph) (limit : ℕ) (q : QueryTerm) where
   refused_or_found (Bad c) a = inr a
   refused_or_found Wide a = inr a
   refused_or_found (Rows x) a = inr a
+  refused_or_found (Shown i f) a = inr a
   refused_or_found (PerWatch f) a = inr a
 
   one_reply_to : (x y : Reply) → IsReplyTo g limit q x → IsReplyTo g limit q y → x ≡ y
@@ -158,6 +176,7 @@ module _ (g : Graph) (limit : ℕ) (q : QueryTerm) where
   is_reply unbroken Silent is = absurd is
   is_reply unbroken (Bad c) is = absurd is
   is_reply unbroken (Refused r) is = absurd is
+  is_reply unbroken (Shown i f) is = absurd is
   is_reply unbroken (PerWatch f) is = absurd is
   is_reply unbroken Wide is = (unbroken, is)
   is_reply unbroken (Rows x) is = (unbroken, is)
@@ -177,6 +196,7 @@ module _ (g : Graph) (limit : ℕ) (text : List ℕ) where
   of_read q reads Silent a = (q, reads, a)
   of_read q reads Wide a = (q, reads, a)
   of_read q reads (Rows x) a = (q, reads, a)
+  of_read q reads (Shown i f) a = (q, reads, a)
   of_read q reads (PerWatch f) a = (q, reads, a)
 
   read_or_bad : (reply : Reply) → IsReply g limit text reply → ((q : QueryTerm) × Reads text q × IsReplyTo g limit q reply) ⊎ ((c : TextCode) × FaultOf text c × (reply ≡ Bad c))
@@ -185,6 +205,7 @@ module _ (g : Graph) (limit : ℕ) (text : List ℕ) where
   read_or_bad Silent a = inl a
   read_or_bad Wide a = inl a
   read_or_bad (Rows x) a = inl a
+  read_or_bad (Shown i f) a = inl a
   read_or_bad (PerWatch f) a = inl a
 
   pub declared_asked : (reply : Reply) → IsReply g limit text reply → NamesDeclared g reply
@@ -192,6 +213,7 @@ module _ (g : Graph) (limit : ℕ) (text : List ℕ) where
   declared_asked (Refused r) a = tt
   declared_asked Silent a = tt
   declared_asked Wide a = tt
+  declared_asked (Shown i f) a = tt
   declared_asked (PerWatch f) a = tt
   declared_asked (Rows x) (q, reads, a) = declared g q.path q.first q.last x a.1.1
 

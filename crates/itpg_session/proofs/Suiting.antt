@@ -1,16 +1,20 @@
 -- A reply that a line has is one of the session.
-use Rattle.std.proofs.Common.{◌≡◌, ◌⊎◌, inl, inr, ℕ, List, refl, sym, subst}
-use Rattle.std.specs.Prelude.{Result, Ok, Err, IfOk}
+use Rattle.std.proofs.Common.{◌≡◌, ◌⊎◌, inl, inr, ℕ, List, length, refl, sym, subst}
+use Rattle.std.specs.Prelude.{Result, Ok, Err, Option, Some, IfOk, slice_get, IsSomeAnd}
 use Rattle.itpg_base.specs.Words.{Word}
 use Rattle.itpg_base.specs.declared.rule_code.RuleCode.{RuleCode}
 use Rattle.itpg_base.specs.declared.text_code.TextCode.{TextCode}
 use Rattle.edit_reader.specs.Readings.{Reading, Nothing, Changes, Asks, Watches, Shows, Unwatches, Ticks}
 use Rattle.path_ast.specs.Terms.{QueryTerm}
-use Rattle.itpg_session.specs.Replies.{Reply, Silent, Bad, Refused, Wide, Rows, PerWatch, IsFound, IsReply, line_reply}
-use Rattle.itpg_session.specs.Machine.{Standing, Turn, Refuses, WatchesText, WatchesQuery, Answers, TurnOf, Replies}
-use Rattle.itpg_session.specs.Steps.{Decides, Suits}
+use Rattle.itpg_session.specs.Replies.{Reply, Silent, Bad, Refused, Wide, Rows, Shown, PerWatch, FindsFor, IsReply, line_reply}
+use Rattle.relation_rows.specs.Answered.{Answered}
+use Rattle.itpg_session.specs.PlainWatches.{PlainWatch}
+use Rattle.itpg_session.specs.Machine.{Machine, Standing, Turn, Refuses, WatchesText, WatchesQuery, Answers, TurnOf}
+use Rattle.row_printer.specs.Texts.{AreDeclared}
+use Rattle.itpg_session.specs.Ticks.{AreTicked}
+use Rattle.itpg_session.specs.Steps.{IsAlike, Decides, Suits}
 use Rattle.itpg_session.specs.declared.reply.Reply.{Reply as ReplyValue}
-use Rattle.itpg_session.proofs.Replying.{found_declared, declared_asked}
+use Rattle.itpg_session.proofs.Replying.{declared_asked}
 
 module _ (s : Standing) where
   asked_suits : (text : List ℕ) (reply : Reply) → IsReply s.machine.graph s.limit text reply → Suits s reply
@@ -19,15 +23,11 @@ module _ (s : Standing) where
   asked_suits text (Refused rule) a = tt
   asked_suits text Wide a = tt
   asked_suits text (Rows answer) a = declared_asked s.machine.graph s.limit text (Rows answer) a
+  asked_suits text (Shown place found) (q, reads, a) = absurd a.1
   asked_suits text (PerWatch found) (q, reads, a) = absurd a.1
 
-  found_suits : (q : QueryTerm) (reply : Reply) → IsFound s.machine.graph s.limit q reply → Suits s reply
-  found_suits q Silent a = tt
-  found_suits q (Bad code) a = tt
-  found_suits q (Refused rule) a = tt
-  found_suits q Wide a = tt
-  found_suits q (Rows answer) a = found_declared s.machine.graph s.limit q (Rows answer) a
-  found_suits q (PerWatch found) a = absurd a
+  shown_suits : (place : ℕ) (w : PlainWatch) (found : Option Answered) → slice_get s.machine.watches place ≡ Some w → FindsFor s.machine.graph s.limit w.query found → Suits s (Shown place found)
+  shown_suits place w found at finds = subst (λ o. IsSomeAnd o (λ v. FindsFor s.machine.graph s.limit v.query found)) (sym at) finds
 
   -- the turn has this reply, and the reply suits
   replied : (t u : Turn) → t ≡ u → Suits s u.reply → Suits s t.reply
@@ -52,7 +52,7 @@ module _ (s : Standing) where
   answer_suits (Asks text) t a = replied t _ a.is (asked_suits text a.reply a.replies)
   answer_suits (Watches name text) t a = text_suits name text t a
   answer_suits (Shows name) t (inl a) = replied t _ a.is tt
-  answer_suits (Shows name) t (inr a) = replied t _ a.is (found_suits (a.watch).query a.reply a.finds)
+  answer_suits (Shows name) t (inr a) = replied t _ a.is (shown_suits a.place a.watch a.found a.at a.finds)
   answer_suits (Unwatches name) t (inl a) = replied t _ a.is tt
   answer_suits (Unwatches name) t (inr a) = replied t _ a.is tt
   answer_suits Ticks t (inl a) = replied t _ a.is tt
@@ -63,22 +63,33 @@ module _ (s : Standing) where
   turn_suits (Ok reading) t a = answer_suits reading t a
   turn_suits (Err code) t a = replied t _ a tt
 
-  reply_suits : (line : List ℕ) (t : Turn) → Replies s.limit s.machine line t → Suits s t.reply
-  reply_suits line t a = turn_suits a.what t a.turn
-
 silent_or_not : (reply : Reply) → (reply ≡ Silent → ⊥) ⊎ (reply ≡ Silent)
 silent_or_not Silent = inr refl
 silent_or_not (Bad code) = inl (λ e. let no : ⊥ = cc in no)
 silent_or_not (Refused rule) = inl (λ e. let no : ⊥ = cc in no)
 silent_or_not Wide = inl (λ e. let no : ⊥ = cc in no)
 silent_or_not (Rows answer) = inl (λ e. let no : ⊥ = cc in no)
+silent_or_not (Shown place found) = inl (λ e. let no : ⊥ = cc in no)
 silent_or_not (PerWatch found) = inl (λ e. let no : ⊥ = cc in no)
 
--- a reply that says nothing suits every session, any other the one that it was decided for
-suits_new : (old new : Standing) (reply : Reply) → (reply ≡ Silent → ⊥) ⊎ (reply ≡ Silent) → Suits old reply → ((reply ≡ Silent → ⊥) → new ≡ old) → Suits new reply
-suits_new old new reply (inl some) h waits = subst (λ (s : Standing). Suits s reply) (sym (waits some)) h
-suits_new old new reply (inr none) h waits = subst (Suits new) (sym none) tt
+-- two sessions with one machine and one limit: what suits the one suits the other
+suits_alike : (old new : Standing) (reply : Reply) → new.machine ≡ old.machine → new.limit ≡ old.limit → Suits old reply → Suits new reply
+suits_alike old new Silent machine limit h = tt
+suits_alike old new (Bad code) machine limit h = tt
+suits_alike old new (Refused rule) machine limit h = tt
+suits_alike old new Wide machine limit h = tt
+suits_alike old new (Rows answer) machine limit h = subst (λ (m : Machine). AreDeclared (length m.graph.objects) answer) (sym machine) h
+suits_alike old new (Shown place found) machine limit h =
+    subst (λ (l : ℕ). IsSomeAnd (slice_get new.machine.watches place) (λ w. FindsFor new.machine.graph l w.query found)) (sym limit)
+    (subst (λ (m : Machine). IsSomeAnd (slice_get m.watches place) (λ w. FindsFor m.graph old.limit w.query found)) (sym machine) h)
+suits_alike old new (PerWatch found) machine limit h =
+    subst (λ (l : ℕ). AreTicked new.machine.graph l new.machine.watches found) (sym limit) (subst (λ (m : Machine). AreTicked m.graph old.limit m.watches found) (sym machine) h)
 
-pub suits_decided : {E : Type 0} (W : Type 0) (line : List ℕ) (old new : Standing) (result : Result ReplyValue E) → Decides (Replies old.limit old.machine line) W old new result → IfOk result (λ reply. Suits new (line_reply reply))
-suits_decided W line old new (Ok reply) d = suits_new old new (line_reply reply) (silent_or_not (line_reply reply)) (reply_suits old line _ d.turns) d.waits
-suits_decided W line old new (Err error) d = tt
+-- a reply that says nothing suits every session, any other the one that it was decided for
+suits_new : (old new : Standing) (reply : Reply) → (reply ≡ Silent → ⊥) ⊎ (reply ≡ Silent) → Suits old reply → ((reply ≡ Silent → ⊥) → IsAlike old new) → new.limit ≡ old.limit → Suits new reply
+suits_new old new reply (inl some) h waits limit = suits_alike old new reply (waits some).machine limit h
+suits_new old new reply (inr none) h waits limit = subst (Suits new) (sym none) tt
+
+pub suits_decided : {E : Type 0} (W : Type 0) (what : Result Reading TextCode) (old new : Standing) (result : Result ReplyValue E) → Decides (TurnOf old.limit old.machine what) W old new result → IfOk result (λ reply. Suits new (line_reply reply))
+suits_decided W what old new (Ok reply) d = suits_new old new (line_reply reply) (silent_or_not (line_reply reply)) (turn_suits old what _ d.turns) d.waits d.limit
+suits_decided W what old new (Err error) d = tt

@@ -4,40 +4,42 @@ use Rattle.std.specs.Prelude.{slice_get, IsSomeAnd, Some}
 use Rattle.std.specs.List.{list_any}
 use Rattle.std.proofs.lemmas.List.{map-append}
 use Rattle.std.proofs.lemmas.Option.{slice_get_within, same_Some}
-use Rattle.itpg_base.specs.Words.{Word}
 use Rattle.itpg_base.specs.Graphs.{Graph}
 use Rattle.itpg_base.specs.Lists.{Among, Ordered}
-use Rattle.relation_rows.specs.Answered.{Answered as Answers}
-use Rattle.standing_queries.specs.Watches.{Watch, NamesDiffer, rebased}
+use Rattle.standing_queries.specs.Watches.{Watch}
 use Rattle.itpg_session.specs.declared.ticking.Ticked.{Ticked as TickedValue}
-use Rattle.itpg_session.specs.Ticks.{Ticked, ticked_of, StaysWide, Moves, IsTicked, AreTicked, some_wide, moved, moved_at, all_moved}
+use Rattle.itpg_session.specs.PlainWatches.{PlainWatch, NamesDiffer, plain, all_plain}
+use Rattle.itpg_session.specs.Ticks.{Ticked, ticked_of, StaysWide, Moves, IsTicked, AreTicked, some_wide, settled, settled_at, all_settled, moved, all_moved}
 use Rattle.itpg_session.specs.Watching.{IsMoveOfKind, AreMovesOfKind}
 use Rattle.itpg_session.specs.Texts.{tick_wide_text, tick_head_text, ticked_text, tick_text}
 use Rattle.itpg_session.specs.Steps.{Sees}
 use Rattle.itpg_session.specs.declared.reply.Seen.TheVariants.{Quiet, Answered, Refused}
+use Rattle.itpg_session.proofs.Plain.{said_plain}
 use Rattle.itpg_session.proofs.Told.{sees_quiet, sees_answered, sees_refused}
 
 -- ---- finding
 
-pub ticked_more : (g : Graph) (limit : ℕ) (ws : List Watch) (i : ℕ) (xs : List Ticked) (x : Ticked) → AreTicked g limit (take i ws) xs → IsSomeAnd (slice_get ws i) (λ w. IsTicked g limit w x) → AreTicked g limit (take (suc i) ws) (xs ++ x ∷ [])
+pub ticked_more : (g : Graph) (limit : ℕ) (ws : List PlainWatch) (i : ℕ) (xs : List Ticked) (x : Ticked) → AreTicked g limit (take i ws) xs → IsSomeAnd (slice_get ws i) (λ w. IsTicked g limit w x) → AreTicked g limit (take (suc i) ws) (xs ++ x ∷ [])
 ticked_more g limit [] i xs x a h = absurd h
 ticked_more g limit (w ∷ ws) zero [] x a h = (h, tt)
 ticked_more g limit (w ∷ ws) zero (y ∷ ys) x a h = absurd a
 ticked_more g limit (w ∷ ws) (suc i) [] x a h = absurd a
 ticked_more g limit (w ∷ ws) (suc i) (y ∷ ys) x a h = (a.0, ticked_more g limit ws i ys x a.1 h)
 
-pub ticked_length : (g : Graph) (limit : ℕ) (ws : List Watch) (xs : List Ticked) → AreTicked g limit ws xs → length xs ≡ length ws
+pub ticked_length : (g : Graph) (limit : ℕ) (ws : List PlainWatch) (xs : List Ticked) → AreTicked g limit ws xs → length xs ≡ length ws
 ticked_length g limit [] [] a = refl
 ticked_length g limit [] (x ∷ xs) a = absurd a
 ticked_length g limit (w ∷ ws) [] a = absurd a
 ticked_length g limit (w ∷ ws) (x ∷ xs) a = ap suc (ticked_length g limit ws xs a.1)
 
-pub tick_step : (g : Graph) (limit : ℕ) (ws : List Watch) (i : ℕ) (items new : List TickedValue) (x : TickedValue) → AreTicked g limit (take i ws) (map ticked_of items) → IsSomeAnd (slice_get ws i) (λ w. IsTicked g limit w (ticked_of x))
-    → new ≡ items ++ x ∷ [] → AreTicked g limit (take (i + 1) ws) (map ticked_of new)
+pub tick_step : (g : Graph) (limit : ℕ) (ws : List Watch) (i : ℕ) (items new : List TickedValue) (x : TickedValue) → AreTicked g limit (take i (all_plain ws)) (map ticked_of items)
+    → IsSomeAnd (slice_get ws i) (λ w. IsTicked g limit (plain w) (ticked_of x)) → new ≡ items ++ x ∷ [] → AreTicked g limit (take (i + 1) (all_plain ws)) (map ticked_of new)
 tick_step g limit ws i items new x are is e =
-    subst (λ (xs : List TickedValue). AreTicked g limit (take (i + 1) ws) (map ticked_of xs)) (sym e)
-    (subst (λ (ys : List Ticked). AreTicked g limit (take (i + 1) ws) ys) (sym (map-append ticked_of items (x ∷ [])))
-    (subst (λ (k : ℕ). AreTicked g limit (take k ws) (map ticked_of items ++ ticked_of x ∷ [])) (let next : suc i ≡ i + 1 = omega arith in next) (ticked_more g limit ws i (map ticked_of items) (ticked_of x) are is)))
+    let next : suc i ≡ i + 1 = omega arith in
+    let more = ticked_more g limit (all_plain ws) i (map ticked_of items) (ticked_of x) are (said_plain (λ w. IsTicked g limit w (ticked_of x)) ws i is) in
+    subst (λ (xs : List TickedValue). AreTicked g limit (take (i + 1) (all_plain ws)) (map ticked_of xs)) (sym e)
+    (subst (λ (ys : List Ticked). AreTicked g limit (take (i + 1) (all_plain ws)) ys) (sym (map-append ticked_of items (x ∷ [])))
+    (subst (λ (k : ℕ). AreTicked g limit (take k (all_plain ws)) (map ticked_of items ++ ticked_of x ∷ [])) next more))
 
 -- ---- places
 
@@ -74,14 +76,14 @@ text_split g (y ∷ ys) (suc i) x b =
 
 -- ---- moving
 
-pub moved_length : (ws : List Watch) (xs : List Ticked) → length (all_moved ws xs) ≡ length ws
-moved_length [] xs = refl
-moved_length (w ∷ ws) [] = refl
-moved_length (w ∷ ws) (x ∷ xs) = ap suc (moved_length ws xs)
+pub settled_length : (ws : List Watch) (xs : List Ticked) → length (all_settled ws xs) ≡ length ws
+settled_length [] xs = refl
+settled_length (w ∷ ws) [] = refl
+settled_length (w ∷ ws) (x ∷ xs) = ap suc (settled_length ws xs)
 
 -- the watches of which those from a place on are moved
 abbrev pub moved_from : ℕ → List Watch → List Ticked → List Watch
-moved_from zero ws xs = all_moved ws xs
+moved_from zero ws xs = all_settled ws xs
 moved_from (suc k) [] xs = []
 moved_from (suc k) (w ∷ ws) [] = w ∷ ws
 moved_from (suc k) (w ∷ ws) (x ∷ xs) = w ∷ moved_from k ws xs
@@ -93,7 +95,7 @@ none_moved (w ∷ ws) [] e = refl
 none_moved (w ∷ ws) (x ∷ xs) e = ap (λ (vs : List Watch). w ∷ vs) (none_moved ws xs (omega (arith, e)))
 
 pub from_length : (k : ℕ) (ws : List Watch) (xs : List Ticked) → length (moved_from k ws xs) ≡ length ws
-from_length zero ws xs = moved_length ws xs
+from_length zero ws xs = settled_length ws xs
 from_length (suc k) [] xs = refl
 from_length (suc k) (w ∷ ws) [] = refl
 from_length (suc k) (w ∷ ws) (x ∷ xs) = ap suc (from_length k ws xs)
@@ -106,49 +108,19 @@ from_at zero (w ∷ ws) (x ∷ xs) = refl
 from_at (suc k) (w ∷ ws) [] = refl
 from_at (suc k) (w ∷ ws) (x ∷ xs) = from_at k ws xs
 
-from_less : (k : ℕ) (ws : List Watch) (xs : List Ticked) (name : Word) (now gained lost : Answers) → slice_get xs k ≡ Some (Moves name now gained lost) → rebased k now (moved_from (suc k) ws xs) ≡ moved_from k ws xs
-from_less zero [] xs name now gained lost is = refl
-from_less (suc k) [] xs name now gained lost is = refl
-from_less k (w ∷ ws) [] name now gained lost is = absurd (let nothing : ⊥ = cc in nothing)
-from_less zero (w ∷ ws) (x ∷ xs) name now gained lost is = ap (λ (y : Ticked). moved w y ∷ all_moved ws xs) (sym (same_Some _ _ is))
-from_less (suc k) (w ∷ ws) (x ∷ xs) name now gained lost is = ap (λ (vs : List Watch). w ∷ vs) (from_less k ws xs name now gained lost is)
-
-from_same : (k : ℕ) (ws : List Watch) (xs : List Ticked) (name : Word) → slice_get xs k ≡ Some (StaysWide name) → moved_from (suc k) ws xs ≡ moved_from k ws xs
-from_same zero [] xs name is = refl
-from_same (suc k) [] xs name is = refl
-from_same k (w ∷ ws) [] name is = absurd (let nothing : ⊥ = cc in nothing)
-from_same zero (w ∷ ws) (x ∷ xs) name is = ap (λ (y : Ticked). moved w y ∷ all_moved ws xs) (sym (same_Some _ _ is))
-from_same (suc k) (w ∷ ws) (x ∷ xs) name is = ap (λ (vs : List Watch). w ∷ vs) (from_same k ws xs name is)
-
-pub from_one : (k : ℕ) (ws : List Watch) (xs : List Ticked) (x : Ticked) → slice_get xs k ≡ Some x → moved_at k x (moved_from (suc k) ws xs) ≡ moved_from k ws xs
-from_one k ws xs (StaysWide name) is = from_same k ws xs name is
-from_one k ws xs (Moves name now gained lost) is = from_less k ws xs name now gained lost is
+-- the one before them moves too
+pub from_one : (k : ℕ) (ws : List Watch) (xs : List Ticked) (x : Ticked) → slice_get xs k ≡ Some x → settled_at k x (moved_from (suc k) ws xs) ≡ moved_from k ws xs
+from_one zero [] xs x is = refl
+from_one (suc k) [] xs x is = refl
+from_one k (w ∷ ws) [] x is = absurd (let nothing : ⊥ = cc in nothing)
+from_one zero (w ∷ ws) (y ∷ ys) x is = ap (λ (z : Ticked). settled w z ∷ all_settled ws ys) (sym (same_Some _ _ is))
+from_one (suc k) (w ∷ ws) (y ∷ ys) x is = ap (λ (vs : List Watch). w ∷ vs) (from_one k ws ys x is)
 
 pub kind_at : (ws : List Watch) (xs : List Ticked) (i : ℕ) (x : Ticked) → AreMovesOfKind ws xs → slice_get xs i ≡ Some x → i < length ws → IsSomeAnd (slice_get ws i) (λ w. IsMoveOfKind w x)
 kind_at [] xs i x a is few = absurd (omega (arith, few))
 kind_at (w ∷ ws) [] i x a is few = absurd (let nothing : ⊥ = cc in nothing)
 kind_at (w ∷ ws) (y ∷ ys) zero x a is few = subst (λ (z : Ticked). IsMoveOfKind w z) (same_Some _ _ is) a.0
 kind_at (w ∷ ws) (y ∷ ys) (suc i) x a is few = kind_at ws ys i x a.1 is (omega (arith, few))
-
--- a watch after the tick has the name and the query that it had before
-pub among_moved : (ws : List Watch) (xs : List Ticked) (w : Watch) → Among (all_moved ws xs) w → (v : Watch) × Among ws v × (v.name ≡ w.name) × (v.query ≡ w.query)
-among_moved [] xs w a = absurd a
-among_moved (v ∷ ws) [] w a = (w, a, refl, refl)
-among_moved (v ∷ ws) (StaysWide name ∷ xs) w (inl e) = (v, inl refl, ap (λ (u : Watch). u.name) e, ap (λ (u : Watch). u.query) e)
-among_moved (v ∷ ws) (Moves name now gained lost ∷ xs) w (inl e) = (v, inl refl, ap (λ (u : Watch). u.name) e, ap (λ (u : Watch). u.query) e)
-among_moved (v ∷ ws) (x ∷ xs) w (inr a) = let r = among_moved ws xs w a in (r.0, inr r.1, r.2, r.3)
-
-same_name : (w : Watch) (x : Ticked) → (moved w x).name ≡ w.name
-same_name w (StaysWide name) = refl
-same_name w (Moves name now gained lost) = refl
-
-pub differ_moved : (ws : List Watch) (xs : List Ticked) → Ordered NamesDiffer ws → Ordered NamesDiffer (all_moved ws xs)
-differ_moved [] xs d = tt
-differ_moved (w ∷ ws) [] d = d
-differ_moved (w ∷ ws) (x ∷ xs) d = (
-  λ y a e. let v = among_moved ws xs y a in d.0 v.0 v.1 (sym (same_name w x) ∙ e ∙ sym v.2),
-  differ_moved ws xs d.1,
-)
 
 -- the last of the front of a list
 taken_last : {X : Type 0} (n : ℕ) (xs ys : List X) (x : X) → take n xs ≡ ys ++ x ∷ [] → (take (length ys) xs ≡ ys) × (slice_get xs (length ys) ≡ Some x)
@@ -168,7 +140,7 @@ pub record MovesLast (ws now : List Watch) (xs ys : List Ticked) (x : Ticked) : 
   pub there : length ys < length now
   pub kind : IsSomeAnd (slice_get now (length ys)) (λ w. IsMoveOfKind w x)
   pub left : take (length ys) xs ≡ ys
-  pub moved : moved_at (length ys) x now ≡ moved_from (length ys) ws xs
+  pub moved : settled_at (length ys) x now ≡ moved_from (length ys) ws xs
 
 pub moves_last : (ws now : List Watch) (xs ys : List Ticked) (x : Ticked) (n : ℕ) → length xs ≡ length ws → AreMovesOfKind ws xs → take n xs ≡ ys ++ x ∷ [] → n ≡ suc (length ys) → now ≡ moved_from n ws xs → MovesLast ws now xs ys x
 moves_last ws now xs ys x n same kinds front is moved =
@@ -180,8 +152,30 @@ moves_last ws now xs ys x n same kinds front is moved =
       there = omega (arith, few, all, same);
       kind = subst (λ o. IsSomeAnd o (λ w. IsMoveOfKind w x)) (sym (ap (λ (vs : List Watch). slice_get vs (length ys)) here ∙ from_at (length ys) ws xs)) (kind_at ws xs (length ys) x kinds last.1 (omega (arith, few, same)));
       left = last.0;
-      moved = ap (moved_at (length ys) x) here ∙ from_one (length ys) ws xs x last.1;
+      moved = ap (settled_at (length ys) x) here ∙ from_one (length ys) ws xs x last.1;
     }
+
+-- ---- the machine's watches
+
+-- a watch after the tick has the name and the query that it had before
+pub among_moved : (ws : List PlainWatch) (xs : List Ticked) (w : PlainWatch) → Among (all_moved ws xs) w → (v : PlainWatch) × Among ws v × (v.name ≡ w.name) × (v.query ≡ w.query)
+among_moved [] xs w a = absurd a
+among_moved (v ∷ ws) [] w a = (w, a, refl, refl)
+among_moved (v ∷ ws) (StaysWide name ∷ xs) w (inl e) = (v, inl refl, ap (λ (u : PlainWatch). u.name) e, ap (λ (u : PlainWatch). u.query) e)
+among_moved (v ∷ ws) (Moves name now gained lost ∷ xs) w (inl e) = (v, inl refl, ap (λ (u : PlainWatch). u.name) e, ap (λ (u : PlainWatch). u.query) e)
+among_moved (v ∷ ws) (x ∷ xs) w (inr a) = let r = among_moved ws xs w a in (r.0, inr r.1, r.2, r.3)
+
+same_name : (w : PlainWatch) (x : Ticked) → (moved w x).name ≡ w.name
+same_name w (StaysWide name) = refl
+same_name w (Moves name now gained lost) = refl
+
+pub differ_moved : (ws : List PlainWatch) (xs : List Ticked) → Ordered NamesDiffer ws → Ordered NamesDiffer (all_moved ws xs)
+differ_moved [] xs d = tt
+differ_moved (w ∷ ws) [] d = d
+differ_moved (w ∷ ws) (x ∷ xs) d = (
+  λ y a e. let v = among_moved ws xs y a in d.0 v.0 v.1 (sym (same_name w x) ∙ e ∙ sym v.2),
+  differ_moved ws xs d.1,
+)
 
 -- ---- what is seen of a tick
 

@@ -1,16 +1,17 @@
 -- What is seen of a reply, and the parts of deciding one.
 use Rattle.std.proofs.Common.{◌≡◌, ◌≢◌, ℕ, List, [], true, false, refl, ap, sym, subst}
-use Rattle.std.specs.Prelude.{Result, Ok, Err}
+use Rattle.std.specs.Prelude.{Result, Ok, Err, Some, None}
 use Rattle.itpg_base.specs.Graphs.{Graph}
 use Rattle.itpg_base.specs.declared.rule_code.RuleCode.{RuleCode}
 use Rattle.itpg_base.specs.declared.text_code.TextCode.{TextCode}
 use Rattle.itpg_session.specs.declared.reply.Seen.TheVariants.{Quiet, Answered, Refused as RefusedSeen}
 use Rattle.itpg_session.specs.declared.reply.Reply.{Reply as ReplyValue}
 use Rattle.relation_rows.specs.Answered.{Answered as Answer}
-use Rattle.itpg_session.specs.Replies.{Reply, Silent, Bad, Refused, Wide, Rows, PerWatch, line_reply}
+use Rattle.itpg_session.specs.Replies.{Reply, Silent, Bad, Refused, Wide, Rows, Shown, PerWatch, line_reply}
 use Rattle.itpg_session.specs.Texts.{bad_text, refused_text, wide_text, head_text, rows_text, text_of}
-use Rattle.itpg_session.specs.Machine.{Standing, Turn, told}
-use Rattle.itpg_session.specs.Steps.{Sees, IsDecided, Decides}
+use Rattle.itpg_session.specs.Machine.{Machine, Standing, Turn, told}
+use Rattle.itpg_session.specs.Steps.{Sees, IsAlike, IsDecided, Decides}
+use Rattle.itpg_session.proofs.Planned.{alike_same}
 
 -- ---- what is seen
 
@@ -51,23 +52,25 @@ module _ {P Q : Turn → Type 0} (old new : Standing) where
   decides_as to wants (Err error) d = (d.0, wants d.1)
 
 module _ {P : Turn → Type 0} where
-  -- something is said, or nothing changes
+  -- something is said, and nothing changes
   pub said : (s : Standing) (reply : Reply) → P (told s.machine reply) → IsDecided P s s reply
-  said s reply p = record { turns = p; waits = λ some. refl; limit = refl }
+  said s reply p = record { turns = p; waits = λ some. alike_same s; limit = refl }
 
-  -- the same where what it was said to is the session still
-  pub said_still : (old new : Standing) (reply : Reply) → new ≡ old → P (told old.machine reply) → IsDecided P old new reply
-  said_still old new reply same p = subst (λ (s : Standing). IsDecided P old s reply) (sym same) (said old reply p)
+  -- the same where the session is as it was but for its plans
+  pub said_alike : (old new : Standing) (reply : Reply) → IsAlike old new → P (told old.machine reply) → IsDecided P old new reply
+  said_alike old new reply alike p = record { turns = subst (λ (m : Machine). P (told m reply)) (sym alike.machine) p; waits = λ some. alike; limit = alike.limit }
 
   -- nothing is said
   pub silent : (old new : Standing) → new.limit ≡ old.limit → P (told new.machine Silent) → IsDecided P old new Silent
   silent old new limit p = record { turns = p; waits = λ some. absurd (some refl); limit = limit }
 
 -- a reply that says something is to the machine that it was decided for, and one that says nothing has no text
-pub same_text : (old new : Standing) (number : ℕ) (reply : Reply) → (reply ≢ Silent → new ≡ old) → text_of new.machine.graph number reply ≡ text_of old.machine.graph number reply
+pub same_text : (old new : Standing) (number : ℕ) (reply : Reply) → (reply ≢ Silent → IsAlike old new) → text_of new.machine.graph number reply ≡ text_of old.machine.graph number reply
 same_text old new number Silent waits = refl
 same_text old new number (Bad code) waits = refl
 same_text old new number (Refused rule) waits = refl
 same_text old new number Wide waits = refl
-same_text old new number (Rows answer) waits = ap (λ (s : Standing). text_of s.machine.graph number (Rows answer)) (waits (λ e. let no : ⊥ = cc in no))
-same_text old new number (PerWatch found) waits = ap (λ (s : Standing). text_of s.machine.graph number (PerWatch found)) (waits (λ e. let no : ⊥ = cc in no))
+same_text old new number (Rows answer) waits = ap (λ (m : Machine). text_of m.graph number (Rows answer)) (waits (λ e. let no : ⊥ = cc in no)).machine
+same_text old new number (Shown place None) waits = refl
+same_text old new number (Shown place (Some answer)) waits = ap (λ (m : Machine). text_of m.graph number (Shown place (Some answer))) (waits (λ e. let no : ⊥ = cc in no)).machine
+same_text old new number (PerWatch found) waits = ap (λ (m : Machine). text_of m.graph number (PerWatch found)) (waits (λ e. let no : ⊥ = cc in no)).machine

@@ -1,6 +1,6 @@
 -- A text that is written in two parts, and results.
-use Rattle.std.proofs.Common.{List, ℕ, Option, ◌++◌, sym, ap, ◌∙◌, append_assoc}
-use Rattle.std.specs.Prelude.{Result, Ok, Err, IfOk}
+use Rattle.std.proofs.Common.{◌≡◌, List, ℕ, Option, Some, None, true, false, ◌++◌, refl, sym, ap, ◌∙◌, append_assoc}
+use Rattle.std.specs.Prelude.{Result, Ok, Err, IfOk, OnOk, IfSome, IsNone, is_some}
 use Rattle.std.specs.Io.KnownBytes.{Appends}
 use Rattle.std.proofs.KnownBytes.{Appends-trans}
 use Rattle.itpg_base.specs.Outside.{AppendsSome}
@@ -27,3 +27,20 @@ some_second a b c xs ys w s = record {
 pub if_ok : {T E : Type 0} {P Q : T → Type 0} → ((x : T) → P x → Q x) → (r : Result T E) → IfOk r P → IfOk r Q
 if_ok to (Ok x) p = to x p
 if_ok to (Err e) p = tt
+
+pub on_ok : {T E : Type 0} {P Q : Type 0} → (P → Q) → (r : Result T E) → OnOk r P → OnOk r Q
+on_ok to (Ok x) p = to p
+on_ok to (Err e) p = tt
+
+pub if_some : {T : Type 0} {P Q : T → Type 0} → ((x : T) → P x → Q x) → (o : Option T) → IfSome o P → IfSome o Q
+if_some to None p = tt
+if_some to (Some x) p = to x p
+
+-- there is a value, or none
+pub some_value : {T : Type 0} {P : T → Type 0} (o : Option T) → IfSome o P → is_some o ≡ true → (x : T) × P x
+some_value None p e = let none : ⊥ = cc in absurd none
+some_value (Some x) p e = (x, p)
+
+pub no_value : {T : Type 0} (o : Option T) → is_some o ≡ false → IsNone o
+no_value None e = refl
+no_value (Some x) e = let none : ⊥ = cc in absurd none

@@ -1,3 +1,4 @@
+pub mod PlainWatches
 pub mod Rules
 pub mod Questions
 pub mod Ticks
@@ -6,4 +7,6 @@ pub mod Texts
 pub mod Watching
 pub mod Machine
 pub mod MachineLaws
+pub mod Keeping
+pub mod Planning
 pub mod Steps

@@ -1,57 +1,66 @@
 -- The plain machine: what may answer each line, and what it leaves.
-use Rattle.std.specs.Prelude.{◌≡◌, ℕ, List, [], ◌∷◌, ◌++◌, None, ◌⊎◌, Result, Ok, Err}
+use Rattle.std.specs.Prelude.{◌≡◌, ℕ, List, [], ◌∷◌, ◌++◌, Option, Some, None, is_some, slice_get, ◌⊎◌, Result, Ok, Err}
 use Rattle.itpg_base.specs.Words.{Word}
 use Rattle.itpg_base.specs.Graphs.{Graph, Good}
 use Rattle.itpg_base.specs.declared.rule_code.RuleCode.{RuleCode}
 use Rattle.itpg_base.specs.declared.text_code.TextCode.{TextCode}
 use Rattle.itpg_edit.specs.declared.edit.Edit.{Edit}
-use Rattle.itpg_edit.specs.Rules.{rules_of, Breaks, FirstOf, NoneOf, Unbroken}
-use Rattle.itpg_edit.specs.Next.{Next}
+use Rattle.itpg_edit.specs.Rules.{rules_of, Breaks, FirstOf, NoneOf}
+use Rattle.itpg_edit.specs.Next.{Makes as MakesGraph}
 use Rattle.edit_reader.specs.Readings.{Reading, Nothing, Changes, Asks, Watches, Shows, Unwatches, Ticks}
 use Rattle.edit_reader.specs.Lines.{LineOf}
 use Rattle.path_ast.specs.Terms.{QueryTerm}
+use Rattle.relation_rows.specs.Answered.{Answered}
 use Rattle.match_parser.specs.Reading.{Reads, FaultOf}
 use Rattle.itpg_base.specs.Lists.{Among, Ordered}
-use Rattle.standing_queries.specs.Watches.{Watch, IsOfKind, NamesDiffer, new_watch, without}
+use Rattle.plan_cache.specs.Nodes.{Table}
+use Rattle.itpg_base.specs.declared.touch.Touch.{Touch}
+use Rattle.standing_queries.specs.Watches.{Watch, IsOfKind}
+use Rattle.itpg_session.specs.PlainWatches.{PlainWatch, NamesDiffer, new_watch, without, marked_at, AreMarkedAfter}
 use Rattle.itpg_session.specs.Rules.{watch_rules, name_rules, tick_rules, WatchBreaks, NameBreaks, TickBreaks}
-use Rattle.itpg_session.specs.Replies.{Reply, Silent, Bad, Refused, Wide, Rows, PerWatch, IsFound, IsReply}
+use Rattle.itpg_session.specs.Replies.{Reply, Silent, Bad, Refused, Wide, Rows, Shown, PerWatch, FindsFor, IsReply}
 use Rattle.itpg_session.specs.Ticks.{Ticked, AreTicked, all_moved}
 use Rattle.itpg_session.specs.Watching.{AsksForOne}
 
 -- a machine has a graph and the watches that stand, in order of declaration
 pub record Machine : Type 0 where
   pub graph : Graph
-  pub watches : List Watch
+  pub watches : List PlainWatch
 
 -- what each machine keeps: its graph is good, no two watches have one name, and each asks for an end of its path and has a
 -- base of its kind
 pub record IsGood (m : Machine) : Type 0 where
   pub graph : Good m.graph
   pub differ : Ordered NamesDiffer m.watches
-  pub asks : (w : Watch) → Among m.watches w → AsksForOne w.query
-  pub kinds : (w : Watch) → Among m.watches w → IsOfKind w.query w.base
+  pub asks : (w : PlainWatch) → Among m.watches w → AsksForOne w.query
+  pub kinds : (w : PlainWatch) → Among m.watches w → IsOfKind w.query w.base
 
 -- at first no graph is begun, and nothing is watched
 abbrev pub opening : Machine
 opening = record { graph = record { begun = None; objects = [] }; watches = [] }
 
--- a machine and the limit of its rows
+-- a machine and the limit of its rows; and what is kept beside it: the table of plans, and the watches that stand, with their
+-- plans and their kept answers
 pub record Standing : Type 0 where
   pub machine : Machine
   pub limit : ℕ
+  pub table : Table
+  pub watches : List Watch
 
 -- the reply to a line, and the machine after it
 pub record Turn : Type 0 where
   pub reply : Reply
   pub next : Machine
 
--- the machine after a reply: a tick moves the bases of the watches, any other reply leaves it
+-- the machine after a reply: a watch that is shown is fresh if its answer was found; a tick moves the bases of the watches; any
+-- other reply leaves the machine
 abbrev pub after : Machine → Reply → Machine
 after m Silent = m
 after m (Bad code) = m
 after m (Refused rule) = m
 after m Wide = m
 after m (Rows answer) = m
+after m (Shown place found) = record { graph = m.graph; watches = marked_at place (is_some found) m.watches }
 after m (PerWatch found) = record { graph = m.graph; watches = all_moved m.watches found }
 
 -- the machine gives this reply
@@ -68,12 +77,14 @@ pub record Refuses (m : Machine) (broken : RuleCode → Type 0) (rules : List Ru
   pub first : FirstOf broken rules rule
   pub is : t ≡ told m (Refused rule)
 
--- the edit breaks no rule and is made
+-- the edit breaks no rule and is made, and what it touches takes the marks of the watches that can depend on it
 pub record Makes (m : Machine) (edit : Edit) (t : Turn) : Type 0 where
-  pub unbroken : Unbroken m.graph edit
   pub graph : Graph
-  pub next : Next m.graph edit graph
-  pub is : t ≡ quiet_turn (record { graph = graph; watches = m.watches })
+  pub touch : Touch
+  pub makes : MakesGraph m.graph edit graph touch
+  pub watches : List PlainWatch
+  pub marked : AreMarkedAfter touch m.watches watches
+  pub is : t ≡ quiet_turn (record { graph = graph; watches = watches })
 
 -- the text is asked
 pub record AsksText (limit : ℕ) (m : Machine) (text : List ℕ) (t : Turn) : Type 0 where
@@ -97,12 +108,13 @@ WatchesText m name text t = ((code : TextCode) × FaultOf text code × (t ≡ to
 -- the name breaks no rule, and what is found for the query of its watch is told
 pub record ShowsWatch (limit : ℕ) (m : Machine) (name : Word) (t : Turn) : Type 0 where
   pub unbroken : NoneOf (NameBreaks m.graph m.watches name) name_rules
-  pub watch : Watch
-  pub among : Among m.watches watch
+  pub place : ℕ
+  pub watch : PlainWatch
+  pub at : slice_get m.watches place ≡ Some watch
   pub named : watch.name ≡ name
-  pub reply : Reply
-  pub finds : IsFound m.graph limit watch.query reply
-  pub is : t ≡ told m reply
+  pub found : Option Answered
+  pub finds : FindsFor m.graph limit watch.query found
+  pub is : t ≡ told m (Shown place found)
 
 -- a name's watch is to be shown: the name is refused, or the watch is shown
 abbrev pub ShowsName : ℕ → Machine → Word → Turn → Type 0

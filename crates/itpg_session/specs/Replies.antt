@@ -1,5 +1,5 @@
 -- The reply to a line, as a value; and which one a query text has.
-use Rattle.std.specs.Prelude.{ℕ, List, length, map}
+use Rattle.std.specs.Prelude.{ℕ, List, length, map, Option, Some, None, option_map}
 use Rattle.itpg_base.specs.Graphs.{Graph}
 use Rattle.itpg_base.specs.declared.rule_code.RuleCode.{RuleCode}
 use Rattle.itpg_base.specs.declared.text_code.TextCode.{TextCode}
@@ -16,14 +16,15 @@ use Rattle.itpg_session.specs.Questions.{IsTooWide, HasAnswer}
 use Rattle.itpg_session.specs.Rules.{QueryBreaks, ask_rules}
 use Rattle.itpg_session.specs.Ticks.{Ticked, ticked_of}
 
--- nothing is said; or a fault of the text, a refusal, the word that a query is too wide, the rows of its answer, or what a tick
--- found of each watch
+-- nothing is said; or a fault of the text, a refusal, the word that a query is too wide, the rows of its answer, what was found for
+-- the watch at a place, or what a tick found of each watch
 pub data Reply : Type 0 where
   Silent : Reply
   Bad : TextCode → Reply
   Refused : RuleCode → Reply
   Wide : Reply
   Rows : Answered → Reply
+  Shown : ℕ → Option Answered → Reply
   PerWatch : List Ticked → Reply
 
 -- the reply that a value of the code stands for, where a query text was asked
@@ -40,6 +41,7 @@ line_reply (value.Bad code) = Bad code
 line_reply (value.Refused rule) = Refused rule
 line_reply value.Wide = Wide
 line_reply (value.Rows answer) = Rows (answered answer)
+line_reply (value.Shown place found) = Shown place (option_map answered found)
 line_reply (value.PerWatch found) = PerWatch (map ticked_of found.items)
 
 -- what is found for a query on the graph, with a limit of rows: that it is too wide, or its answer
@@ -49,7 +51,13 @@ IsFound g limit q (Bad code) = ⊥
 IsFound g limit q (Refused rule) = ⊥
 IsFound g limit q Wide = IsTooWide g limit q
 IsFound g limit q (Rows answer) = HasAnswer g limit q answer
+IsFound g limit q (Shown place found) = ⊥
 IsFound g limit q (PerWatch found) = ⊥
+
+-- what is found for a query: its answer; or none, since it is too wide
+abbrev pub FindsFor : Graph → ℕ → QueryTerm → Option Answered → Type 0
+FindsFor g limit q None = IsTooWide g limit q
+FindsFor g limit q (Some answer) = HasAnswer g limit q answer
 
 -- the reply to a query that is asked: the first rule that this breaks; where none is broken, what is found for it
 abbrev pub IsReplyTo : Graph → ℕ → QueryTerm → Reply → Type 0

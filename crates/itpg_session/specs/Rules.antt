@@ -5,7 +5,8 @@ use Rattle.itpg_base.specs.Graphs.{Graph}
 use Rattle.itpg_base.specs.declared.rule_code.RuleCode.{RuleCode}
 use Rattle.itpg_base.specs.declared.rule_code.RuleCode.TheVariants.{NoGraph, GraphName, Taken, Unknown, Full}
 use Rattle.path_ast.specs.Terms.{QueryTerm}
-use Rattle.standing_queries.specs.Watches.{Watch, IsWatched, most_watches}
+use Rattle.standing_queries.specs.Watches.{most_watches}
+use Rattle.itpg_session.specs.PlainWatches.{PlainWatch, IsWatched}
 
 -- the query is meant for a graph of another name
 abbrev pub NamesAnother : Graph → QueryTerm → Type 0
@@ -34,13 +35,13 @@ QueryBreaks g q GraphName = NamesAnother g q
 QueryBreaks g q rule = ⊥
 
 -- to be watched under the name, beside these watches, the query breaks the rule
-abbrev pub WatchBreaks : Graph → List Watch → Word → QueryTerm → RuleCode → Type 0
+abbrev pub WatchBreaks : Graph → List PlainWatch → Word → QueryTerm → RuleCode → Type 0
 WatchBreaks g watches name q Taken = IsWatched watches name
 WatchBreaks g watches name q Full = most_watches ≤ length watches
 WatchBreaks g watches name q rule = QueryBreaks g q rule
 
 -- as that of one of these watches, the name breaks the rule
-abbrev pub NameBreaks : Graph → List Watch → Word → RuleCode → Type 0
+abbrev pub NameBreaks : Graph → List PlainWatch → Word → RuleCode → Type 0
 NameBreaks g watches name NoGraph = IsNone g.begun
 NameBreaks g watches name Unknown = ¬ IsWatched watches name
 NameBreaks g watches name rule = ⊥

@@ -1,16 +1,26 @@
 -- What a step of the session does.
-use Rattle.std.specs.Prelude.{◌≡◌, ◌≢◌, ◌↔◌, ℕ, List, [], Bool, true, length, Result, Ok, Err}
+use Rattle.std.specs.Prelude.{◌≡◌, ◌≢◌, ◌↔◌, ◌⊎◌, ℕ, List, [], Bool, true, length, slice_get, Some, IsSomeAnd, Result, Ok, Err}
 use Rattle.itpg_base.specs.Sinks.{Gets, GetsSome}
 use Rattle.itpg_base.specs.declared.outside.Sink.{Ghosts}
+use Rattle.itpg_base.specs.declared.text_code.TextCode.{TextCode}
+use Rattle.itpg_base.specs.Words.{Word}
 use Rattle.itpg_edit.specs.Rules.{NoneOf, Unbroken}
-use Rattle.itpg_edit.specs.Next.{TakesMemory}
+use Rattle.itpg_base.specs.declared.touch.Touch.{Touch}
+use Rattle.itpg_edit.specs.declared.edit.Edit.{Edit}
+use Rattle.itpg_edit.specs.Next.{Makes as MakesGraph, TakesMemory}
+use Rattle.plan_cache.specs.Footprints.{footprints_of}
+use Rattle.plan_cache.specs.KeptRows.{Forgets}
 use Rattle.edit_reader.specs.Readings.{Reading, Changes, Asks, Watches, Shows, Ticks}
 use Rattle.edit_reader.specs.Lines.{LineOf}
 use Rattle.row_printer.specs.Texts.{AreDeclared}
 use Rattle.itpg_session.specs.Rules.{NameBreaks, TickBreaks, name_rules, tick_rules}
 use Rattle.itpg_session.specs.Ticks.{AreTicked}
-use Rattle.itpg_session.specs.Replies.{Reply, Silent, Rows, PerWatch, line_reply}
+use Rattle.relation_rows.specs.Answered.{Answered}
+use Rattle.itpg_session.specs.Questions.{HasAnswer}
+use Rattle.itpg_session.specs.PlainWatches.{PlainWatch, IsFresh}
+use Rattle.itpg_session.specs.Replies.{Reply, Silent, Rows, Shown, PerWatch, FindsFor, line_reply}
 use Rattle.itpg_session.specs.Texts.{text_of, fails}
+use Rattle.itpg_session.specs.Keeping.{AreReplanned, AddsText, IsWorked}
 use Rattle.itpg_session.specs.Machine.{Machine, Standing, Turn, told}
 use Rattle.itpg_session.specs.declared.reply.Reply.{Reply as ReplyValue}
 use Rattle.itpg_session.specs.declared.reply.Seen.{Seen}
@@ -21,12 +31,23 @@ pub record Sees (seen : Seen) (text : List ℕ) (failing : Bool) : Type 0 where
   pub quiet : (seen ≡ Quiet) ↔ (text ≡ [])
   pub refused : (seen ≡ Refused) ↔ (failing ≡ true)
 
+-- the session stands as this machine, with this limit
+pub record StandsAs (s : Standing) (m : Machine) (most : ℕ) : Type 0 where
+  pub machine : s.machine ≡ m
+  pub limit : s.limit ≡ most
+
+-- nothing is other than it was but the table of plans, and the watches' numbers in it
+pub record IsAlike (old new : Standing) : Type 0 where
+  pub machine : new.machine ≡ old.machine
+  pub limit : new.limit ≡ old.limit
+  pub watches : AreReplanned old.watches new.watches
+
 -- a turn was taken: its reply was written whole, and the machine went on
 pub record Stepped {K : Type 0} (sink : Ghosts K) (before after : K) (Turns : Turn → Type 0) (number : ℕ) (old new : Standing) (seen : Seen) : Type 0 where
   pub turn : Turn
   pub turns : Turns turn
   pub written : Gets sink before after (text_of old.machine.graph number turn.reply)
-  pub next : new ≡ record { machine = turn.next; limit = old.limit }
+  pub next : StandsAs new turn.next old.limit
   pub sees : Sees seen (text_of old.machine.graph number turn.reply) (fails turn.reply)
 
 -- a front part of a turn's reply was written
@@ -39,35 +60,90 @@ pub record StepsWithin {K : Type 0} (sink : Ghosts K) (before after : K) (Turns 
 pub record Passed (Turns : Turn → Type 0) (old new : Standing) : Type 0 where
   pub turn : Turn
   pub turns : Turns turn
-  pub next : new ≡ record { machine = turn.next; limit = old.limit }
+  pub next : StandsAs new turn.next old.limit
+
+-- the edit is made, and exactly those relations stay kept whose node's footprint its touch doesn't meet
+pub record ForgetsEdit (edit : Edit) (old new : Standing) : Type 0 where
+  pub touch : Touch
+  pub makes : MakesGraph old.machine.graph edit new.machine.graph touch
+  pub nodes : new.table.nodes ≡ old.table.nodes
+  pub forgets : Forgets touch (footprints_of old.table.nodes) old.table.kept new.table.kept
+
+-- what answering a line that asks for this leaves of the table
+abbrev pub LeavesTable : Reading → Standing → Standing → Type 0
+LeavesTable (Changes edit) old new = ForgetsEdit edit old new ⊎ (new.table ≡ old.table)
+LeavesTable (Asks text) old new = AddsText text old.table new.table
+LeavesTable (Watches name text) old new = AddsText text old.table new.table
+LeavesTable (Shows name) old new = IsWorked old.table new.table
+LeavesTable Ticks old new = IsWorked old.table new.table
+LeavesTable reading old new = new.table ≡ old.table
+
+-- the same of what a line is
+abbrev pub LeavesSo : Result Reading TextCode → Standing → Standing → Type 0
+LeavesSo (Ok reading) old new = LeavesTable reading old new
+LeavesSo (Err code) old new = new.table ≡ old.table
+
+-- an edit that the line is and that breaks no rule is made so
+abbrev pub ForgetsLine : List ℕ → Standing → Standing → Type 0
+ForgetsLine line old new = (edit : Edit) → LineOf line (Ok (Changes edit)) → Unbroken old.machine.graph edit → ForgetsEdit edit old new
+
+-- and what answering the line leaves of the table
+abbrev pub LeavesLine : List ℕ → Standing → Standing → Type 0
+LeavesLine line old new = (what : Result Reading TextCode) → LineOf line what → LeavesSo what old new
+
+-- the line asks to show a watch that is fresh, and breaks no rule
+abbrev pub ShowsFresh : Machine → Reading → Type 0
+ShowsFresh m (Shows name) = NoneOf (NameBreaks m.graph m.watches name) name_rules × IsFresh m.watches name
+ShowsFresh m reading = ⊥
+
+-- the line asks to show a watch of which this answer is kept, and breaks no rule
+pub record ShowsNameKept (s : Standing) (name : Word) (answer : Answered) : Type 0 where
+  pub unbroken : NoneOf (NameBreaks s.machine.graph s.machine.watches name) name_rules
+  pub place : ℕ
+  pub watch : PlainWatch
+  pub at : slice_get s.machine.watches place ≡ Some watch
+  pub named : watch.name ≡ name
+  pub fresh : watch.fresh ≡ true
+  pub answers : HasAnswer s.machine.graph s.limit watch.query answer
+
+abbrev pub ShowsKept : Standing → Reading → Answered → Type 0
+ShowsKept s (Shows name) answer = ShowsNameKept s name answer
+ShowsKept s reading answer = ⊥
 
 -- to answer what a line asks for takes memory: a change that breaks no rule, other than to begin a graph or to drop an
--- object; a query text, which is read; a watch that is shown, or a tick, that breaks no rule
+-- object; a query text, which is read; a watch that is shown and isn't fresh, or a tick, that breaks no rule
 abbrev pub WantsMemory : Machine → Reading → Type 0
 WantsMemory m (Changes edit) = Unbroken m.graph edit × TakesMemory edit
 WantsMemory m (Asks text) = Unit {0}
 WantsMemory m (Watches name text) = Unit {0}
-WantsMemory m (Shows name) = NoneOf (NameBreaks m.graph m.watches name) name_rules
+WantsMemory m (Shows name) = NoneOf (NameBreaks m.graph m.watches name) name_rules × (¬ IsFresh m.watches name)
 WantsMemory m Ticks = NoneOf (TickBreaks m.graph) tick_rules
 WantsMemory m reading = ⊥
+
+-- the same of what a line is
+abbrev pub WhatWants : Machine → Result Reading TextCode → Type 0
+WhatWants m (Ok reading) = WantsMemory m reading
+WhatWants m (Err code) = ⊥
 
 -- the line asks for what takes memory
 abbrev pub LineWants : Machine → List ℕ → Type 0
 LineWants m line = (reading : Reading) × LineOf line (Ok reading) × WantsMemory m reading
 
--- the reply is decided: it is that of one of these turns; and where it says something, the session is as it was
+-- the reply is decided: it is that of one of these turns; and where it says something, the session is as it was but for its plans
 pub record IsDecided (Turns : Turn → Type 0) (old new : Standing) (reply : Reply) : Type 0 where
   pub turns : Turns (told new.machine reply)
-  pub waits : reply ≢ Silent → new ≡ old
+  pub waits : reply ≢ Silent → IsAlike old new
   pub limit : new.limit ≡ old.limit
 
--- a reply is decided; or memory ran out, which comes only if this is so, and the session is as it was
+-- a reply is decided; or memory ran out, which comes only if this is so, and the session is as it was but for its plans
 abbrev pub Decides : {E : Type 0} → (Turn → Type 0) → Type 0 → Standing → Standing → Result ReplyValue E → Type 0
 Decides Turns wants old new (Ok reply) = IsDecided Turns old new (line_reply reply)
-Decides Turns wants old new (Err error) = (new ≡ old) × wants
+Decides Turns wants old new (Err error) = IsAlike old new × wants
 
--- the reply is one of the session: its rows are of declared objects, and it has what a tick finds of the watches
+-- the reply is one of the session: its rows are of declared objects, and it has what is found for a watch that stands, or what a
+-- tick finds of all of them
 abbrev pub Suits : Standing → Reply → Type 0
 Suits s (Rows answer) = AreDeclared (length s.machine.graph.objects) answer
+Suits s (Shown place found) = IsSomeAnd (slice_get s.machine.watches place) (λ w. FindsFor s.machine.graph s.limit w.query found)
 Suits s (PerWatch found) = AreTicked s.machine.graph s.limit s.machine.watches found
 Suits s reply = Unit {0}

@@ -1,5 +1,5 @@
 -- The text of a reply, and whether it fails: functions of the reply, of the line's number, and of the graph, which has the names.
-use Rattle.std.specs.Prelude.{ℕ, List, [], ◌∷◌, ◌++◌, Bool, true, false, codes}
+use Rattle.std.specs.Prelude.{ℕ, List, [], ◌∷◌, ◌++◌, Bool, true, false, Option, None, Some, is_none, codes}
 use Rattle.std.specs.Fmt.{decimal}
 use Rattle.itpg_base.specs.Words.{Word}
 use Rattle.itpg_base.specs.Graphs.{Graph}
@@ -10,7 +10,7 @@ use Rattle.itpg_base.specs.declared.text_code.TextCode.{TextCode}
 use Rattle.relation_rows.specs.Answered.{Answered, row_number}
 use Rattle.row_printer.specs.Texts.{answer_text}
 use Rattle.itpg_session.specs.Ticks.{Ticked, StaysWide, Moves, some_wide}
-use Rattle.itpg_session.specs.Replies.{Reply, Silent, Bad, Refused, Wide, Rows, PerWatch}
+use Rattle.itpg_session.specs.Replies.{Reply, Silent, Bad, Refused, Wide, Rows, Shown, PerWatch}
 
 -- `line N refused RULE`
 unfoldable pub refused_text : ℕ → RuleCode → List ℕ
@@ -54,6 +54,11 @@ abbrev pub tick_text : Graph → List Ticked → List ℕ
 tick_text g [] = []
 tick_text g (x ∷ xs) = ticked_text g x ++ tick_text g xs
 
+-- what is found for a query: that it is wide, or the rows of its answer
+abbrev pub found_text : Graph → ℕ → Option Answered → List ℕ
+found_text g number None = wide_text number
+found_text g number (Some answer) = rows_text g number answer
+
 -- the text of the reply to the line of a number
 abbrev pub text_of : Graph → ℕ → Reply → List ℕ
 text_of g number Silent = []
@@ -61,6 +66,7 @@ text_of g number (Bad code) = bad_text number code
 text_of g number (Refused rule) = refused_text number rule
 text_of g number Wide = wide_text number
 text_of g number (Rows answer) = rows_text g number answer
+text_of g number (Shown place found) = found_text g number found
 text_of g number (PerWatch found) = tick_text g found
 
 -- the reply is bad, refused or wide, or some line of it is
@@ -70,4 +76,5 @@ fails (Bad code) = true
 fails (Refused rule) = true
 fails Wide = true
 fails (Rows answer) = false
+fails (Shown place found) = is_none found
 fails (PerWatch found) = some_wide found

@@ -5,6 +5,7 @@ use Rattle.itpg_base.specs.Lists.{Among}
 use Rattle.path_ast.specs.Terms.{QueryTerm}
 use Rattle.row_printer.specs.Texts.{AreDeclared}
 use Rattle.standing_queries.specs.Watches.{Watch, IsOfKind}
+use Rattle.itpg_session.specs.PlainWatches.{PlainWatch}
 use Rattle.itpg_session.specs.Ticks.{Ticked, StaysWide, Moves}
 
 -- an end of its path is asked for, or both are
@@ -12,8 +13,8 @@ abbrev pub AsksForOne : QueryTerm → Type 0
 AsksForOne q = IsTrue (q.first || q.last)
 
 -- each object that a base has rows of was declared in the graph
-abbrev pub BasesDeclared : Graph → List Watch → Type 0
-BasesDeclared g watches = (w : Watch) → Among watches w → AreDeclared (length g.objects) w.base
+abbrev pub BasesDeclared : Graph → List PlainWatch → Type 0
+BasesDeclared g watches = (w : PlainWatch) → Among watches w → AreDeclared (length g.objects) w.base
 
 -- so it is of the objects that a tick tells of for a watch
 abbrev pub IsTickDeclared : Graph → Ticked → Type 0

@@ -1,19 +1,22 @@
 //! The reply to a question, as a value.
-ghost use Rattle.std.specs.Prelude.{◌||◌, ◌≤◌, IfOk, IsTrue};
+ghost use Rattle.std.specs.Prelude.{◌≡◌, ◌||◌, ◌≤◌, IfOk, IsSome, IsTrue};
 ghost use Rattle.path_ast.specs.Terms.{query_term, path_term};
 ghost use Rattle.path_ast.specs.Sizes.{path_size, IsPathInRange};
 ghost use Rattle.path_ast.specs.declared.counts.TheConstants.{MAX_TERMS};
-ghost use Rattle.itpg_session.specs.Replies.{reply_of, IsReply, IsReplyTo};
+ghost use Rattle.itpg_session.specs.Replies.{Rows, reply_of, IsFound, IsReply, IsReplyTo};
+ghost use Rattle.itpg_session.specs.Steps.{IsAlike};
+ghost use Rattle.itpg_session.specs.Keeping.{AddsOrRenews, AddsText, KeepsPath, KeepsText};
+ghost use Rattle.relation_rows.specs.Answered.{Answered};
 
-use crate::finding::found;
+use crate::finding::find;
 use crate::rules::broken_by_ask;
+use crate::session::Session;
 use itpg_base::{RuleCode, TextCode};
-use itpg_graph::Graph;
-use match_parser::{QueryFault, read_query};
+use match_parser::{QueryFault, law_of_queries, read_query};
 use path_ast::Query;
-use plan_cache::Plans;
+use path_eval::EvalFault;
 use relation_rows::Answer;
-use std::alloc::{AllocError, Global};
+use std::alloc::AllocError;
 
 /// The reply to a question, as a value.
 #[derive(Drop)]
@@ -28,38 +31,61 @@ pub enum Asked {
     Refused(RuleCode),
 }
 
-/// The reply to a query text on the graph, with a limit of rows.
-pub(crate) fn reply_to(
-    alloc: Global,
-    graph: &Graph,
-    plans: &mut Plans,
-    max_rows: u32,
-    text: &[u8],
-) -> Result<Asked, AllocError>
-    ensures { IfOk result (λ asked. IsReply graph.now max_rows text.now (reply_of asked)) }
-{
-    match &read_query(alloc, text) {
-        Ok(query) => reply_to_query(alloc, graph, plans, max_rows, query),
-        Err(QueryFault::Bad(code)) => Ok(Asked::Bad(*code)),
-        Err(QueryFault::Memory) => Err(AllocError),
+impl Session {
+    /// The reply to a query text.
+    pub(crate) fn reply_to(&mut self, text: &[u8]) -> Result<Asked, AllocError>
+        ensures reply { IfOk result (λ asked. IsReply self.old.machine.graph self.old.limit text.now (reply_of asked)) }
+        ensures alike { IsAlike self.old self.new }
+        ensures adds { AddsText text.now self.old.table self.new.table }
+        ensures keeps { IfOk result (λ asked. (answer : Answered) → reply_of asked ≡ Rows answer → KeepsText self.new.machine.graph text.now self.new.table) }
+    {
+        law_of_queries();
+        match &read_query(self.alloc, text) {
+            Ok(query) => self.reply_to_query(query),
+            Err(QueryFault::Bad(code)) => Ok(Asked::Bad(*code)),
+            Err(QueryFault::Memory) => Err(AllocError),
+        }
     }
-}
 
-// The reply to a query.
-fn reply_to_query(
-    alloc: Global,
-    graph: &Graph,
-    plans: &mut Plans,
-    max_rows: u32,
-    query: &Query,
-) -> Result<Asked, AllocError>
-    requires in_range { IsPathInRange (path_term query.now.path) }
-    requires terms { path_size (path_term query.now.path) ≤ MAX_TERMS }
-    requires ends { IsTrue (query.now.first || query.now.last) }
-    ensures { IfOk result (λ asked. IsReplyTo graph.now max_rows (query_term query.now) (reply_of asked)) }
-{
-    match broken_by_ask(graph, query) {
-        Some(rule) => Ok(Asked::Refused(rule)),
-        None => found(alloc, graph, plans, max_rows, query),
+    // The reply to a query.
+    fn reply_to_query(&mut self, query: &Query) -> Result<Asked, AllocError>
+        requires in_range { IsPathInRange (path_term query.now.path) }
+        requires terms { path_size (path_term query.now.path) ≤ MAX_TERMS }
+        requires ends { IsTrue (query.now.first || query.now.last) }
+        ensures reply { IfOk result (λ asked. IsReplyTo self.old.machine.graph self.old.limit (query_term query.now) (reply_of asked)) }
+        ensures alike { IsAlike self.old self.new }
+        ensures adds { AddsOrRenews (path_term query.now.path) self.old.table self.new.table }
+        ensures keeps { IfOk result (λ asked. (answer : Answered) → reply_of asked ≡ Rows answer → KeepsPath self.new.machine.graph (path_term query.now.path) self.new.table) }
+    {
+        match broken_by_ask(&self.graph, query) {
+            Some(rule) => Ok(Asked::Refused(rule)),
+            None => self.found(query),
+        }
+    }
+
+    // What is found for a query that may be asked.
+    fn found(&mut self, query: &Query) -> Result<Asked, AllocError>
+        requires begun { IsSome self.old.machine.graph.begun }
+        requires in_range { IsPathInRange (path_term query.now.path) }
+        requires terms { path_size (path_term query.now.path) ≤ MAX_TERMS }
+        requires ends { IsTrue (query.now.first || query.now.last) }
+        ensures found { IfOk result (λ asked. IsFound self.old.machine.graph self.old.limit (query_term query.now) (reply_of asked)) }
+        ensures alike { IsAlike self.old self.new }
+        ensures adds { AddsOrRenews (path_term query.now.path) self.old.table self.new.table }
+        ensures keeps { IfOk result (λ asked. (answer : Answered) → reply_of asked ≡ Rows answer → KeepsPath self.new.machine.graph (path_term query.now.path) self.new.table) }
+    {
+        let no = self.planned(query)?;
+        match find(
+            self.alloc,
+            &self.graph,
+            &mut self.plans,
+            no,
+            self.limits.max_rows(),
+            query,
+        ) {
+            Ok(answer) => Ok(Asked::Rows(answer)),
+            Err(EvalFault::Wide) => Ok(Asked::Wide),
+            Err(EvalFault::Memory) => Err(AllocError),
+        }
     }
 }

@@ -1,38 +1,50 @@
 //! Deciding the reply to a line. An edit, a watch or an unwatch that is accepted is made here; nothing is written.
-ghost use Rattle.std.specs.Prelude.{◌≡◌, ◌<◌, ◌≤◌, ◌||◌, length, slice_get, IfOk, IsSome, IsSomeAnd, IsTrue};
-ghost use Rattle.itpg_edit.specs.Rules.{NoneOf};
+ghost use Rattle.std.specs.Prelude.{◌≡◌, ◌<◌, ◌≤◌, ◌⊎◌, ◌||◌, length, slice_get, option_map, Ok, IfOk, OnOk, IsSome, IsSomeAnd, IsTrue};
+ghost use Rattle.itpg_edit.specs.declared.edit.Edit.{Edit as PlainEdit};
+ghost use Rattle.itpg_edit.specs.Rules.{NoneOf, Unbroken};
 ghost use Rattle.itpg_edit.specs.Sites.{HasMoments};
-ghost use Rattle.edit_reader.specs.Readings.{reading_of, Changes};
+ghost use Rattle.edit_reader.specs.Readings.{reading_of, told as read_as, Changes, Shows};
 ghost use Rattle.edit_reader.specs.Moments.{AsksOfMoments};
 ghost use Rattle.path_ast.specs.Terms.{query_term, path_term};
 ghost use Rattle.path_ast.specs.Sizes.{path_size, IsPathInRange};
 ghost use Rattle.path_ast.specs.declared.counts.TheConstants.{MAX_TERMS};
-ghost use Rattle.itpg_session.specs.Rules.{QueryBreaks, NameBreaks, TickBreaks, ask_rules, name_rules, tick_rules};
-ghost use Rattle.itpg_session.specs.Replies.{reply_of, line_reply, IsFound};
-ghost use Rattle.itpg_session.specs.Machine.{Answers, WatchesText, WatchesQuery, ShowsName, DropsName, TicksOrNot, Replies};
-ghost use Rattle.itpg_session.specs.Steps.{WantsMemory, LineWants, Decides, IsDecided, Suits};
+ghost use Rattle.label_scope.specs.declared.scope.Scope.TheVariants.{All};
+ghost use Rattle.plan_cache.specs.Nodes.{IsNodeOf, narrowed_member};
+ghost use Rattle.relation_rows.specs.Answered.{answered};
+ghost use Rattle.itpg_session.specs.Rules.{WatchBreaks, NameBreaks, TickBreaks, watch_rules, name_rules, tick_rules};
+ghost use Rattle.itpg_session.specs.Replies.{line_reply, FindsFor};
+ghost use Rattle.itpg_session.specs.Machine.{Answers, TurnOf, WatchesText, WatchesQuery, ShowsName, DropsName, TicksOrNot};
+ghost use Rattle.itpg_session.specs.Keeping.{AddsOrRenews, AddsText, IsWorked};
+ghost use Rattle.itpg_session.specs.Steps.{ForgetsEdit, LeavesTable, LeavesSo, ShowsFresh, WantsMemory, WhatWants, Decides, IsAlike, IsDecided, Suits};
 
-use crate::asking::Asked;
-use crate::finding::found;
+use crate::finding::find;
+use crate::laws::law_of_graphs;
 use crate::reply::Reply;
-use crate::rules::{broken_by_ask, broken_by_tick, place_of};
+use crate::rules::{broken_by_tick, broken_by_watch, place_of};
 use crate::session::Session;
 use crate::ticking::tick_all;
-use edit_reader::{Line, read_line};
-use itpg_base::{Name, RuleCode};
+use edit_reader::Line;
+use itpg_base::{Name, RuleCode, TextCode};
 use itpg_edit::{Edit, EditFault, apply};
 use match_parser::{QueryFault, read_query};
 use path_ast::Query;
-use standing_queries::{Unknown, WatchFault};
+use path_eval::EvalFault;
+use plan_cache::PlanNo;
+use relation_rows::Answer;
+use standing_queries::Unknown;
 use std::alloc::AllocError;
 
 impl Session {
-    /// Decides the reply to a line. An edit, a watch or an unwatch that is accepted is made here; it says nothing.
-    pub(crate) fn decide(&mut self, line: &[u8]) -> Result<Reply, AllocError>
-        ensures decides { Decides (Replies self.old.limit self.old.machine line.now) (LineWants self.old.machine line.now) self.old self.new result }
+    /// Decides the reply to what a line is. An edit, a watch or an unwatch that is accepted is made here; it says nothing.
+    pub(crate) fn decide(&mut self, what: &Result<Line<'_>, TextCode>) -> Result<Reply, AllocError>
+        requires moments { IfOk what.now (λ line. AsksOfMoments (reading_of line)) }
+        requires finds { IfOk what.now (λ line. ¬ ShowsFresh self.old.machine (reading_of line)) }
+        ensures decides { Decides (TurnOf self.old.limit self.old.machine (read_as what.now)) (WhatWants self.old.machine (read_as what.now)) self.old self.new result }
         ensures suits { IfOk result (λ reply. Suits self.new (line_reply reply)) }
+        ensures forgets { OnOk result ((edit : PlainEdit) → read_as what.now ≡ Ok (Changes edit) → Unbroken self.old.machine.graph edit → ForgetsEdit edit self.old self.new) }
+        ensures table { LeavesSo (read_as what.now) self.old self.new }
     {
-        match &read_line(line) {
+        match what {
             Ok(reading) => self.decide_read(reading),
             Err(code) => Ok(Reply::Bad(*code)),
         }
@@ -40,8 +52,11 @@ impl Session {
 
     // The same of a line that was read.
     fn decide_read(&mut self, line: &Line<'_>) -> Result<Reply, AllocError>
-        requires { AsksOfMoments (reading_of line.now) }
-        ensures { Decides (Answers self.old.limit self.old.machine (reading_of line.now)) (WantsMemory self.old.machine (reading_of line.now)) self.old self.new result }
+        requires moments { AsksOfMoments (reading_of line.now) }
+        requires finds { ¬ ShowsFresh self.old.machine (reading_of line.now) }
+        ensures decides { Decides (Answers self.old.limit self.old.machine (reading_of line.now)) (WantsMemory self.old.machine (reading_of line.now)) self.old self.new result }
+        ensures forgets { OnOk result ((edit : PlainEdit) → reading_of line.now ≡ Changes edit → Unbroken self.old.machine.graph edit → ForgetsEdit edit self.old self.new) }
+        ensures table { LeavesTable (reading_of line.now) self.old self.new }
     {
         match line {
             Line::Blank => Ok(Reply::Silent),
@@ -54,21 +69,29 @@ impl Session {
         }
     }
 
-    // Makes an edit, or refuses it.
+    // Makes an edit, or refuses it. What is kept and could be other after it is forgotten, which takes no memory.
     fn edit(&mut self, edit: &Edit) -> Result<Reply, AllocError>
         requires { HasMoments edit.now }
-        ensures { Decides (Answers self.old.limit self.old.machine (Changes edit.now)) (WantsMemory self.old.machine (Changes edit.now)) self.old self.new result }
+        ensures decides { Decides (Answers self.old.limit self.old.machine (Changes edit.now)) (WantsMemory self.old.machine (Changes edit.now)) self.old self.new result }
+        ensures forgets { OnOk result (Unbroken self.old.machine.graph edit.now → ForgetsEdit edit.now self.old self.new) }
+        ensures table { ForgetsEdit edit.now self.old self.new ⊎ (self.new.table ≡ self.old.table) }
     {
-        match apply(&mut self.graph, edit) {
-            Ok(_) => Ok(Reply::Silent),
-            Err(EditFault::Rule(rule)) => Ok(Reply::Refused(rule)),
-            Err(EditFault::Memory) => Err(AllocError),
-        }
+        law_of_graphs(&self.graph);
+        let touch = match apply(&mut self.graph, edit) {
+            Ok(touch) => touch,
+            Err(EditFault::Rule(rule)) => return Ok(Reply::Refused(rule)),
+            Err(EditFault::Memory) => return Err(AllocError),
+        };
+        law_of_graphs(&self.graph);
+        self.plans.forget(&touch);
+        self.watches.touched(&touch);
+        Ok(Reply::Silent)
     }
 
     // Watches the query of a text from now on.
     fn watch(&mut self, name: Name, text: &[u8]) -> Result<Reply, AllocError>
-        ensures { Decides (WatchesText self.old.machine name text.now) (Unit {0}) self.old self.new result }
+        ensures decides { Decides (WatchesText self.old.machine name text.now) (Unit {0}) self.old self.new result }
+        ensures adds { AddsText text.now self.old.table self.new.table }
     {
         match read_query(self.alloc, text) {
             Ok(query) => self.watch_query(name, query),
@@ -82,59 +105,84 @@ impl Session {
         requires in_range { IsPathInRange (path_term query.path) }
         requires terms { path_size (path_term query.path) ≤ MAX_TERMS }
         requires ends { IsTrue (query.first || query.last) }
-        ensures { Decides (WatchesQuery self.old.machine name (query_term query)) (Unit {0}) self.old self.new result }
+        ensures decides { Decides (WatchesQuery self.old.machine name (query_term query)) (Unit {0}) self.old self.new result }
+        ensures adds { AddsOrRenews (path_term query.path) self.old.table self.new.table }
     {
-        match broken_by_ask(&self.graph, &query) {
+        match broken_by_watch(&self.graph, &self.watches, &name, &query) {
             Some(rule) => Ok(Reply::Refused(rule)),
             None => self.add_watch(name, query),
         }
     }
 
-    // Watches a query that may be asked, unless the name or the number of watches forbids it.
+    // Watches a query that may be watched.
     fn add_watch(&mut self, name: Name, query: Query) -> Result<Reply, AllocError>
         requires in_range { IsPathInRange (path_term query.path) }
         requires terms { path_size (path_term query.path) ≤ MAX_TERMS }
         requires ends { IsTrue (query.first || query.last) }
-        requires asked { NoneOf (QueryBreaks self.old.machine.graph (query_term query)) ask_rules }
-        ensures { Decides (WatchesQuery self.old.machine name (query_term query)) (Unit {0}) self.old self.new result }
+        requires unbroken { NoneOf (WatchBreaks self.old.machine.graph self.old.machine.watches name (query_term query)) watch_rules }
+        ensures decides { Decides (WatchesQuery self.old.machine name (query_term query)) (Unit {0}) self.old self.new result }
+        ensures adds { AddsOrRenews (path_term query.path) self.old.table self.new.table }
     {
-        match self.watches.add(name, query) {
+        let no = self.planned(&query)?;
+        self.add_planned(name, query, no)
+    }
+
+    // The same where its node is known.
+    fn add_planned(&mut self, name: Name, query: Query, no: PlanNo) -> Result<Reply, AllocError>
+        requires in_range { IsPathInRange (path_term query.path) }
+        requires terms { path_size (path_term query.path) ≤ MAX_TERMS }
+        requires ends { IsTrue (query.first || query.last) }
+        requires unbroken { NoneOf (WatchBreaks self.old.machine.graph self.old.machine.watches name (query_term query)) watch_rules }
+        requires planned { IsNodeOf self.old.table.nodes no.0 (narrowed_member (path_term query.path) All All) }
+        ensures decides { Decides (WatchesQuery self.old.machine name (query_term query)) (Unit {0}) self.old self.new result }
+        ensures table { self.new.table ≡ self.old.table }
+    {
+        let foot = self.plans.foot_of(no).copy(self.alloc)?;
+        match self.watches.add(name, query, no, foot) {
             Ok(()) => Ok(Reply::Silent),
-            Err(WatchFault::Taken) => Ok(Reply::Refused(RuleCode::Taken)),
-            Err(WatchFault::Full) => Ok(Reply::Refused(RuleCode::Full)),
-            Err(WatchFault::Memory) => Err(AllocError),
+            // No rule is broken, so that only memory can be wanting.
+            Err(_) => Err(AllocError),
         }
     }
 
-    // Shows what is found for the query of the watch of this name.
+    // Shows what is found for the query of the watch of this name, of which no answer is kept.
     fn show(&mut self, name: &Name) -> Result<Reply, AllocError>
-        ensures { Decides (ShowsName self.old.limit self.old.machine name.now) (NoneOf (NameBreaks self.old.machine.graph self.old.machine.watches name.now) name_rules) self.old self.new result }
+        requires { ¬ ShowsFresh self.old.machine (Shows name.now) }
+        ensures decides { Decides (ShowsName self.old.limit self.old.machine name.now) (WantsMemory self.old.machine (Shows name.now)) self.old self.new result }
+        ensures table { IsWorked self.old.table self.new.table }
     {
         match place_of(&self.graph, &self.watches, name) {
-            Ok(place) => Ok(Reply::from(self.show_at(place)?)),
+            Ok(place) => Ok(Reply::Shown(place, self.find_at(place)?)),
             Err(rule) => Ok(Reply::Refused(rule)),
         }
     }
 
-    // What is found for the query of the watch at a place.
-    fn show_at(&mut self, place: usize) -> Result<Asked, AllocError>
+    // The answer of the watch at a place; none if its query is too wide.
+    fn find_at(&mut self, place: usize) -> Result<Option<Answer>, AllocError>
         requires begun { IsSome self.old.machine.graph.begun }
         requires there { place < length self.old.machine.watches }
-        ensures found { IfOk result (λ asked. IsSomeAnd (slice_get self.old.machine.watches place) (λ w. IsFound self.old.machine.graph self.old.limit w.query (reply_of asked))) }
-        ensures same { self.new ≡ self.old }
+        ensures found { IfOk result (λ found. IsSomeAnd (slice_get self.old.machine.watches place) (λ w. FindsFor self.old.machine.graph self.old.limit w.query (option_map answered found))) }
+        ensures alike { IsAlike self.old self.new }
+        ensures worked { IsWorked self.old.table self.new.table }
     {
-        found(
+        match find(
             self.alloc,
             &self.graph,
             &mut self.plans,
+            self.watches.plan(place),
             self.limits.max_rows(),
             self.watches.query(place),
-        )
+        ) {
+            Ok(answer) => Ok(Some(answer)),
+            Err(EvalFault::Wide) => Ok(None),
+            Err(EvalFault::Memory) => Err(AllocError),
+        }
     }
 
     // Watches the query of this name no longer.
     fn unwatch(&mut self, name: &Name) -> Reply
-        ensures { IsDecided (DropsName self.old.machine name.now) self.old self.new (line_reply result) }
+        ensures decides { IsDecided (DropsName self.old.machine name.now) self.old self.new (line_reply result) }
+        ensures table { self.new.table ≡ self.old.table }
     {
         if let Some(rule) = broken_by_tick(&self.graph) {
             return Reply::Refused(rule);
@@ -147,7 +195,8 @@ impl Session {
 
     // Finds of each watch what was gained and lost since the tick before, or refuses to.
     fn tick(&mut self) -> Result<Reply, AllocError>
-        ensures { Decides (TicksOrNot self.old.limit self.old.machine) (NoneOf (TickBreaks self.old.machine.graph) tick_rules) self.old self.new result }
+        ensures decides { Decides (TicksOrNot self.old.limit self.old.machine) (NoneOf (TickBreaks self.old.machine.graph) tick_rules) self.old self.new result }
+        ensures table { IsWorked self.old.table self.new.table }
     {
         if let Some(rule) = broken_by_tick(&self.graph) {
             return Ok(Reply::Refused(rule));

@@ -1,5 +1,5 @@
 //! The laws of the plain machine, and of edits that an answer can't depend on. Each is the contract of a function that does nothing of use when it runs.
-ghost use Rattle.itpg_base.specs.Graphs.{Graph, Good};
+ghost use Rattle.itpg_base.specs.Graphs.{Graph as PlainGraph, Good};
 ghost use Rattle.itpg_base.specs.declared.touch.Touch.{Touch};
 ghost use Rattle.itpg_edit.specs.declared.edit.Edit.{Edit};
 ghost use Rattle.itpg_edit.specs.Next.{Makes};
@@ -12,6 +12,7 @@ ghost use Rattle.itpg_session.specs.MachineLaws.{OneAsked, SomeAsked, DeclaredAs
 
 use edit_reader::{law_of_labels, law_of_lines, law_of_long_lines, law_of_moments};
 use itpg_edit::{law_of_next, law_of_rules};
+use itpg_graph::Graph;
 use match_parser::law_of_queries;
 use standing_queries::law_of_changes;
 
@@ -47,11 +48,18 @@ pub fn law_of_fronts()
     law_of_long_lines();
 }
 
+/// A graph in memory is a good one: its type keeps that.
+pub(crate) fn law_of_graphs(graph: &Graph)
+    ensures { Good graph.now }
+{
+    let _horizon = graph.horizon();
+}
+
 /// If an edit of a good graph breaks no rule and the footprint of a path between two scopes doesn't meet what it touches, then the
 /// graph and the next one agree on the footprint. The same holds between scopes that are narrowed.
 pub fn law_of_untouched()
-    ensures path { (g new : Graph) (edit : Edit) (touch : Touch) (p : PathTerm) (a b : Scope) → Good g → Makes g edit new touch →
+    ensures path { (g new : PlainGraph) (edit : Edit) (touch : Touch) (p : PathTerm) (a b : Scope) → Good g → Makes g edit new touch →
         (Meets (footprint p a b) touch → ⊥) → Agree g new (footprint p a b) }
-    ensures between { (g new : Graph) (edit : Edit) (touch : Touch) (p : PathTerm) (a b : Scope) → Good g → Makes g edit new touch →
+    ensures between { (g new : PlainGraph) (edit : Edit) (touch : Touch) (p : PathTerm) (a b : Scope) → Good g → Makes g edit new touch →
         (Meets (footprint_between p a b) touch → ⊥) → Agree g new (footprint_between p a b) }
 {}

@@ -12,6 +12,7 @@ mod asking;
 mod deciding;
 mod finding;
 mod laws;
+mod planning;
 mod reply;
 mod rules;
 mod session;

@@ -1,9 +1,10 @@
 //! The reply to a line, as a value, and what is seen of it.
-ghost use Rattle.std.specs.Prelude.{◌≡◌, ℕ, length, map};
+ghost use Rattle.std.specs.Prelude.{◌≡◌, ℕ, length, map, is_none, option_map};
 ghost use Rattle.itpg_base.specs.Graphs.{Graph};
 ghost use Rattle.itpg_session.specs.Ticks.{ticked_of, some_wide};
 ghost use Rattle.itpg_session.specs.Replies.{line_reply};
-ghost use Rattle.itpg_session.specs.Texts.{tick_text, text_of, fails};
+ghost use Rattle.relation_rows.specs.Answered.{answered};
+ghost use Rattle.itpg_session.specs.Texts.{found_text, tick_text, text_of, fails};
 ghost use Rattle.itpg_session.specs.Steps.{Sees};
 
 use crate::asking::Asked;
@@ -24,6 +25,8 @@ pub(crate) enum Reply {
     Wide,
     /// The rows of its answer.
     Rows(Answer),
+    /// What was found for the watch at a place: its answer; or none, since its query is too wide.
+    Shown(usize, Option<Answer>),
     /// What a tick found of each watch.
     PerWatch(Vec<Ticked>),
 }
@@ -55,6 +58,7 @@ impl Reply {
             Reply::Bad(_) => Seen::Refused,
             Reply::Refused(_) => Seen::Refused,
             Reply::Wide => Seen::Refused,
+            Reply::Shown(_, found) => seen_of_found(found),
             Reply::PerWatch(found) => seen_of(found),
         }
     }
@@ -69,6 +73,16 @@ pub enum Seen {
     Answered,
     /// Some line of it is bad, refused or wide.
     Refused,
+}
+
+// What is seen of what was found for a watch.
+fn seen_of_found(found: &Option<Answer>) -> Seen
+    ensures { (g : Graph) (number : ℕ) → Sees result (found_text g number (option_map answered found.now)) (is_none (option_map answered found.now)) }
+{
+    match found {
+        Some(_) => Seen::Answered,
+        None => Seen::Refused,
+    }
 }
 
 // What is seen of a tick that found this of all watches.

@@ -2,12 +2,13 @@
 ghost use Rattle.std.specs.Prelude.{◌≡◌, slice_get, IfSome, IsNone, IfOk, OnOk, IfErr, IsSomeAnd};
 ghost use Rattle.itpg_edit.specs.Rules.{FirstOf, NoneOf};
 ghost use Rattle.path_ast.specs.Terms.{query_term};
-ghost use Rattle.itpg_session.specs.Rules.{QueryBreaks, NameBreaks, TickBreaks, ask_rules, name_rules, tick_rules};
+ghost use Rattle.itpg_session.specs.PlainWatches.{all_plain};
+ghost use Rattle.itpg_session.specs.Rules.{QueryBreaks, WatchBreaks, NameBreaks, TickBreaks, ask_rules, watch_rules, name_rules, tick_rules};
 
 use itpg_base::{Name, RuleCode};
 use itpg_graph::Graph;
 use path_ast::Query;
-use standing_queries::Watches;
+use standing_queries::{MAX_WATCHES, Watches};
 
 /// The first rule that asking the query breaks on the graph: none is begun, or the query is meant for one of another name.
 pub(crate) fn broken_by_ask(graph: &Graph, query: &Query) -> Option<RuleCode>
@@ -23,6 +24,29 @@ pub(crate) fn broken_by_ask(graph: &Graph, query: &Query) -> Option<RuleCode>
     }
 }
 
+/// The first rule that watching the query under the name breaks: one that asking it breaks, the name has a watch, or as many
+/// watches stand as may.
+pub(crate) fn broken_by_watch(
+    graph: &Graph,
+    watches: &Watches,
+    name: &Name,
+    query: &Query,
+) -> Option<RuleCode>
+    ensures some { IfSome result (λ rule. FirstOf (WatchBreaks graph.now (all_plain watches.now) name.now (query_term query.now)) watch_rules rule) }
+    ensures none { IsNone result → NoneOf (WatchBreaks graph.now (all_plain watches.now) name.now (query_term query.now)) watch_rules }
+{
+    if let Some(rule) = broken_by_ask(graph, query) {
+        return Some(rule);
+    }
+    if watches.find(name).is_some() {
+        return Some(RuleCode::Taken);
+    }
+    if watches.len() >= MAX_WATCHES {
+        return Some(RuleCode::Full);
+    }
+    None
+}
+
 /// Whether a tick breaks its one rule: no graph is begun.
 pub(crate) fn broken_by_tick(graph: &Graph) -> Option<RuleCode>
     ensures some { IfSome result (λ rule. FirstOf (TickBreaks graph.now) tick_rules rule) }
@@ -36,12 +60,15 @@ pub(crate) fn broken_by_tick(graph: &Graph) -> Option<RuleCode>
 
 /// The place of the watch of this name, or the first rule that the name breaks: no graph is begun, or no watch has it.
 pub(crate) fn place_of(graph: &Graph, watches: &Watches, name: &Name) -> Result<usize, RuleCode>
-    ensures place { IfOk result (λ place. IsSomeAnd (slice_get watches.now place) (λ w. w.name ≡ name.now)) }
-    ensures unbroken { OnOk result (NoneOf (NameBreaks graph.now watches.now name.now) name_rules) }
-    ensures broken { IfErr result (λ rule. FirstOf (NameBreaks graph.now watches.now name.now) name_rules rule) }
+    ensures place { IfOk result (λ place. IsSomeAnd (slice_get (all_plain watches.now) place) (λ w. w.name ≡ name.now)) }
+    ensures unbroken { OnOk result (NoneOf (NameBreaks graph.now (all_plain watches.now) name.now) name_rules) }
+    ensures broken { IfErr result (λ rule. FirstOf (NameBreaks graph.now (all_plain watches.now) name.now) name_rules rule) }
 {
-    match broken_by_tick(graph) {
-        Some(rule) => Err(rule),
-        None => watches.find(name).ok_or(RuleCode::Unknown),
+    if let Some(rule) = broken_by_tick(graph) {
+        return Err(rule);
     }
+    let Some(place) = watches.find(name) else {
+        return Err(RuleCode::Unknown);
+    };
+    Ok(place)
 }

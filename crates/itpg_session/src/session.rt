@@ -2,21 +2,31 @@
 //!
 //! `Session` has the graph, the watches and the limit of rows. A step decides the reply to its line, and there makes an edit, a
 //! `watch` or an `unwatch` that is accepted; it writes the reply to the sink that it is lent; and it settles what a tick moves.
-ghost use Rattle.std.specs.Prelude.{◌≡◌, ◌≢◌, ◌≤◌, IfOk, OnOk, OnErr, IsErrOf};
+ghost use Rattle.std.specs.Prelude.{◌≡◌, ◌≢◌, ◌≤◌, [], IfOk, OnOk, OnErr, IsErrOf, IfSome, IsNone, IsOkAnd};
 ghost use Rattle.itpg_base.specs.Sinks.{Gets, GetsSome, GetsNothing, HasFailed, IsHonest};
 ghost use Rattle.itpg_session.specs.Replies.{Reply as PlainReply, Silent, reply_of, line_reply, IsReply, NamesDeclared};
 ghost use Rattle.itpg_session.specs.Texts.{text_of};
+ghost use Rattle.itpg_session.specs.Replies.{Rows};
+ghost use Rattle.itpg_session.specs.Keeping.{AddsText, KeepsText};
+ghost use Rattle.relation_rows.specs.Answered.{Answered};
+ghost use Rattle.edit_reader.specs.Readings.{reading_of, Shows};
+ghost use Rattle.relation_rows.specs.Answered.{answered};
+ghost use Rattle.itpg_session.specs.PlainWatches.{all_plain};
 ghost use Rattle.itpg_session.specs.Machine.{opening, Replies, after};
-ghost use Rattle.itpg_session.specs.Steps.{Stepped, StepsWithin, Passed, LineWants, Suits};
+ghost use Rattle.itpg_session.specs.Keeping.{IsTableRight, AreWatchesRight};
+ghost use Rattle.itpg_session.specs.Steps.{StandsAs, IsAlike, Stepped, StepsWithin, Passed, LineWants, ForgetsLine, LeavesLine, ShowsFresh, ShowsKept, Suits};
 
-use crate::asking::{Asked, reply_to};
+use crate::asking::Asked;
 use crate::laws::law_of_asked;
 use crate::reply::{Reply, Seen};
-use crate::texts::{write_bad, write_refused, write_rows, write_wide};
+use crate::rules::broken_by_tick;
+use crate::texts::{write_bad, write_found, write_refused, write_rows, write_wide};
 use crate::ticking::{move_bases, write_all};
-use itpg_base::{Failed, Limits, Sink};
+use edit_reader::{Line, read_line};
+use itpg_base::{Failed, Limits, Name, Sink, TextCode};
 use itpg_graph::Graph;
 use plan_cache::Plans;
+use relation_rows::Answer;
 use standing_queries::Watches;
 use std::alloc::{AllocError, Global};
 use std::marker::Model;
@@ -82,23 +92,26 @@ pub struct Session {
 impl Model for Session {
     ghost use Rattle.std.specs.Coded.{codes};
     ghost use Rattle.path_ast.specs.Codes.{coded_path};
+    ghost use Rattle.itpg_session.specs.PlainWatches.{all_plain};
     ghost use Rattle.itpg_session.specs.Machine.{Standing};
 
     ghost Value = { Standing };
 
     ghost coded = { Prim.hlevel (codes, coded_path) };
 
-    ghost use Rattle.itpg_session.specs.Watching.{BasesDeclared};
+    ghost use Rattle.itpg_session.specs.Keeping.{IsKeptRight};
 
-    ghost view = { λ s. record { machine = record { graph = s.graph; watches = s.watches }; limit = s.limits } };
+    ghost view = { λ s. record { machine = record { graph = s.graph; watches = all_plain s.watches }; limit = s.limits; table = s.plans; watches = s.watches } };
 
-    ghost invariant = { λ s. BasesDeclared s.graph s.watches };
+    ghost invariant = { λ s. IsKeptRight s.graph s.limits s.plans s.watches };
 }
 
 impl Session {
     /// The session in which no graph is begun and nothing is watched. It takes no memory.
     pub fn new(alloc: Global, limits: Limits) -> Session
-        ensures { result ≡ record { machine = opening; limit = limits } }
+        ensures stands { StandsAs result opening limits }
+        ensures table { result.table ≡ record { nodes = []; kept = [] } }
+        ensures watches { result.watches ≡ [] }
     {
         Session {
             graph: Graph::new(alloc),
@@ -116,11 +129,23 @@ impl Session {
         &self.graph
     }
 
-    /// The watches that stand, in order of declaration.
+    /// The watches that stand, in order of declaration. The plan of each is the node of its query's path, and its footprint is this
+    /// path's. A kept answer is the query's answer on the graph as it stands.
     pub fn watches(&self) -> &Watches
-        ensures { result.now ≡ self.now.machine.watches }
+        ensures watches { result.now ≡ self.now.watches }
+        ensures plain { self.now.machine.watches ≡ all_plain result.now }
+        ensures right { AreWatchesRight self.now.machine.graph self.now.limit self.now.table.nodes result.now }
     {
         &self.watches
+    }
+
+    /// The plan nodes of what was asked and is watched. Each kept relation is that of its node on the graph as it stands, and each
+    /// relation that is worked out for it has at most as many rows as the limit.
+    pub fn plans(&self) -> &Plans
+        ensures plans { result.now ≡ self.now.table }
+        ensures right { IsTableRight self.now.machine.graph self.now.limit result.now }
+    {
+        &self.plans
     }
 
     /// The reply to a question with this query text, as a value. The session stays as it is, but for the plan nodes that it
@@ -145,16 +170,12 @@ impl Session {
         ensures reply { IfOk result (λ asked. IsReply self.old.machine.graph self.old.limit text.now (reply_of asked)) }
         ensures only { IfOk result (λ asked. (reply : PlainReply) → IsReply self.old.machine.graph self.old.limit text.now reply → reply_of asked ≡ reply) }
         ensures declared { IfOk result (λ asked. NamesDeclared self.old.machine.graph (reply_of asked)) }
-        ensures same { self.new ≡ self.old }
+        ensures alike { IsAlike self.old self.new }
+        ensures adds { AddsText text.now self.old.table self.new.table }
+        ensures keeps { IfOk result (λ asked. (answer : Answered) → reply_of asked ≡ Rows answer → KeepsText self.new.machine.graph text.now self.new.table) }
     {
         law_of_asked();
-        reply_to(
-            self.alloc,
-            &self.graph,
-            &mut self.plans,
-            self.limits.max_rows(),
-            text,
-        )
+        self.reply_to(text)
     }
 
     /// Takes a line without its LF, which has the number `no`, and writes its reply.
@@ -167,14 +188,21 @@ impl Session {
     /// refused, `graph`, `drop`, `unwatch`, or a `show` or a `tick` that is refused. `Write` if the sink failed.
     pub fn step<K: Sink>(&mut self, no: u64, line: &[u8], out: &mut K) -> Result<Seen, StepFault>
         ensures stepped { IfOk result (λ seen. Stepped K.Sink out.old out.new (Replies self.old.limit self.old.machine line.now) no self.old self.new seen) }
-        ensures same { OnErr result (self.new ≡ self.old) }
+        ensures alike { OnErr result (IsAlike self.old self.new) }
+        ensures forgets { OnOk result (ForgetsLine line.now self.old self.new) }
+        ensures table { LeavesLine line.now self.old self.new }
         ensures memory { IsErrOf result StepFault.Memory → GetsNothing K.Sink out.old out.new }
         ensures wanting { IsErrOf result StepFault.Memory → LineWants self.old.machine line.now }
         ensures write { IsErrOf result StepFault.Write → HasFailed K.Sink out.old out.new }
         ensures some { IsErrOf result StepFault.Write → StepsWithin K.Sink out.old out.new (Replies self.old.limit self.old.machine line.now) no self.old }
         ensures later { K.faults out.old ≤ K.faults out.new }
     {
-        let reply = self.decide(line)?;
+        let what = &read_line(line);
+        if let Some(answer) = self.kept_answer(what) {
+            write_rows(&self.graph, no, answer, out)?;
+            return Ok(Seen::Answered);
+        }
+        let reply = self.decide(what)?;
         self.write(no, &reply, out)?;
         let seen = reply.seen();
         self.settle(reply);
@@ -188,12 +216,38 @@ impl Session {
     /// If memory runs out, and only if `step` could give `Memory`.
     pub fn pass(&mut self, line: &[u8]) -> Result<(), AllocError>
         ensures passed { OnOk result (Passed (Replies self.old.limit self.old.machine line.now) self.old self.new) }
-        ensures same { OnErr result (self.new ≡ self.old) }
+        ensures alike { OnErr result (IsAlike self.old self.new) }
         ensures wanting { OnErr result (LineWants self.old.machine line.now) }
     {
-        let unsaid = self.decide(line)?;
+        let what = &read_line(line);
+        if self.kept_answer(what).is_some() {
+            return Ok(());
+        }
+        let unsaid = self.decide(what)?;
         self.settle(unsaid);
         Ok(())
+    }
+
+    // The kept answer of the watch that the line asks to show, if it breaks no rule and the watch is fresh.
+    fn kept_answer(&self, what: &Result<Line<'_>, TextCode>) -> Option<&Answer>
+        ensures some { IfSome result (λ answer. IsOkAnd what.now (λ line. ShowsKept self.now (reading_of line) (answered answer.now))) }
+        ensures none { IsNone result → IfOk what.now (λ line. ¬ ShowsFresh self.now.machine (reading_of line)) }
+    {
+        match what {
+            Ok(Line::Show(name)) => self.fresh_answer(name),
+            _ => None,
+        }
+    }
+
+    // The kept answer of the watch of this name, if it breaks no rule and the watch is fresh.
+    fn fresh_answer(&self, name: &Name) -> Option<&Answer>
+        ensures some { IfSome result (λ answer. ShowsKept self.now (Shows name.now) (answered answer.now)) }
+        ensures none { IsNone result → ¬ ShowsFresh self.now.machine (Shows name.now) }
+    {
+        if let Some(_) = broken_by_tick(&self.graph) {
+            return None;
+        }
+        self.watches.answer(name)
     }
 
     // Writes the reply to the line of a number.
@@ -210,16 +264,21 @@ impl Session {
             Reply::Refused(rule) => write_refused(number, *rule, out),
             Reply::Wide => write_wide(number, out),
             Reply::Rows(answer) => write_rows(&self.graph, number, answer, out),
+            Reply::Shown(_, found) => write_found(&self.graph, number, found, out),
             Reply::PerWatch(found) => write_all(&self.graph, found, out),
         }
     }
 
-    // Moves the bases of the watches to what a tick found of them. No other reply moves anything.
+    // Keeps the answer that was found for a watch that is shown, and moves the bases of the watches to what a tick found of them. No
+    // other reply moves anything.
     fn settle(&mut self, reply: Reply)
         requires { Suits self.old (line_reply reply) }
-        ensures { self.new ≡ record { machine = after self.old.machine (line_reply reply); limit = self.old.limit } }
+        ensures stands { StandsAs self.new (after self.old.machine (line_reply reply)) self.old.limit }
+        ensures table { self.new.table ≡ self.old.table }
     {
         match reply {
+            Reply::Shown(place, Some(answer)) => self.watches.set_now(place, answer),
+            Reply::Shown(place, None) => self.watches.drop_now(place),
             Reply::PerWatch(found) => move_bases(&mut self.watches, found),
             Reply::Silent | Reply::Bad(_) | Reply::Refused(_) | Reply::Wide | Reply::Rows(_) => {}
         }

@@ -1,9 +1,9 @@
 //! The texts of replies, each formed on a page without memory, and the rows of an answer behind their head.
-ghost use Rattle.std.specs.Prelude.{◌≡◌, length, OnOk, OnErr};
+ghost use Rattle.std.specs.Prelude.{◌≡◌, length, option_map, IfSome, OnOk, OnErr};
 ghost use Rattle.itpg_base.specs.Sinks.{Gets, GetsSome, IsHonest};
 ghost use Rattle.relation_rows.specs.Answered.{answered};
 ghost use Rattle.row_printer.specs.Texts.{AreDeclared};
-ghost use Rattle.itpg_session.specs.Texts.{bad_text, refused_text, wide_text, head_text, rows_text, tick_wide_text, tick_head_text};
+ghost use Rattle.itpg_session.specs.Texts.{bad_text, refused_text, wide_text, head_text, rows_text, found_text, tick_wide_text, tick_head_text};
 
 use itpg_base::{Failed, Name, RuleCode, Sink, TextCode};
 use itpg_graph::Graph;
@@ -134,4 +134,22 @@ pub(crate) fn write_rows<K: Sink>(
     head(number, answer.rows()).write(out)?;
     print_rows(graph, answer, b"", out)?;
     Ok(())
+}
+
+/// Writes what was found for a query: `line N wide`, or the rows of its answer.
+pub(crate) fn write_found<K: Sink>(
+    graph: &Graph,
+    number: u64,
+    found: &Option<Answer>,
+    out: &mut K,
+) -> Result<(), Failed>
+    requires declared { IfSome (option_map answered found.now) (AreDeclared (length graph.now.objects)) }
+    ensures written { OnOk result (Gets K.Sink out.old out.new (found_text graph.now number (option_map answered found.now))) }
+    ensures some { OnErr result (GetsSome K.Sink out.old out.new (found_text graph.now number (option_map answered found.now))) }
+    ensures cause { IsHonest K.Sink out.old out.new result }
+{
+    match found {
+        Some(answer) => write_rows(graph, number, answer, out),
+        None => write_wide(number, out),
+    }
 }

@@ -1,10 +1,15 @@
 //! A tick: what it finds of each watch, what it writes of it, and the bases after it.
-ghost use Rattle.std.specs.Prelude.{◌≡◌, ◌<◌, length, map, slice_get, Bool, true, false, IfOk, OnOk, OnErr, IsSome, IsSomeAnd};
+ghost use Rattle.std.specs.Prelude.{◌≡◌, ◌<◌, length, map, slice_get, Bool, true, false, IfOk, OnOk, OnErr, IsErrOf, Some, IsSome, IsSomeAnd};
 ghost use Rattle.std.specs.List.{list_any};
+ghost use Rattle.itpg_base.specs.Graphs.{changed_at};
+ghost use Rattle.standing_queries.specs.Watches.{IsOfKind};
 ghost use Rattle.itpg_base.specs.Sinks.{Gets, GetsSome, IsHonest};
 ghost use Rattle.relation_rows.specs.Answered.{answered};
 ghost use Rattle.row_printer.specs.Texts.{AreDeclared};
-ghost use Rattle.itpg_session.specs.Ticks.{ticked_of, IsTicked, AreTicked, stays_wide, moved_at, all_moved};
+ghost use Rattle.itpg_session.specs.Questions.{IsTooWide, HasAnswer};
+ghost use Rattle.itpg_session.specs.PlainWatches.{plain, all_plain};
+ghost use Rattle.itpg_session.specs.Keeping.{IsKeptRight, IsTableRight, IsWorked};
+ghost use Rattle.itpg_session.specs.Ticks.{ticked_of, IsTicked, AreTicked, stays_wide, settled_at, all_settled};
 ghost use Rattle.itpg_session.specs.Texts.{changes_text, ticked_text, tick_text};
 ghost use Rattle.itpg_session.specs.Watching.{IsTickDeclared, AreTicksDeclared, IsMoveOfKind, AreMovesOfKind};
 
@@ -18,6 +23,7 @@ use relation_rows::Answer;
 use row_printer::print_rows;
 use standing_queries::{GainLoss, Watches, changes};
 use std::alloc::{AllocError, Global};
+use std::marker::Model;
 
 /// What a tick finds of the watch of a name.
 #[derive(Drop)]
@@ -26,15 +32,54 @@ pub(crate) enum Ticked {
     StaysWide {
         name: Name,
     },
-    /// The answer now, which is its next base, and what changed since the one before.
+    /// The answer now, once for its base and once to be kept, and what changed since the base before.
     Moves {
         name: Name,
-        now: Answer,
+        now: Twice,
         changes: GainLoss,
     },
 }
 
-/// What a tick finds of each watch on the graph, which is begun, with a limit of rows.
+/// An answer, twice: so nothing is to be copied any more once a reply is written. A contract sees the answer.
+#[derive(Drop)]
+pub(crate) struct Twice {
+    one: Answer,
+    other: Answer,
+}
+
+impl Model for Twice {
+    ghost use Rattle.std.specs.Prelude.{◌≡◌};
+    ghost use Rattle.relation_rows.specs.Answered.{Answered, answered};
+
+    ghost Value = { Answered };
+
+    ghost view = { λ t. answered t.one };
+
+    ghost invariant = { λ t. answered t.other ≡ answered t.one };
+}
+
+impl Twice {
+    // The answer and a copy of it.
+    fn of(answer: Answer) -> Result<Twice, AllocError>
+        ensures { IfOk result (λ twice. twice ≡ answered answer) }
+    {
+        let other = answer.copy()?;
+        Ok(Twice { one: answer, other })
+    }
+
+    // Makes it the base and the kept answer of the watch at a place.
+    fn settle(self, watches: &mut Watches, place: usize)
+        requires there { place < length watches.old }
+        requires kind { IsSomeAnd (slice_get watches.old place) (λ w. IsOfKind w.query self) }
+        ensures { watches.new ≡ changed_at watches.old place (λ w. record w { base = self; now = Some self }) }
+    {
+        watches.set_base(place, self.one);
+        watches.set_now(place, self.other);
+    }
+}
+
+/// What a tick finds of each watch on the graph, which is begun, with a limit of rows. A kept answer is taken as it is; what is worked
+/// out is kept in the table.
 pub(crate) fn tick_all(
     alloc: Global,
     graph: &Graph,
@@ -43,7 +88,10 @@ pub(crate) fn tick_all(
     watches: &Watches,
 ) -> Result<Vec<Ticked>, AllocError>
     requires begun { IsSome graph.now.begun }
-    ensures { IfOk result (λ found. AreTicked graph.now max_rows watches.now (map ticked_of found.items)) }
+    requires right { IsKeptRight graph.now max_rows plans.old watches.now }
+    ensures found { IfOk result (λ found. AreTicked graph.now max_rows (all_plain watches.now) (map ticked_of found.items)) }
+    ensures still_right { IsTableRight graph.now max_rows plans.new }
+    ensures worked { IsWorked plans.old plans.new }
 {
     let mut found = Vec::new(alloc);
     for place in 0..watches.len() {
@@ -62,17 +110,51 @@ fn tick_one(
     place: usize,
 ) -> Result<Ticked, AllocError>
     requires begun { IsSome graph.now.begun }
+    requires right { IsKeptRight graph.now max_rows plans.old watches.now }
     requires there { place < length watches.now }
-    ensures { IfOk result (λ found. IsSomeAnd (slice_get watches.now place) (λ w. IsTicked graph.now max_rows w (ticked_of found))) }
+    ensures found { IfOk result (λ found. IsSomeAnd (slice_get watches.now place) (λ w. IsTicked graph.now max_rows (plain w) (ticked_of found))) }
+    ensures still_right { IsTableRight graph.now max_rows plans.new }
+    ensures worked { IsWorked plans.old plans.new }
 {
     let name = watches.name(place);
-    match find(alloc, graph, plans, max_rows, watches.query(place)) {
+    match answer_now(alloc, graph, plans, max_rows, watches, place) {
         Ok(now) => {
             let changes = changes(alloc, watches.base(place), &now)?;
+            let now = Twice::of(now)?;
             Ok(Ticked::Moves { name, now, changes })
         }
         Err(EvalFault::Wide) => Ok(Ticked::StaysWide { name }),
         Err(EvalFault::Memory) => Err(AllocError),
+    }
+}
+
+// The answer of the watch at a place: the one that is kept, or else what is found.
+fn answer_now(
+    alloc: Global,
+    graph: &Graph,
+    plans: &mut Plans,
+    max_rows: u32,
+    watches: &Watches,
+    place: usize,
+) -> Result<Answer, EvalFault>
+    requires begun { IsSome graph.now.begun }
+    requires right { IsKeptRight graph.now max_rows plans.old watches.now }
+    requires there { place < length watches.now }
+    ensures answer { IfOk result (λ answer. IsSomeAnd (slice_get watches.now place) (λ w. HasAnswer graph.now max_rows w.query (answered answer))) }
+    ensures wide { IsErrOf result EvalFault.Wide → IsSomeAnd (slice_get watches.now place) (λ w. IsTooWide graph.now max_rows w.query) }
+    ensures still_right { IsTableRight graph.now max_rows plans.new }
+    ensures worked { IsWorked plans.old plans.new }
+{
+    match watches.kept(place) {
+        Some(answer) => Ok(answer.copy()?),
+        None => find(
+            alloc,
+            graph,
+            plans,
+            watches.plan(place),
+            max_rows,
+            watches.query(place),
+        ),
     }
 }
 
@@ -136,25 +218,25 @@ pub(crate) fn is_some_wide(found: &[Ticked]) -> bool
         .any(|one| matches!(one, Ticked::StaysWide { .. }))
 }
 
-/// Makes each answer that was found the base of its watch.
+/// Makes each answer that was found the base and the kept answer of its watch, and keeps none where a query was too wide.
 pub(crate) fn move_bases(watches: &mut Watches, mut found: Vec<Ticked>)
     requires each { length found.items ≡ length watches.old }
     requires kinds { AreMovesOfKind watches.old (map ticked_of found.items) }
-    ensures { watches.new ≡ all_moved watches.old (map ticked_of found.items) }
+    ensures { watches.new ≡ all_settled watches.old (map ticked_of found.items) }
 {
     while let Some(one) = found.pop() {
         move_base(watches, found.len(), one);
     }
 }
 
-// Makes the answer that was found of the watch at a place its base.
+// The same of the watch at a place.
 fn move_base(watches: &mut Watches, place: usize, found: Ticked)
     requires there { place < length watches.old }
     requires kind { IsSomeAnd (slice_get watches.old place) (λ w. IsMoveOfKind w (ticked_of found)) }
-    ensures { watches.new ≡ moved_at place (ticked_of found) watches.old }
+    ensures { watches.new ≡ settled_at place (ticked_of found) watches.old }
 {
     match found {
-        Ticked::Moves { now, .. } => watches.set_base(place, now),
-        Ticked::StaysWide { .. } => {}
+        Ticked::Moves { now, .. } => now.settle(watches, place),
+        Ticked::StaysWide { .. } => watches.drop_now(place),
     }
 }

@@ -1,7 +1,7 @@
 use Rattle.std.proofs.Common.{◌≡◌, ◌<◌, ◌∷◌, [], suc, length, map, sym, ap, ◌∙◌, subst, arith, take}
 use Rattle.std.specs.Prelude.{slice_get, IsSomeAnd}
 use Rattle.std.proofs.lemmas.List.{map-append, length-append}
-use Rattle.itpg_session.specs.Ticks.{ticked_of, moved_at}
+use Rattle.itpg_session.specs.Ticks.{ticked_of, settled_at}
 use Rattle.itpg_session.specs.Watching.{IsMoveOfKind}
 use Rattle.itpg_session.proofs.TickSteps.{moves_last, none_moved, moved_from, map_length, take_whole, none_left}
 use Rattle.itpg_session.proofs.ticking.move_bases.Goals as goal
@@ -47,7 +47,7 @@ loop-one-preserved c =
     let place : c.len.result ≡ length ys = c.len.ensures ∙ c.pop.new.self.ok.0 ∙ sym mapped in
     record {
       left = ap (λ k. take k (map ticked_of c.args.found.items)) (sym mapped) ∙ last.left;
-      moved = c.move_base.ensures ∙ ap (λ k. moved_at k (ticked_of c.in-Some.one) c.loop-one.watches) place ∙ last.moved ∙ ap (λ k. moved_from k c.args.watches.now (map ticked_of c.args.found.items)) mapped;
+      moved = c.move_base.ensures ∙ ap (λ k. settled_at k (ticked_of c.in-Some.one) c.loop-one.watches) place ∙ last.moved ∙ ap (λ k. moved_from k c.args.watches.now (map ticked_of c.args.found.items)) mapped;
     }
 
 pub returns : goal.returns

@@ -10,5 +10,5 @@ returns-in_err-write-clause-some g c = λ is line asks.
 
 pub returns-clause-takes : goal.returns-clause-takes
 returns-clause-takes g c = λ line asks.
-    takes_question _ _ c.args.self.now _ line c.args.query.now c.told.result (reply_of c.in_ok-reply.reply) asks c.in_ok-reply.ensures.reply c.told.ensures c.in_ok-write.ensures.written c.in_ok-reply.ensures.same refl
+    takes_question _ _ c.args.self.now _ line c.args.query.now c.told.result (reply_of c.in_ok-reply.reply) asks c.in_ok-reply.ensures.reply c.told.ensures c.in_ok-write.ensures.written (record { machine = c.in_ok-reply.ensures.alike.machine; limit = c.in_ok-reply.ensures.alike.limit }) refl
     (ap (λ b. c.args.self.now.wide || b) (c.is_wide.ensures c.args.self.now.question))

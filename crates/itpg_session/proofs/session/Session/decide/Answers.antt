@@ -1,21 +1,47 @@
-use Rattle.std.proofs.Common.{refl, subst}
-use Rattle.edit_reader.specs.Readings.{reading_of, told as read_as}
-use Rattle.edit_reader.specs.Lines.{LineOf}
+use Rattle.std.proofs.Common.{◌≡◌, subst, sym, refl}
+use Rattle.std.specs.Prelude.{Ok, IfOk}
+use Rattle.edit_reader.specs.Readings.{Changes, reading_of, told as read_as}
+use Rattle.edit_reader.specs.Moments.{AsksOfMoments}
+use Rattle.itpg_session.specs.Machine.{TurnOf}
+use Rattle.itpg_session.specs.Steps.{WhatWants, ShowsFresh, LeavesSo, Decides}
 use Rattle.itpg_session.specs.Replies.{Bad}
-use Rattle.itpg_session.proofs.Answering.{replies_read, replies_bad}
+use Rattle.itpg_session.proofs.Answering.{turn_read, turn_bad}
 use Rattle.itpg_session.proofs.Told.{decides_as, said}
 use Rattle.itpg_session.proofs.Suiting.{suits_decided}
+use Rattle.itpg_session.proofs.Written.{on_ok}
 use Rattle.itpg_session.proofs.session.Session.decide.Goals as goal
+
+pub decide_read-requires-clause-moments : goal.decide_read-requires-clause-moments
+decide_read-requires-clause-moments c = subst (λ r. IfOk r (λ line. AsksOfMoments (reading_of line))) c.in-Ok.is c.requires.moments
+
+pub decide_read-requires-clause-finds : goal.decide_read-requires-clause-finds
+decide_read-requires-clause-finds c = subst (λ r. IfOk r (λ line. ¬ ShowsFresh c.args.self.now.machine (reading_of line))) c.in-Ok.is c.requires.finds
 
 pub returns-in-Ok-clause-decides : goal.returns-in-Ok-clause-decides
 returns-in-Ok-clause-decides c =
-    let is = subst (λ r. LineOf c.args.line.now (read_as r)) c.in-Ok.is c.read_line.ensures.line in
-    decides_as c.args.self.now c.decide_read.new.self (replies_read c.args.self.now.limit c.args.self.now.machine c.args.line.now (reading_of c.in-Ok.reading) is) (λ w. (reading_of c.in-Ok.reading, is, w)) c.decide_read.result c.decide_read.ensures
+    let m = c.args.self.now.machine in
+    subst (λ r. Decides (TurnOf c.args.self.now.limit m (read_as r)) (WhatWants m (read_as r)) c.args.self.now c.decide_read.new.self c.decide_read.result) (sym c.in-Ok.is)
+    (decides_as c.args.self.now c.decide_read.new.self (turn_read c.args.self.now.limit m (reading_of c.in-Ok.reading)) (λ w. w) c.decide_read.result c.decide_read.ensures.decides)
 
 pub returns-in-Err-clause-decides : goal.returns-in-Err-clause-decides
 returns-in-Err-clause-decides c =
-    let is = subst (λ r. LineOf c.args.line.now (read_as r)) c.in-Err.is c.read_line.ensures.line in
-    said c.args.self.now (Bad c.in-Err.code) (replies_bad c.args.self.now.limit c.args.self.now.machine c.args.line.now c.in-Err.code is _ refl)
+    rw (c.in-Err.is) (said c.args.self.now (Bad c.in-Err.code) (turn_bad c.args.self.now.limit c.args.self.now.machine c.in-Err.code _ refl))
 
 pub returns-in-Ok-clause-suits : goal.returns-in-Ok-clause-suits
-returns-in-Ok-clause-suits c = suits_decided _ c.args.line.now c.args.self.now c.decide_read.new.self c.decide_read.result (returns-in-Ok-clause-decides c)
+returns-in-Ok-clause-suits c = suits_decided _ (read_as c.args.what.now) c.args.self.now c.decide_read.new.self c.decide_read.result (returns-in-Ok-clause-decides c)
+
+pub returns-in-Ok-clause-forgets : goal.returns-in-Ok-clause-forgets
+returns-in-Ok-clause-forgets c =
+    on_ok (λ made. λ edit is unbroken.
+    let read : read_as (Ok c.in-Ok.reading) ≡ Ok (Changes edit) = subst (λ r. read_as r ≡ Ok (Changes edit)) c.in-Ok.is is in
+    let same : reading_of c.in-Ok.reading ≡ Changes edit = cc in
+    made edit same unbroken) c.decide_read.result c.decide_read.ensures.forgets
+
+pub returns-in-Ok-clause-table : goal.returns-in-Ok-clause-table
+returns-in-Ok-clause-table c = subst (λ r. LeavesSo (read_as r) c.args.self.now c.decide_read.new.self) (sym c.in-Ok.is) c.decide_read.ensures.table
+
+pub returns-in-Err-clause-forgets : goal.returns-in-Err-clause-forgets
+returns-in-Err-clause-forgets c = λ edit is unbroken. let read = subst (λ r. read_as r ≡ Ok (Changes edit)) c.in-Err.is is in let no : ⊥ = cc in absurd no
+
+pub returns-in-Err-clause-table : goal.returns-in-Err-clause-table
+returns-in-Err-clause-table c = rw (c.in-Err.is) refl

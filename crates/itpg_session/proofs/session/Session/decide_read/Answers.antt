@@ -1,26 +1,62 @@
-use Rattle.std.proofs.Common.{refl}
+use Rattle.std.proofs.Common.{◌≡◌, refl, sym, subst}
+use Rattle.itpg_edit.specs.declared.edit.Edit.{Edit}
+use Rattle.itpg_edit.specs.Rules.{Unbroken}
+use Rattle.edit_reader.specs.Readings.{Changes, reading_of}
+use Rattle.itpg_session.specs.Steps.{ForgetsEdit}
+use Rattle.itpg_session.proofs.Written.{on_ok}
 use Rattle.itpg_session.specs.Replies.{Silent, reply_of}
 use Rattle.itpg_session.proofs.Answering.{blank_answers, asks_answers, asked_asks, watches_answers, shows_answers, unwatches_answers, ticks_answers}
-use Rattle.itpg_session.proofs.Told.{decided_as, decides_as, said, said_still}
+use Rattle.itpg_session.proofs.Told.{decided_as, decides_as, said, said_alike}
 use Rattle.itpg_session.proofs.session.Session.decide_read.Goals as goal
 
-pub returns-in-Blank : goal.returns-in-Blank
-returns-in-Blank c = rw (c.in-Blank.is) (said c.args.self.now Silent (blank_answers c.args.self.now.limit c.args.self.now.machine))
+pub returns-in-Blank-clause-decides : goal.returns-in-Blank-clause-decides
+returns-in-Blank-clause-decides c = rw (c.in-Blank.is) (said c.args.self.now Silent (blank_answers c.args.self.now.limit c.args.self.now.machine))
 
-pub returns-in-Watch : goal.returns-in-Watch
-returns-in-Watch c = rw (c.in-Watch.is) (decides_as c.args.self.now c.watch.new.self (watches_answers c.args.self.now.limit c.args.self.now.machine _ _) (λ u. u) c.watch.result c.watch.ensures)
+pub returns-in-Watch-clause-decides : goal.returns-in-Watch-clause-decides
+returns-in-Watch-clause-decides c = rw (c.in-Watch.is) (decides_as c.args.self.now c.watch.new.self (watches_answers c.args.self.now.limit c.args.self.now.machine _ _) (λ u. u) c.watch.result c.watch.ensures.decides)
 
-pub returns-in-Show : goal.returns-in-Show
-returns-in-Show c = rw (c.in-Show.is) (decides_as c.args.self.now c.show.new.self (shows_answers c.args.self.now.limit c.args.self.now.machine _) (λ w. w) c.show.result c.show.ensures)
+pub returns-in-Show-clause-decides : goal.returns-in-Show-clause-decides
+returns-in-Show-clause-decides c = rw (c.in-Show.is) (decides_as c.args.self.now c.show.new.self (shows_answers c.args.self.now.limit c.args.self.now.machine _) (λ w. w) c.show.result c.show.ensures.decides)
 
-pub returns-in-Unwatch : goal.returns-in-Unwatch
-returns-in-Unwatch c = rw (c.in-Unwatch.is) (decided_as c.args.self.now c.unwatch.new.self (unwatches_answers c.args.self.now.limit c.args.self.now.machine _) _ c.unwatch.ensures)
+pub returns-in-Unwatch-clause-decides : goal.returns-in-Unwatch-clause-decides
+returns-in-Unwatch-clause-decides c = rw (c.in-Unwatch.is) (decided_as c.args.self.now c.unwatch.new.self (unwatches_answers c.args.self.now.limit c.args.self.now.machine _) _ c.unwatch.ensures.decides)
 
-pub returns-in-Tick : goal.returns-in-Tick
-returns-in-Tick c = rw (c.in-Tick.is) (decides_as c.args.self.now c.tick.new.self (ticks_answers c.args.self.now.limit c.args.self.now.machine) (λ w. w) c.tick.result c.tick.ensures)
+pub returns-in-Tick-clause-decides : goal.returns-in-Tick-clause-decides
+returns-in-Tick-clause-decides c = rw (c.in-Tick.is) (decides_as c.args.self.now c.tick.new.self (ticks_answers c.args.self.now.limit c.args.self.now.machine) (λ w. w) c.tick.result c.tick.ensures.decides)
 
-pub returns-in_ok-ask-in-Ask : goal.returns-in_ok-ask-in-Ask
-returns-in_ok-ask-in-Ask c =
+pub returns-in_ok-ask-in-Ask-clause-decides : goal.returns-in_ok-ask-in-Ask-clause-decides
+returns-in_ok-ask-in-Ask-clause-decides c =
     let asked = c.in_ok-ask-in-Ask.field-0 in
-    rw (c.in-Ask.is, c.from.ensures) (said_still c.args.self.now c.ask.new.self (reply_of asked) c.in_ok-ask-in-Ask.ensures.same
+    rw (c.in-Ask.is, c.from.ensures) (said_alike c.args.self.now c.ask.new.self (reply_of asked) c.in_ok-ask-in-Ask.ensures.alike
     (asks_answers c.args.self.now.limit c.args.self.now.machine _ _ (asked_asks c.args.self.now.limit c.args.self.now.machine _ (reply_of asked) c.in_ok-ask-in-Ask.ensures.reply _ refl)))
+
+pub returns-in-Edit-clause-forgets : goal.returns-in-Edit-clause-forgets
+returns-in-Edit-clause-forgets c =
+    on_ok (λ (made : Unbroken c.args.self.now.machine.graph c.in-Edit.edit → ForgetsEdit c.in-Edit.edit c.args.self.now c.edit.new.self). λ edit is unbroken.
+    let read : Changes c.in-Edit.edit ≡ Changes edit = subst (λ l. reading_of l ≡ Changes edit) c.in-Edit.is is in
+    let same : c.in-Edit.edit ≡ edit = cc in
+    subst (λ (e : Edit). ForgetsEdit e c.args.self.now c.edit.new.self) same (made (subst (Unbroken c.args.self.now.machine.graph) (sym same) unbroken))) c.edit.result c.edit.ensures.forgets
+
+pub returns-in-Edit-clause-table : goal.returns-in-Edit-clause-table
+returns-in-Edit-clause-table c = rw (c.in-Edit.is) c.edit.ensures.table
+
+pub returns-in-Blank-clause-table : goal.returns-in-Blank-clause-table
+returns-in-Blank-clause-table c = rw (c.in-Blank.is) refl
+
+pub returns-in-Watch-clause-table : goal.returns-in-Watch-clause-table
+returns-in-Watch-clause-table c = rw (c.in-Watch.is) c.watch.ensures.adds
+
+pub returns-in-Show-clause-table : goal.returns-in-Show-clause-table
+returns-in-Show-clause-table c = rw (c.in-Show.is) c.show.ensures.table
+
+pub returns-in-Unwatch-clause-table : goal.returns-in-Unwatch-clause-table
+returns-in-Unwatch-clause-table c = rw (c.in-Unwatch.is) c.unwatch.ensures.table
+
+pub returns-in-Tick-clause-table : goal.returns-in-Tick-clause-table
+returns-in-Tick-clause-table c = rw (c.in-Tick.is) c.tick.ensures.table
+
+pub returns-in_ok-ask-in-Ask-clause-table : goal.returns-in_ok-ask-in-Ask-clause-table
+returns-in_ok-ask-in-Ask-clause-table c = rw (c.in-Ask.is) c.ask.ensures.adds
+
+pub returns-in_err-ask-in-Ask-clause-table : goal.returns-in_err-ask-in-Ask-clause-table
+returns-in_err-ask-in-Ask-clause-table c = rw (c.in-Ask.is) c.ask.ensures.adds

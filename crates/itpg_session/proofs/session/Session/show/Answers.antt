@@ -1,40 +1,47 @@
 use Rattle.std.proofs.Common.{◌≡◌, refl, inr, subst}
 use Rattle.std.proofs.lemmas.Result.{err_from_is_err_and}
-use Rattle.std.specs.Prelude.{slice_get, IsSomeAnd}
+use Rattle.std.specs.Prelude.{slice_get, option_map, IsSomeAnd}
 use Rattle.itpg_edit.specs.Rules.{NoneOf, FirstOf}
-use Rattle.standing_queries.specs.Watches.{Watch}
+use Rattle.relation_rows.specs.Answered.{answered}
+use Rattle.itpg_session.specs.PlainWatches.{PlainWatch}
 use Rattle.itpg_session.specs.Rules.{NameBreaks, name_rules}
-use Rattle.itpg_session.specs.Replies.{Refused, reply_of}
+use Rattle.itpg_session.specs.Replies.{Refused, Shown}
 use Rattle.itpg_session.specs.Machine.{Standing, ShowsWatch}
 use Rattle.itpg_session.proofs.Answering.{refusal}
 use Rattle.itpg_session.proofs.Watching.{watch_at, of_watch}
-use Rattle.itpg_session.proofs.Told.{said, said_still}
+use Rattle.itpg_session.proofs.Told.{said, said_alike}
+use Rattle.itpg_session.proofs.Accepting.{worked_none}
 use Rattle.itpg_session.proofs.session.Session.show.Goals as goal
 
-pub returns-in_err-show_at-in-Ok : goal.returns-in_err-show_at-in-Ok
-returns-in_err-show_at-in-Ok c =
+pub returns-in_err-find_at-in-Ok-clause-decides : goal.returns-in_err-find_at-in-Ok-clause-decides
+returns-in_err-find_at-in-Ok-clause-decides c =
     let unbroken = subst (λ (s : Standing). NoneOf (NameBreaks s.machine.graph s.machine.watches c.args.name.now) name_rules) c.self.view_is c.in-Ok.ensures.unbroken in
     let p = err_from_is_err_and c.from_residual.result c.from_residual.ensures.1 in
-    rw (p.1) (c.in_err-show_at-in-Ok.ensures.same, unbroken)
+    rw (p.1) (c.in_err-find_at-in-Ok.ensures.alike, (unbroken, λ fresh. c.requires (unbroken, fresh)))
 
-pub returns-in_ok-show_at-in-Ok : goal.returns-in_ok-show_at-in-Ok
-returns-in_ok-show_at-in-Ok c =
-    let asked = c.in_ok-show_at-in-Ok.field-0 in
-    let shown = watch_at c.args.self.now.machine.watches c.in-Ok.place _ c.in_ok-show_at-in-Ok.ensures.found in
+pub returns-in_ok-find_at-in-Ok-clause-decides : goal.returns-in_ok-find_at-in-Ok-clause-decides
+returns-in_ok-find_at-in-Ok-clause-decides c =
+    let ws = c.args.self.now.machine.watches in
+    let found = option_map answered c.in_ok-find_at-in-Ok.field-0 in
+    let shown = watch_at ws c.in-Ok.place _ c.in_ok-find_at-in-Ok.ensures.found in
     let named = subst (λ (s : Standing). IsSomeAnd (slice_get s.machine.watches c.in-Ok.place) (λ w. w.name ≡ c.args.name.now)) c.self.view_is c.in-Ok.ensures.place in
     let unbroken = subst (λ (s : Standing). NoneOf (NameBreaks s.machine.graph s.machine.watches c.args.name.now) name_rules) c.self.view_is c.in-Ok.ensures.unbroken in
-    rw (c.from.ensures) (said_still c.args.self.now c.show_at.new.self (reply_of asked) c.in_ok-show_at-in-Ok.ensures.same (inr (record {
+    said_alike c.args.self.now c.find_at.new.self (Shown c.in-Ok.place found) c.in_ok-find_at-in-Ok.ensures.alike (inr (record {
       unbroken = unbroken;
+      place = c.in-Ok.place;
       watch = shown.0;
-      among = shown.1;
-      named = of_watch c.args.self.now.machine.watches c.in-Ok.place shown.0 (λ (w : Watch). w.name ≡ c.args.name.now) shown.2 named;
-      reply = reply_of asked;
+      at = shown.2;
+      named = of_watch ws c.in-Ok.place shown.0 (λ (w : PlainWatch). w.name ≡ c.args.name.now) shown.2 named;
+      found = found;
       finds = shown.3;
       is = refl;
-    })))
+    }))
 
-pub returns-in-Err : goal.returns-in-Err
-returns-in-Err c =
+pub returns-in-Err-clause-decides : goal.returns-in-Err-clause-decides
+returns-in-Err-clause-decides c =
+    let m = c.args.self.now.machine in
     let first = subst (λ (s : Standing). FirstOf (NameBreaks s.machine.graph s.machine.watches c.args.name.now) name_rules c.in-Err.rule) c.self.view_is c.in-Err.ensures.broken in
-    said c.args.self.now (Refused c.in-Err.rule)
-    (refusal c.args.self.now.machine (NameBreaks c.args.self.now.machine.graph c.args.self.now.machine.watches c.args.name.now) name_rules (ShowsWatch c.args.self.now.limit c.args.self.now.machine c.args.name.now) c.in-Err.rule first _ refl)
+    said c.args.self.now (Refused c.in-Err.rule) (refusal m (NameBreaks m.graph m.watches c.args.name.now) name_rules (ShowsWatch c.args.self.now.limit m c.args.name.now) c.in-Err.rule first _ refl)
+
+pub returns-in-Err-clause-table : goal.returns-in-Err-clause-table
+returns-in-Err-clause-table c = worked_none c.args.self.now.table

@@ -1,0 +1,93 @@
+-- What answering a line leaves of the table.
+use Rattle.std.proofs.Common.{◌≡◌, inl, inr, List, ℕ, refl, sym, ap, subst, ◌∙◌}
+use Rattle.std.specs.Prelude.{Result, Ok, Err, IsOkAnd}
+use Rattle.itpg_base.specs.Graphs.{Graph}
+use Rattle.itpg_base.specs.declared.text_code.TextCode.{TextCode}
+use Rattle.itpg_edit.specs.declared.edit.Edit.{Edit}
+use Rattle.itpg_edit.specs.Rules.{Unbroken}
+use Rattle.itpg_edit.specs.Next.{Makes as MakesGraph}
+use Rattle.edit_reader.specs.declared.line.Line.{Line}
+use Rattle.edit_reader.specs.Readings.{Reading, Nothing, Changes, Asks, Watches, Shows, Unwatches, Ticks, reading_of, told as read_as}
+use Rattle.edit_reader.specs.Lines.{LineOf}
+use Rattle.plan_cache.specs.Nodes.{Table}
+use Rattle.plan_cache.specs.Footprints.{footprints_of}
+use Rattle.plan_cache.specs.KeptRows.{Forgets}
+use Rattle.relation_rows.specs.Answered.{Answered}
+use Rattle.itpg_session.specs.Replies.{Reply, Silent, Bad, Refused, Wide, Rows, Shown, PerWatch}
+use Rattle.itpg_session.specs.Keeping.{AddsText, IsWorked}
+use Rattle.itpg_session.specs.Machine.{Machine, Standing, after}
+use Rattle.itpg_session.specs.Steps.{StandsAs, ForgetsEdit, LeavesTable, LeavesSo, LeavesLine, ForgetsLine, ShowsKept}
+use Rattle.itpg_session.proofs.Accepting.{worked_none}
+
+-- ---- nothing
+
+reading_leaves : (s : Standing) (reading : Reading) → LeavesTable reading s s
+reading_leaves s Nothing = refl
+reading_leaves s (Changes edit) = inr refl
+reading_leaves s (Asks text) = inr refl
+reading_leaves s (Watches name text) = inr refl
+reading_leaves s (Shows name) = worked_none s.table
+reading_leaves s (Unwatches name) = refl
+reading_leaves s Ticks = worked_none s.table
+
+so_leaves : (s : Standing) (what : Result Reading TextCode) → LeavesSo what s s
+so_leaves s (Ok reading) = reading_leaves s reading
+so_leaves s (Err code) = refl
+
+pub line_leaves : (s : Standing) (line : List ℕ) → LeavesLine line s s
+line_leaves s line = λ what is. so_leaves s what
+
+-- a line that shows a watch is no edit
+pub kept_forgets : (s : Standing) (line : List ℕ) (what : Result Line TextCode) (answer : Answered) → ((other : Result Reading TextCode) → LineOf line other → other ≡ read_as what) → IsOkAnd what (λ l. ShowsKept s (reading_of l) answer) → ForgetsLine line s s
+kept_forgets s line (Ok l) answer only kept = λ edit is unbroken.
+    let same : reading_of l ≡ Changes edit = (let e = only (Ok (Changes edit)) is in cc) in
+    absurd (subst (λ (r : Reading). ShowsKept s r answer) same kept)
+kept_forgets s line (Err code) answer only kept = absurd kept
+
+-- ---- a reply that is settled
+
+after_graph : (m : Machine) (reply : Reply) → (after m reply).graph ≡ m.graph
+after_graph m Silent = refl
+after_graph m (Bad code) = refl
+after_graph m (Refused rule) = refl
+after_graph m Wide = refl
+after_graph m (Rows answer) = refl
+after_graph m (Shown place found) = refl
+after_graph m (PerWatch found) = refl
+
+-- the table and the graph stay from here on
+module _ (old mid new : Standing) (table : new.table ≡ mid.table) (graph : new.machine.graph ≡ mid.machine.graph) where
+  forgets_on : (edit : Edit) → ForgetsEdit edit old mid → ForgetsEdit edit old new
+  forgets_on edit f = record {
+    touch = f.touch;
+    makes = subst (λ (g : Graph). MakesGraph old.machine.graph edit g f.touch) (sym graph) f.makes;
+    nodes = ap (λ (t : Table). t.nodes) table ∙ f.nodes;
+    forgets = subst (λ (t : Table). Forgets f.touch (footprints_of old.table.nodes) old.table.kept t.kept) (sym table) f.forgets;
+  }
+
+  reading_on : (reading : Reading) → LeavesTable reading old mid → LeavesTable reading old new
+  reading_on Nothing a = table ∙ a
+  reading_on (Changes edit) (inl a) = inl (forgets_on edit a)
+  reading_on (Changes edit) (inr a) = inr (table ∙ a)
+  reading_on (Asks text) a = subst (AddsText text old.table) (sym table) a
+  reading_on (Watches name text) a = subst (AddsText text old.table) (sym table) a
+  reading_on (Shows name) a = subst (IsWorked old.table) (sym table) a
+  reading_on (Unwatches name) a = table ∙ a
+  reading_on Ticks a = subst (IsWorked old.table) (sym table) a
+
+  so_on : (what : Result Reading TextCode) → LeavesSo what old mid → LeavesSo what old new
+  so_on (Ok reading) a = reading_on reading a
+  so_on (Err code) a = table ∙ a
+
+-- what is decided of what a line is, is so of the line
+pub line_so : (line : List ℕ) (what : Result Reading TextCode) (old new : Standing) → ((other : Result Reading TextCode) → LineOf line other → other ≡ what) → LeavesSo what old new → LeavesLine line old new
+line_so line what old new only a = λ other is. subst (λ w. LeavesSo w old new) (sym (only other is)) a
+
+pub line_settled : (line : List ℕ) (what : Result Reading TextCode) (old mid new : Standing) (reply : Reply) (limit : ℕ) → ((other : Result Reading TextCode) → LineOf line other → other ≡ what)
+    → new.table ≡ mid.table → StandsAs new (after mid.machine reply) limit → LeavesSo what old mid → LeavesLine line old new
+line_settled line what old mid new reply limit only table stands a = line_so line what old new only (so_on old mid new table (ap (λ (m : Machine). m.graph) stands.machine ∙ after_graph mid.machine reply) what a)
+
+pub forgets_settled : (line : List ℕ) (what : Result Reading TextCode) (old mid new : Standing) (reply : Reply) (limit : ℕ) → ((other : Result Reading TextCode) → LineOf line other → other ≡ what)
+    → new.table ≡ mid.table → StandsAs new (after mid.machine reply) limit → ((edit : Edit) → what ≡ Ok (Changes edit) → Unbroken old.machine.graph edit → ForgetsEdit edit old mid) → ForgetsLine line old new
+forgets_settled line what old mid new reply limit only table stands a = λ edit is unbroken.
+    forgets_on old mid new table (ap (λ (m : Machine). m.graph) stands.machine ∙ after_graph mid.machine reply) edit (a edit (sym (only (Ok (Changes edit)) is)) unbroken)

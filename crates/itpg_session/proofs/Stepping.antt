@@ -1,0 +1,114 @@
+-- A step: from what a line is to the line, and the show of a watch that is fresh.
+use Rattle.std.proofs.Common.{◌≡◌, inr, ℕ, zero, suc, List, [], ◌∷◌, length, Bool, true, refl, sym, ap, subst, ◌∙◌}
+use Rattle.std.specs.Prelude.{Result, Ok, Err, Option, Some, None, slice_get, is_some, IfSome, IsSomeAnd, IsOkAnd}
+use Rattle.itpg_base.specs.Words.{Word}
+use Rattle.itpg_base.specs.Graphs.{Graph}
+use Rattle.itpg_base.specs.declared.text_code.TextCode.{TextCode}
+use Rattle.edit_reader.specs.declared.line.Line.{Line}
+use Rattle.edit_reader.specs.Readings.{reading_of, told as read_as, Reading, Nothing, Changes, Asks, Watches, Shows, Unwatches, Ticks}
+use Rattle.edit_reader.specs.Lines.{LineOf}
+use Rattle.relation_rows.specs.Answered.{Answered}
+use Rattle.row_printer.specs.Texts.{AreDeclared}
+use Rattle.itpg_session.specs.declared.reply.Reply.{Reply as ReplyValue}
+use Rattle.itpg_edit.specs.Rules.{NoneOf}
+use Rattle.plan_cache.specs.Nodes.{Table}
+use Rattle.standing_queries.specs.Watches.{Watch, Keeps, IsFresh as IsFreshThere}
+use Rattle.standing_queries.proofs.Named.{place_among}
+use Rattle.itpg_session.specs.Rules.{TickBreaks, tick_rules}
+use Rattle.itpg_session.specs.Questions.{HasAnswer}
+use Rattle.itpg_session.specs.Keeping.{AreWatchesRight}
+use Rattle.itpg_session.specs.PlainWatches.{PlainWatch, plain, IsFresh, marked_at}
+use Rattle.itpg_session.specs.Replies.{Shown, FindsFor}
+use Rattle.itpg_session.specs.Machine.{Machine, Standing, Turn, TurnOf, Replies, told, after}
+use Rattle.itpg_session.specs.Steps.{Decides, WhatWants, LineWants, ShowsNameKept, ShowsKept}
+use Rattle.itpg_session.proofs.Answering.{replies_read, shows_answers, may_name}
+use Rattle.itpg_session.proofs.Plain.{plain_at, plain_watched, fresh_plain}
+use Rattle.itpg_session.proofs.Accepting.{stood}
+use Rattle.itpg_session.proofs.Replying.{declared}
+use Rattle.itpg_session.proofs.Told.{decides_as}
+
+-- the turns of what a line is are the line's
+pub line_turn : (limit : ℕ) (m : Machine) (line : List ℕ) (what : Result Reading TextCode) → LineOf line what → (t : Turn) → TurnOf limit m what t → Replies limit m line t
+line_turn limit m line what is t a = record { what = what; line_of = is; turn = a }
+
+-- and what it wants, the line wants
+pub line_wants : (m : Machine) (line : List ℕ) (what : Result Reading TextCode) → LineOf line what → WhatWants m what → LineWants m line
+line_wants m line (Ok reading) is wants = (reading, is, wants)
+line_wants m line (Err code) is wants = absurd wants
+
+pub line_decides : {E : Type 0} (line : List ℕ) (what : Result Reading TextCode) (old new : Standing) (result : Result ReplyValue E) → LineOf line what
+    → Decides (TurnOf old.limit old.machine what) (WhatWants old.machine what) old new result → Decides (Replies old.limit old.machine line) (LineWants old.machine line) old new result
+line_decides line what old new result is d = decides_as old new (line_turn old.limit old.machine line what is) (line_wants old.machine line what is) result d
+
+-- ---- a watch that is fresh
+
+-- to mark it again changes nothing
+marked_again : (ws : List PlainWatch) (place : ℕ) (w : PlainWatch) → slice_get ws place ≡ Some w → w.fresh ≡ true → marked_at place true ws ≡ ws
+marked_again [] place w at fresh = refl
+marked_again (v ∷ ws) zero w at fresh =
+    let same : v ≡ w = cc in
+    let marked : v.fresh ≡ true = ap (λ (u : PlainWatch). u.fresh) same ∙ fresh in
+    ap (λ (b : Bool). let u : PlainWatch = record { name = v.name; query = v.query; base = v.base; fresh = b } in u ∷ ws) (sym marked)
+marked_again (v ∷ ws) (suc place) w at fresh = ap (λ (us : List PlainWatch). v ∷ us) (marked_again ws place w at fresh)
+
+-- what is found for a watch has rows of declared objects alone
+pub shown_declared : (g : Graph) (limit : ℕ) (o : Option PlainWatch) (found : Option Answered) → IsSomeAnd o (λ w. FindsFor g limit w.query found) → IfSome found (AreDeclared (length g.objects))
+shown_declared g limit o None finds = tt
+shown_declared g limit None (Some answer) finds = absurd finds
+shown_declared g limit (Some w) (Some answer) finds = declared g w.query.path w.query.first w.query.last answer finds.1
+
+-- the kept answer of a watch that stands
+pub keeps_shows : (g : Graph) (limit : ℕ) (table : Table) (ws : List Watch) (now : Standing) → stood g limit table ws ≡ now → AreWatchesRight g limit table.nodes ws → NoneOf (TickBreaks g) tick_rules
+    → (name : Word) (answer : Answered) → Keeps ws name answer → ShowsNameKept now name answer
+keeps_shows g limit table ws now view right begun name answer (w, among, named, is, kind) =
+    let at = place_among ws w among in
+    subst (λ (s : Standing). ShowsNameKept s name answer) view (record {
+      unbroken = may_name (stood g limit table ws).machine name begun (λ none. none (plain_watched ws name (w, among, named)));
+      place = at.0;
+      watch = plain w;
+      at = plain_at ws at.0 w at.1;
+      named = named;
+      fresh = ap is_some is;
+      answers = subst (λ (o : Option Answered). IfSome o (HasAnswer g limit w.query)) is (right w among).answered;
+    })
+
+-- and where none is kept, none is shown so
+pub keeps_none : (g : Graph) (limit : ℕ) (table : Table) (ws : List Watch) (now : Standing) → stood g limit table ws ≡ now → (name : Word) → (IsFreshThere ws name → ⊥) → IsFresh now.machine.watches name → ⊥
+keeps_none g limit table ws now view name none fresh = none (fresh_plain ws name (subst (λ (s : Standing). IsFresh s.machine.watches name) (sym view) fresh))
+
+-- a line that shows a watch of which this answer is kept: its turn tells it, and leaves the machine
+pub record KeptTurn (s : Standing) (line : List ℕ) (answer : Answered) : Type 0 where
+  pub place : ℕ
+  pub replies : Replies s.limit s.machine line (told s.machine (Shown place (Some answer)))
+  pub stays : after s.machine (Shown place (Some answer)) ≡ s.machine
+  pub declared : AreDeclared (length s.machine.graph.objects) answer
+
+named_kept : (s : Standing) (line : List ℕ) (name : Word) (answer : Answered) → LineOf line (Ok (Shows name)) → ShowsNameKept s name answer → KeptTurn s line answer
+named_kept s line name answer is k = record {
+  place = k.place;
+  replies = replies_read s.limit s.machine line (Shows name) is _ (shows_answers s.limit s.machine name _ (inr (record {
+    unbroken = k.unbroken;
+    place = k.place;
+    watch = k.watch;
+    at = k.at;
+    named = k.named;
+    found = Some answer;
+    finds = k.answers;
+    is = refl;
+  })));
+  stays = ap (λ (ws : List PlainWatch). let m : Machine = record { graph = s.machine.graph; watches = ws } in m) (marked_again s.machine.watches k.place k.watch k.at k.fresh);
+  declared = declared s.machine.graph (k.watch).query.path (k.watch).query.first (k.watch).query.last answer k.answers.1;
+}
+
+pub kept_turn : (s : Standing) (line : List ℕ) (reading : Reading) (answer : Answered) → LineOf line (Ok reading) → ShowsKept s reading answer → KeptTurn s line answer
+kept_turn s line Nothing answer is k = absurd k
+kept_turn s line (Changes edit) answer is k = absurd k
+kept_turn s line (Asks text) answer is k = absurd k
+kept_turn s line (Watches name text) answer is k = absurd k
+kept_turn s line (Shows name) answer is k = named_kept s line name answer is k
+kept_turn s line (Unwatches name) answer is k = absurd k
+kept_turn s line Ticks answer is k = absurd k
+
+pub kept_line : (s : Standing) (line : List ℕ) (what : Result Line TextCode) (answer : Answered) → LineOf line (read_as what) → IsOkAnd what (λ l. ShowsKept s (reading_of l) answer) → KeptTurn s line answer
+kept_line s line (Ok l) answer is k = kept_turn s line (reading_of l) answer is k
+kept_line s line (Err code) answer is k = absurd k

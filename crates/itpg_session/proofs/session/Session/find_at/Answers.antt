@@ -1,0 +1,35 @@
+use Rattle.std.proofs.Common.{ℕ, None, Some, ap, subst}
+use Rattle.std.specs.Prelude.{Option, Err, slice_get, IsSomeAnd}
+use Rattle.path_ast.specs.Terms.{query_term}
+use Rattle.relation_rows.specs.Answered.{Answered, answered}
+use Rattle.itpg_session.specs.Questions.{IsTooWide, HasAnswer}
+use Rattle.itpg_session.specs.Replies.{FindsFor}
+use Rattle.itpg_session.specs.Keeping.{IsWorked}
+use Rattle.itpg_session.specs.Machine.{Standing}
+use Rattle.itpg_session.proofs.Found.{planned_at}
+use Rattle.itpg_session.proofs.Settled.{found_at, worked_alike}
+use Rattle.itpg_session.proofs.session.Session.find_at.Goals as goal
+use Rattle.itpg_session.proofs.session.Session.find_at.Goals.{in-Ok, in-Err-Wide, in-Err-Memory}
+
+pub find-requires-clause-planned : goal.find-requires-clause-planned
+find-requires-clause-planned c =
+    planned_at c.self.inside.graph c.self.inside.limits c.self.inside.plans.nodes c.self.inside.watches c.self.invariant.watches_right c.args.place c.plan.result.0 (query_term c.query.result.now) c.plan.ensures c.query.ensures.query
+
+pub returns-clause-found : goal.returns-clause-found
+returns-clause-found c =
+    let g = c.self.inside.graph in
+    let q = query_term c.query.result.now in
+    let there : (found : Option Answered) → FindsFor g c.self.inside.limits q found → IsSomeAnd (slice_get c.args.self.now.machine.watches c.args.place) (λ w. FindsFor c.args.self.now.machine.graph c.args.self.now.limit w.query found) =
+    λ found finds. subst (λ (s : Standing). IsSomeAnd (slice_get s.machine.watches c.args.place) (λ w. FindsFor s.machine.graph s.limit w.query found)) c.self.view_is
+    (found_at g c.self.inside.limits c.self.inside.watches c.args.place q found c.query.ensures.query finds) in
+    elim c.match-find.branch [
+      | in-Ok w ↦ rw (w.result-is) (there (Some (answered w.in-Ok.answer)) (subst (λ (n : ℕ). HasAnswer g n q (answered w.in-Ok.answer)) c.max_rows.ensures.value w.in-Ok.ensures.answer))
+      | in-Err-Wide w ↦ rw (w.result-is) (there None (subst (λ (n : ℕ). IsTooWide g n q) c.max_rows.ensures.value (w.in-Err-Wide.ensures.wide (ap Err w.in-Err-Wide.field-0-is))))
+      | in-Err-Memory w ↦ rw (w.result-is) tt
+    ]
+
+pub returns-clause-alike : goal.returns-clause-alike
+returns-clause-alike c = worked_alike c.self.inside.graph c.self.inside.limits c.self.inside.plans c.self.inside.watches c.args.self.now c.self.view_is c.find.new.plans
+
+pub returns-clause-worked : goal.returns-clause-worked
+returns-clause-worked c = subst (λ (s : Standing). IsWorked s.table c.find.new.plans) c.self.view_is c.find.ensures.worked

@@ -1,0 +1,67 @@
+use Rattle.std.proofs.Common.{length, sym, subst, refl}
+use Rattle.itpg_base.specs.Sinks.{Gets, GetsSome}
+use Rattle.relation_rows.specs.Answered.{answered}
+use Rattle.row_printer.specs.Texts.{AreDeclared}
+use Rattle.row_printer.proofs.Saying.{on_err}
+use Rattle.itpg_session.specs.Texts.{rows_text}
+use Rattle.itpg_session.specs.Machine.{Standing}
+use Rattle.itpg_session.proofs.Planned.{alike_same}
+use Rattle.itpg_session.proofs.Told.{rows_seen}
+use Rattle.itpg_session.specs.Replies.{line_reply}
+use Rattle.itpg_session.proofs.Stepping.{kept_line}
+use Rattle.itpg_session.proofs.Leaving.{line_leaves, kept_forgets, line_so, line_settled, forgets_settled}
+use Rattle.itpg_session.proofs.session.Session.step.Goals as goal
+
+pub write_rows-requires : goal.write_rows-requires
+write_rows-requires g c =
+    let turn = kept_line c.args.self.now c.args.line.now _ _ c.read_line.ensures.line c.in-Some.ensures.some in
+    record { declared = subst (λ (s : Standing). AreDeclared (length s.machine.graph.objects) (answered c.in-Some.answer.now)) (sym c.self.view_is) turn.declared }
+
+pub returns-in_err-write_rows-clause-alike : goal.returns-in_err-write_rows-clause-alike
+returns-in_err-write_rows-clause-alike g c = on_err _ _ (alike_same c.args.self.now)
+
+pub returns-in_err-write_rows-clause-some : goal.returns-in_err-write_rows-clause-some
+returns-in_err-write_rows-clause-some g c = λ write.
+    let turn = kept_line c.args.self.now c.args.line.now _ _ c.read_line.ensures.line c.in-Some.ensures.some in
+    record {
+      turn = _;
+      turns = turn.replies;
+      some = subst (λ (s : Standing). GetsSome g.K.Sink c.args.out.now c.write_rows.new.out (rows_text s.machine.graph c.args.no (answered c.in-Some.answer.now))) c.self.view_is c.in_err-write_rows.ensures.some;
+    }
+
+pub returns-in-Some-clause-stepped : goal.returns-in-Some-clause-stepped
+returns-in-Some-clause-stepped g c =
+    let turn = kept_line c.args.self.now c.args.line.now _ _ c.read_line.ensures.line c.in-Some.ensures.some in
+    record {
+      turn = _;
+      turns = turn.replies;
+      written = subst (λ (s : Standing). Gets g.K.Sink c.args.out.now c.write_rows.new.out (rows_text s.machine.graph c.args.no (answered c.in-Some.answer.now))) c.self.view_is c.in_ok-write_rows.ensures.written;
+      next = record { machine = sym turn.stays; limit = refl };
+      sees = rows_seen c.args.self.now.machine.graph c.args.no (answered c.in-Some.answer.now);
+    }
+
+pub returns-in_err-write-clause-alike : goal.returns-in_err-write-clause-alike
+returns-in_err-write-clause-alike g c = on_err _ _ (c.in_ok-reply.ensures.decides.waits c.in_err-write.ensures.says)
+
+pub returns-in_err-write_rows-clause-table : goal.returns-in_err-write_rows-clause-table
+returns-in_err-write_rows-clause-table g c = line_leaves c.args.self.now c.args.line.now
+
+pub returns-in-Some-clause-forgets : goal.returns-in-Some-clause-forgets
+returns-in-Some-clause-forgets g c = kept_forgets c.args.self.now c.args.line.now _ _ c.read_line.ensures.only c.in-Some.ensures.some
+
+pub returns-in-Some-clause-table : goal.returns-in-Some-clause-table
+returns-in-Some-clause-table g c = line_leaves c.args.self.now c.args.line.now
+
+pub returns-in_err-reply-clause-table : goal.returns-in_err-reply-clause-table
+returns-in_err-reply-clause-table g c = line_so c.args.line.now _ c.args.self.now c.decide.new.self c.read_line.ensures.only c.decide.ensures.table
+
+pub returns-in_err-write-clause-table : goal.returns-in_err-write-clause-table
+returns-in_err-write-clause-table g c = line_so c.args.line.now _ c.args.self.now c.decide.new.self c.read_line.ensures.only c.decide.ensures.table
+
+pub returns-clause-forgets : goal.returns-clause-forgets
+returns-clause-forgets g c =
+    forgets_settled c.args.line.now _ c.args.self.now c.decide.new.self c.settle.new.self (line_reply c.in_ok-reply.reply) _ c.read_line.ensures.only c.settle.ensures.table c.settle.ensures.stands c.in_ok-reply.ensures.forgets
+
+pub returns-clause-table : goal.returns-clause-table
+returns-clause-table g c =
+    line_settled c.args.line.now _ c.args.self.now c.decide.new.self c.settle.new.self (line_reply c.in_ok-reply.reply) _ c.read_line.ensures.only c.settle.ensures.table c.settle.ensures.stands c.decide.ensures.table

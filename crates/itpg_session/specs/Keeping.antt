@@ -1,0 +1,75 @@
+-- What a session keeps beside its machine, and that it is right on the graph as it stands.
+use Rattle.std.specs.Prelude.{◌≡◌, ℕ, ◌+◌, ◌<◌, ◌≤◌, ◌⊎◌, List, [], ◌∷◌, length, IfSome}
+use Rattle.std.specs.List.{AllZip}
+use Rattle.itpg_base.specs.Graphs.{Graph}
+use Rattle.itpg_base.specs.Lists.{Among}
+use Rattle.path_ast.specs.Terms.{PathTerm, QueryTerm}
+use Rattle.path_ast.specs.Sizes.{path_size}
+use Rattle.match_parser.specs.Reading.{Reads}
+use Rattle.label_scope.specs.declared.scope.Scope.TheVariants.{All}
+use Rattle.label_scope.specs.Footprints.{footprint}
+use Rattle.plan_cache.specs.Nodes.{Table, PlanNode, IsNodeOf, narrowed_member}
+use Rattle.plan_cache.specs.declared.nodes.TheConstants.{MAX_NODES}
+use Rattle.plan_cache.specs.Growing.{Grows, IsUnder}
+use Rattle.plan_cache.specs.KeptRows.{AllKept, Stays}
+use Rattle.path_eval.specs.Evaluated.{IsRight}
+use Rattle.path_eval.specs.Keeping.{KeptOrFull}
+use Rattle.row_printer.specs.Texts.{AreDeclared}
+use Rattle.standing_queries.specs.Watches.{Watch}
+use Rattle.itpg_session.specs.Questions.{HasAnswer}
+
+-- each kept relation is that of its node on the graph, with all its worked members within the limit
+abbrev pub IsTableRight : Graph → ℕ → Table → Type 0
+IsTableRight g limit table = AllKept (IsRight g limit) table.nodes table.kept
+
+-- a watch stands well beside these nodes: its plan is the node of its path between all objects, its footprint is that of this path,
+-- its base has rows of declared objects alone, and its kept answer, if there is one, is the query's answer on the graph
+pub record IsWatchRight (g : Graph) (limit : ℕ) (nodes : List PlanNode) (w : Watch) : Type 0 where
+  pub planned : IsNodeOf nodes w.plan (narrowed_member w.query.path All All)
+  pub footed : w.foot ≡ footprint w.query.path All All
+  pub declared : AreDeclared (length g.objects) w.base
+  pub answered : IfSome w.now (HasAnswer g limit w.query)
+
+abbrev pub AreWatchesRight : Graph → ℕ → List PlanNode → List Watch → Type 0
+AreWatchesRight g limit nodes watches = (w : Watch) → Among watches w → IsWatchRight g limit nodes w
+
+-- what is kept is right on the graph
+pub record IsKeptRight (g : Graph) (limit : ℕ) (table : Table) (watches : List Watch) : Type 0 where
+  pub table_right : IsTableRight g limit table
+  pub watches_right : AreWatchesRight g limit table.nodes watches
+
+-- of a watch nothing changes but the number of its plan
+abbrev pub IsReplanned : Watch → Watch → Type 0
+IsReplanned old new = new ≡ record old { plan = new.plan }
+
+abbrev pub AreReplanned : List Watch → List Watch → Type 0
+AreReplanned old new = AllZip IsReplanned old new
+
+-- relations may be kept at nodes at which none was; nothing else changes
+pub record IsWorked (old new : Table) : Type 0 where
+  pub nodes : new.nodes ≡ old.nodes
+  pub stays : Stays old.kept new.kept
+
+-- the nodes of a path between all objects are added behind the others, as far as they are missing; what was kept stays at its number
+pub record AddsPath (p : PathTerm) (old new : Table) : Type 0 where
+  pub grows : Grows (path_size p) old.nodes new.nodes
+  pub under : (k : ℕ) → length old.nodes ≤ k → k < length new.nodes → (root : ℕ) × IsNodeOf new.nodes root (narrowed_member p All All) × IsUnder new.nodes (root ∷ []) k
+  pub stays : Stays old.kept new.kept
+
+-- so it is; or the table was made anew, since there may be no room for as many nodes as the path has terms
+abbrev pub AddsOrRenews : PathTerm → Table → Table → Type 0
+AddsOrRenews p old new = AddsPath p old new ⊎ (MAX_NODES < length old.nodes + path_size p)
+
+-- so it is with the path of the query that the text reads as; or nothing changes
+abbrev pub AddsText : List ℕ → Table → Table → Type 0
+AddsText text old new = ((q : QueryTerm) × Reads text q × AddsOrRenews q.path old new) ⊎ (new ≡ old)
+
+-- at the node of the path between all objects its relation is kept, or it is too large to be kept beside the others
+pub record KeepsPath (g : Graph) (p : PathTerm) (table : Table) : Type 0 where
+  pub number : ℕ
+  pub node : IsNodeOf table.nodes number (narrowed_member p All All)
+  pub kept : KeptOrFull g table.kept number (narrowed_member p All All)
+
+-- so it is with the path of the query that the text reads as
+abbrev pub KeepsText : Graph → List ℕ → Table → Type 0
+KeepsText g text table = (q : QueryTerm) → Reads text q → KeepsPath g q.path table

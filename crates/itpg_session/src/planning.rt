@@ -1,0 +1,86 @@
+//! The plan nodes of queries, and a table of plans that is made anew where there may be no room for one more.
+ghost use Rattle.std.specs.Prelude.{◌≡◌, ◌+◌, ◌≤◌, [], length, IfOk, OnOk};
+ghost use Rattle.path_ast.specs.Terms.{path_term};
+ghost use Rattle.path_ast.specs.Sizes.{path_size, IsPathInRange};
+ghost use Rattle.path_ast.specs.declared.counts.TheConstants.{MAX_TERMS};
+ghost use Rattle.label_scope.specs.declared.scope.Scope.TheVariants.{All};
+ghost use Rattle.plan_cache.specs.Nodes.{IsNodeOf, narrowed_member};
+ghost use Rattle.plan_cache.specs.declared.nodes.TheConstants.{MAX_NODES as most_nodes};
+ghost use Rattle.itpg_session.specs.Steps.{IsAlike};
+ghost use Rattle.itpg_session.specs.Keeping.{AddsPath, AddsOrRenews};
+ghost use Rattle.itpg_session.specs.Planning.{ArePlansOf, with_plans, KeepsNothing};
+
+use crate::session::Session;
+use path_ast::{Query, terms};
+use plan_cache::{MAX_NODES, PlanNo, Plans};
+use standing_queries::Watches;
+use std::alloc::{AllocError, Global};
+
+impl Session {
+    /// The node of the query's path between all objects. If there may be no room for it, the table of plans is made anew.
+    pub(crate) fn planned(&mut self, query: &Query) -> Result<PlanNo, AllocError>
+        requires in_range { IsPathInRange (path_term query.now.path) }
+        requires terms { path_size (path_term query.now.path) ≤ MAX_TERMS }
+        ensures node { IfOk result (λ no. IsNodeOf self.new.table.nodes no.0 (narrowed_member (path_term query.now.path) All All)) }
+        ensures alike { IsAlike self.old self.new }
+        ensures adds { AddsOrRenews (path_term query.now.path) self.old.table self.new.table }
+    {
+        if terms(&query.path) > (MAX_NODES - self.plans.len()) as usize {
+            self.renew()?;
+        }
+        self.intern(query)
+    }
+
+    // The same where there is room.
+    fn intern(&mut self, query: &Query) -> Result<PlanNo, AllocError>
+        requires in_range { IsPathInRange (path_term query.now.path) }
+        requires room { length self.old.table.nodes + path_size (path_term query.now.path) ≤ most_nodes }
+        ensures node { IfOk result (λ no. IsNodeOf self.new.table.nodes no.0 (narrowed_member (path_term query.now.path) All All)) }
+        ensures alike { IsAlike self.old self.new }
+        ensures adds { AddsPath (path_term query.now.path) self.old.table self.new.table }
+    {
+        self.plans.intern(query)
+    }
+
+    // Makes the table of plans anew, of the watches' queries alone. No relation is kept in it.
+    fn renew(&mut self) -> Result<(), AllocError>
+        ensures room { OnOk result (length self.new.table.nodes + MAX_TERMS ≤ most_nodes) }
+        ensures alike { IsAlike self.old self.new }
+    {
+        let mut plans = Plans::new(self.alloc);
+        let numbers = intern_all(self.alloc, &mut plans, &self.watches)?;
+        replan(&mut self.watches, &numbers);
+        self.plans = plans;
+        Ok(())
+    }
+}
+
+// The nodes of the watches' queries in a table that has no other.
+fn intern_all(
+    alloc: Global,
+    plans: &mut Plans,
+    watches: &Watches,
+) -> Result<Vec<PlanNo>, AllocError>
+    requires none { plans.old.nodes ≡ [] }
+    requires free { plans.old.kept ≡ [] }
+    ensures plans { IfOk result (λ numbers. ArePlansOf plans.new.nodes watches.now numbers.items) }
+    ensures room { OnOk result (length plans.new.nodes + MAX_TERMS ≤ most_nodes) }
+    ensures free { OnOk result (KeepsNothing plans.new.kept) }
+{
+    let mut numbers = Vec::new(alloc);
+    for place in 0..watches.len() {
+        let no = plans.intern(watches.query(place))?;
+        numbers.push(no)?;
+    }
+    Ok(numbers)
+}
+
+// Has each watch stand for the node at its place in the list.
+fn replan(watches: &mut Watches, numbers: &[PlanNo])
+    requires { length numbers.now ≡ length watches.old }
+    ensures { watches.new ≡ with_plans numbers.now watches.old }
+{
+    for place in 0..watches.len() {
+        watches.set_plan(place, numbers[place]);
+    }
+}
