@@ -3,8 +3,8 @@
 
     tests/kept.py PROGRAM [--scripts N] [--from SEED] [--edits M]
 
-Draws N scripts (200 unless given), each of M edits (100) over few names, labels and properties, with up to six watches, and
-questions, shows and ticks between the edits. Every second script has a small limit of rows, so that answers are wide now and then.
+Draws N scripts (200 unless given), each of M edits (100) over few names, labels and properties, with watches of five queries, which
+are also asked, and shows and ticks between. Every second script has a small limit of rows, so that answers are wide now and then.
 
 Each question that the program answers there is also asked of a fresh run, which reads the edits accepted so far and this one
 question. So in a fresh run nothing is kept.
@@ -12,29 +12,29 @@ question. So in a fresh run nothing is kept.
 - A tick must be wide exactly if the fresh run is. Otherwise its rows must hold what the answer has and the base doesn't, and what
   the base has and the answer doesn't, as points. The base is the fresh run's answer at the watch's last tick that wasn't wide.
 
-It prints replies that differ and `N scripts, M replies, D differ`, and its exit status is 1 if D is above 0.
-"""
+It prints what differs and `N scripts, M replies, D differ`, and its exit status is 1 if D is above 0."""
 import argparse
 import random
 import re
 import subprocess
 import sys
 
-LAST, SMALL_LIMITS = 15, [2, 3, 5, 8, 12]  # the horizon is 0..LAST
+LAST, SMALL_LIMITS = 7, [3, 6, 12, 20, 40]  # the horizon is 0..LAST
 NAMES = {"node": [f"n{i}" for i in range(6)], "edge": [f"e{i}" for i in range(5)], "watch": [f"w{i}" for i in range(6)]}
 
 # What a word in angles stands for. The forms after the bar may hold one another, down to a depth. Some labels are of nodes and edges.
 FORMS = {
     "node_label": ["P", "R", "m"], "edge_label": ["m", "v", "P"], "label": ["<node_label>", "<edge_label>"],
-    "property": ["hot", "risk"], "value": ["'y'", "'n'"],
-    "leaf": [":<label>", "<property> = <value>", "EXISTS", "NODE", "time < <moment>", "time = <moment>", "time >= <moment>"],
-    "test": ["<leaf>", "<leaf>", "|", "NOT (<test>)", "(<test>) AND (<test>)", "(<test>) OR (<test>)", "?(<path>)"],
-    "path": ["FWD/:<label>/FWD", "BWD/:<label>/BWD", "F/:<label>/F", "NEXT", "PREV", "N", "NEXT[0,3]", "PREV*", "{<leaf>}", "|",
-             "<path>/<path>", "(<path> + <path>)", "(<path>)[0,2]", "(<path>)[1,_]", "(<path>/NEXT*)", "{<test>}"],
+    "property": ["hot", "hot", "risk"], "value": ["'y'", "'y'", "'n'"], "equal": ["<property> = <value>"],
+    "leaf": [":<label>", "<equal>", "<equal>", "EXISTS", "NODE", "time < <moment>", "time = <moment>", "time >= <moment>"],
+    "test": ["<leaf>", "<leaf>", "|", "NOT (<test>)", "(<test>) AND (<test>)", "(<test>) OR (<test>)", "?(<path>)", "?(<axis>/{<equal>})"],
+    "axis": ["N", "P", "F", "B", "N[0,2]", "F/F"],
+    "path": ["FWD/:<label>/FWD", "BWD/:<label>/BWD", "F/:<label>/F", *["F/{<equal>}/F"] * 3, "NEXT", "PREV", "N", "N/{<equal>}/P", "NEXT[0,3]",
+             "PREV*", "{<leaf>}", "|", "<path>/<path>", "(<path> + <path>)", "(<path>)[0,2]", "(<path>)[1,_]", "(<path>/NEXT*)", "{<test>}"],
     "filter": ["", "", ":<node_label>", ":<node_label> {<test>}", " {<test>}"],
     "query": ["MATCH (x<filter>)", *["MATCH (x<filter>)-/<path>/-(y<filter>)"] * 3, "MATCH (x<filter>)-/<path>/-(<filter>)",
               "MATCH (<filter>)-/<path>/-(y<filter>)"],
-    "span": [f"0 {LAST}"] * 20 + [f"{low} {high}" for low in range(LAST + 1) for high in range(low, LAST + 1, 3)],
+    "span": [f"0 {LAST}"] * 12 + [f"{low} {high}" for low in range(LAST + 1) for high in range(low, LAST + 1, 2)],
     "moment": [str(t) for t in range(LAST + 1)], **NAMES,
 }
 # What follows the name of an edit of an object.
@@ -47,6 +47,7 @@ class Draw:
     def __init__(self, seed):
         self.random = random.Random(seed)
         self.standing = {kind: set() for kind in NAMES}
+        self.queries = [self.text("<query>") for _ in range(5)]  # asked again and again
 
     def text(self, form, deep=3):
         return re.sub(r"<(\w+)>", lambda found: self.word(found[1], deep), form)
@@ -56,9 +57,8 @@ class Draw:
         plain, more = (forms[:forms.index("|")], forms[forms.index("|") + 1:]) if "|" in forms else (forms, [])
         return self.text(self.random.choice(plain + more * (deep > 0)), deep - 1)
 
-    def stands(self, *kinds):
-        names = sorted(name for kind in kinds for name in self.standing[kind])
-        return self.random.choice(names or NAMES[kinds[0]])
+    def stands(self, kind):
+        return self.random.choice(sorted(self.standing[kind]) or NAMES[kind])
 
     def declared(self, kind):
         name = self.random.choice(sorted(set(NAMES[kind]) - self.standing[kind]) or NAMES[kind])
@@ -66,25 +66,25 @@ class Draw:
         return name
 
     def dropped(self, kind):
-        name = self.stands(kind)
-        self.standing[kind] -= {name}
+        self.standing[kind] -= {name := self.stands(kind)}
         return name
 
     def edits(self, *kinds):
-        kind = self.random.choice(kinds or ["node"] * 4 + ["edge"] * 4 + ["live"] * 6 + ["gone"] * 4 + ["set"] * 5 + ["unset", "drop", "drop"])
+        kind = self.random.choice(kinds or ["node", "edge"] * 2 + ["live"] * 5 + ["gone"] * 5 + ["set"] * 6 + ["unset", "drop", "drop"])
         if kind in ("node", "edge"):
             ends = f" {self.stands('node')} {self.stands('node')}" * (kind == "edge")
             name = self.declared(kind)
             return [self.text(f"{kind} {name} <{kind}_label>{ends}"), self.text(f"live {name} <span>")]
-        name = self.stands("node", "edge") if kind != "drop" else self.dropped(self.random.choice(["edge", "edge", "node"]))
+        other = self.random.choice(["node", "edge", "edge"])
+        name = self.dropped(other) if kind == "drop" else self.stands(other)
         return [self.text(f"{kind} {name}{MORE[kind]}")]
 
     def other(self, *kinds):
         """A line that is no edit."""
         kind = self.random.choice(kinds or ["ask"] * 8 + ["show"] * 12 + ["tick"] * 5 + ["watch"] * 3 + ["unwatch"])
-        forms = {"ask": "ask <query>", "tick": "tick", "watch": "watch {} <query>", "show": "show {}", "unwatch": "unwatch {}"}
         name = {"watch": self.declared, "unwatch": self.dropped}.get(kind, self.stands)("watch")
-        return self.text(forms[kind].replace("{}", name))
+        query = self.random.choice(self.queries)
+        return {"ask": f"ask {query}", "tick": "tick", "watch": f"watch {name} {query}"}.get(kind, f"{kind} {name}")
 
     def script(self, edits):
         lines = [f"graph g 0 {LAST}"]
@@ -92,8 +92,8 @@ class Draw:
             lines += [*self.edits(kind), self.other("watch")]
         for _ in range(edits):
             lines += self.edits()
-            while self.random.random() < 0.5:
-                lines.append(self.other())
+            lines += [self.other() for _ in range(self.random.choice([0, 0, 1, 1, 2]))]
+            lines += [f"ask {query}" for query in self.queries] * (self.random.random() < 0.4)
         return lines
 
 
@@ -174,7 +174,7 @@ class Trial:
                 del self.watches[name]
             else:
                 self.edits.append(line)
-                self.numbers |= {name: len(self.edits)} if command in ("node", "edge") else {}
+                self.numbers.update({name: len(self.edits)} if command in ("node", "edge") else {})
         self.check(len(self.lines), self.output, [])
         return self
 
