@@ -14,6 +14,7 @@ pub mod Suiting
 pub mod Accepting
 pub mod Stepping
 pub mod Leaving
+pub mod KeptFresh
 pub mod SparedObjects
 pub mod Untouched
 pub mod Plain
@@ -22,3 +23,4 @@ pub mod Planned
 pub mod Adding
 pub mod Found
 pub mod Settled
+pub mod KeptTicks

@@ -1,5 +1,5 @@
 -- What a session keeps beside its machine, and that it is right on the graph as it stands.
-use Rattle.std.specs.Prelude.{◌≡◌, ℕ, ◌+◌, ◌<◌, ◌≤◌, ◌⊎◌, List, [], ◌∷◌, length, IfSome}
+use Rattle.std.specs.Prelude.{◌≡◌, ℕ, ◌+◌, ◌<◌, ◌≤◌, ◌⊎◌, List, [], ◌∷◌, length, true, Option, Some, None, IfSome}
 use Rattle.std.specs.List.{AllZip}
 use Rattle.itpg_base.specs.Graphs.{Graph}
 use Rattle.itpg_base.specs.Lists.{Among}
@@ -14,9 +14,12 @@ use Rattle.plan_cache.specs.Growing.{Grows, IsUnder}
 use Rattle.plan_cache.specs.KeptRows.{AllKept, Stays}
 use Rattle.path_eval.specs.Evaluated.{IsRight}
 use Rattle.path_eval.specs.Keeping.{KeptOrFull}
+use Rattle.relation_rows.specs.Answered.{Answered}
 use Rattle.row_printer.specs.Texts.{AreDeclared}
 use Rattle.standing_queries.specs.Watches.{Watch}
+use Rattle.itpg_session.specs.PlainWatches.{PlainWatch}
 use Rattle.itpg_session.specs.Questions.{HasAnswer}
+use Rattle.itpg_session.specs.Ticks.{Ticked, StaysWide, Moves}
 
 -- each kept relation is that of its node on the graph, with all its worked members within the limit
 abbrev pub IsTableRight : Graph → ℕ → Table → Type 0
@@ -73,3 +76,18 @@ pub record KeepsPath (g : Graph) (p : PathTerm) (table : Table) : Type 0 where
 -- so it is with the path of the query that the text reads as
 abbrev pub KeepsText : Graph → List ℕ → Table → Type 0
 KeepsText g text table = (q : QueryTerm) → Reads text q → KeepsPath g q.path table
+
+-- a watch that a tick found an answer for was fresh before, or what was worked out for it is kept; so of each in order
+abbrev pub KeepsTicked : Graph → Table → PlainWatch → Ticked → Type 0
+KeepsTicked g table w (StaysWide name) = Unit {0}
+KeepsTicked g table w (Moves name now gained lost) = (w.fresh ≡ true) ⊎ KeepsPath g w.query.path table
+
+abbrev pub KeepAllTicked : Graph → Table → List PlainWatch → List Ticked → Type 0
+KeepAllTicked g table [] xs = Unit {0}
+KeepAllTicked g table (w ∷ ws) [] = Unit {0}
+KeepAllTicked g table (w ∷ ws) (x ∷ xs) = KeepsTicked g table w x × KeepAllTicked g table ws xs
+
+-- what was worked out for a watch whose answer was found is kept
+abbrev pub KeepsFound : Graph → Table → PlainWatch → Option Answered → Type 0
+KeepsFound g table w None = Unit {0}
+KeepsFound g table w (Some answer) = KeepsPath g w.query.path table

@@ -20,7 +20,8 @@ use Rattle.itpg_session.specs.Questions.{HasAnswer}
 use Rattle.itpg_session.specs.PlainWatches.{PlainWatch, IsFresh}
 use Rattle.itpg_session.specs.Replies.{Reply, Silent, Rows, Shown, PerWatch, FindsFor, line_reply}
 use Rattle.itpg_session.specs.Texts.{text_of, fails}
-use Rattle.itpg_session.specs.Keeping.{AreReplanned, AddsText, IsWorked}
+use Rattle.itpg_base.specs.Lists.{Among}
+use Rattle.itpg_session.specs.Keeping.{AreReplanned, AddsText, IsWorked, KeepsPath, KeepsFound, KeepAllTicked}
 use Rattle.itpg_session.specs.Machine.{Machine, Standing, Turn, told}
 use Rattle.itpg_session.specs.declared.reply.Reply.{Reply as ReplyValue}
 use Rattle.itpg_session.specs.declared.reply.Seen.{Seen}
@@ -90,6 +91,20 @@ ForgetsLine line old new = (edit : Edit) → LineOf line (Ok (Changes edit)) →
 -- and what answering the line leaves of the table
 abbrev pub LeavesLine : List ℕ → Standing → Standing → Type 0
 LeavesLine line old new = (what : Result Reading TextCode) → LineOf line what → LeavesSo what old new
+
+-- what was worked out for the reply is kept
+abbrev pub KeepsReply : Reply → Standing → Type 0
+KeepsReply (Shown place found) s = IsSomeAnd (slice_get s.machine.watches place) (λ w. KeepsFound s.machine.graph s.table w found)
+KeepsReply (PerWatch found) s = KeepAllTicked s.machine.graph s.table s.machine.watches found
+KeepsReply reply s = Unit {0}
+
+-- a fresh watch of this name and this query stands
+abbrev pub WasFresh : List PlainWatch → PlainWatch → Type 0
+WasFresh watches w = (v : PlainWatch) × Among watches v × (v.name ≡ w.name) × (v.query ≡ w.query) × (v.fresh ≡ true)
+
+-- each watch that is fresh was so before, or the relation that was worked out for it is kept, if there is room
+abbrev pub KeepsFresh : Standing → Standing → Type 0
+KeepsFresh old new = (w : PlainWatch) → Among new.machine.watches w → w.fresh ≡ true → WasFresh old.machine.watches w ⊎ KeepsPath new.machine.graph w.query.path new.table
 
 -- the line asks to show a watch that is fresh, and breaks no rule
 abbrev pub ShowsFresh : Machine → Reading → Type 0

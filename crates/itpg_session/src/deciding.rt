@@ -14,8 +14,8 @@ ghost use Rattle.relation_rows.specs.Answered.{answered};
 ghost use Rattle.itpg_session.specs.Rules.{WatchBreaks, NameBreaks, TickBreaks, watch_rules, name_rules, tick_rules};
 ghost use Rattle.itpg_session.specs.Replies.{line_reply, FindsFor};
 ghost use Rattle.itpg_session.specs.Machine.{Answers, TurnOf, WatchesText, WatchesQuery, ShowsName, DropsName, TicksOrNot};
-ghost use Rattle.itpg_session.specs.Keeping.{AddsOrRenews, AddsText, IsWorked};
-ghost use Rattle.itpg_session.specs.Steps.{ForgetsEdit, LeavesTable, LeavesSo, ShowsFresh, WantsMemory, WhatWants, Decides, IsAlike, IsDecided, Suits};
+ghost use Rattle.itpg_session.specs.Keeping.{AddsOrRenews, AddsText, IsWorked, KeepsFound};
+ghost use Rattle.itpg_session.specs.Steps.{ForgetsEdit, KeepsReply, LeavesTable, LeavesSo, ShowsFresh, WantsMemory, WhatWants, Decides, IsAlike, IsDecided, Suits};
 
 use crate::finding::find;
 use crate::laws::law_of_graphs;
@@ -41,6 +41,7 @@ impl Session {
         requires finds { IfOk what.now (λ line. ¬ ShowsFresh self.old.machine (reading_of line)) }
         ensures decides { Decides (TurnOf self.old.limit self.old.machine (read_as what.now)) (WhatWants self.old.machine (read_as what.now)) self.old self.new result }
         ensures suits { IfOk result (λ reply. Suits self.new (line_reply reply)) }
+        ensures keeps { IfOk result (λ reply. KeepsReply (line_reply reply) self.new) }
         ensures forgets { OnOk result ((edit : PlainEdit) → read_as what.now ≡ Ok (Changes edit) → Unbroken self.old.machine.graph edit → ForgetsEdit edit self.old self.new) }
         ensures table { LeavesSo (read_as what.now) self.old self.new }
     {
@@ -55,6 +56,7 @@ impl Session {
         requires moments { AsksOfMoments (reading_of line.now) }
         requires finds { ¬ ShowsFresh self.old.machine (reading_of line.now) }
         ensures decides { Decides (Answers self.old.limit self.old.machine (reading_of line.now)) (WantsMemory self.old.machine (reading_of line.now)) self.old self.new result }
+        ensures keeps { IfOk result (λ reply. KeepsReply (line_reply reply) self.new) }
         ensures forgets { OnOk result ((edit : PlainEdit) → reading_of line.now ≡ Changes edit → Unbroken self.old.machine.graph edit → ForgetsEdit edit self.old self.new) }
         ensures table { LeavesTable (reading_of line.now) self.old self.new }
     {
@@ -149,6 +151,7 @@ impl Session {
     fn show(&mut self, name: &Name) -> Result<Reply, AllocError>
         requires { ¬ ShowsFresh self.old.machine (Shows name.now) }
         ensures decides { Decides (ShowsName self.old.limit self.old.machine name.now) (WantsMemory self.old.machine (Shows name.now)) self.old self.new result }
+        ensures keeps { IfOk result (λ reply. KeepsReply (line_reply reply) self.new) }
         ensures table { IsWorked self.old.table self.new.table }
     {
         match place_of(&self.graph, &self.watches, name) {
@@ -164,6 +167,7 @@ impl Session {
         ensures found { IfOk result (λ found. IsSomeAnd (slice_get self.old.machine.watches place) (λ w. FindsFor self.old.machine.graph self.old.limit w.query (option_map answered found))) }
         ensures alike { IsAlike self.old self.new }
         ensures worked { IsWorked self.old.table self.new.table }
+        ensures keeps { IfOk result (λ found. IsSomeAnd (slice_get self.old.machine.watches place) (λ w. KeepsFound self.old.machine.graph self.new.table w (option_map answered found))) }
     {
         match find(
             self.alloc,
@@ -196,6 +200,7 @@ impl Session {
     // Finds of each watch what was gained and lost since the tick before, or refuses to.
     fn tick(&mut self) -> Result<Reply, AllocError>
         ensures decides { Decides (TicksOrNot self.old.limit self.old.machine) (NoneOf (TickBreaks self.old.machine.graph) tick_rules) self.old self.new result }
+        ensures keeps { IfOk result (λ reply. KeepsReply (line_reply reply) self.new) }
         ensures table { IsWorked self.old.table self.new.table }
     {
         if let Some(rule) = broken_by_tick(&self.graph) {

@@ -1,20 +1,18 @@
 //! The session, and what a step of it does with a line.
 //!
 //! `Session` has the graph, the watches and the limit of rows. A step decides the reply to its line, and there makes an edit, a
-//! `watch` or an `unwatch` that is accepted; it writes the reply to the sink that it is lent; and it settles what a tick moves.
+//! `watch` or an `unwatch` that is accepted; it writes the reply to the sink that it is lent; and it settles what a `show` or a tick
+//! found. Only a `show` of a fresh watch writes its kept answer at once.
 ghost use Rattle.std.specs.Prelude.{◌≡◌, ◌≢◌, ◌≤◌, [], IfOk, OnOk, OnErr, IsErrOf, IfSome, IsNone, IsOkAnd};
 ghost use Rattle.itpg_base.specs.Sinks.{Gets, GetsSome, GetsNothing, HasFailed, IsHonest};
-ghost use Rattle.itpg_session.specs.Replies.{Reply as PlainReply, Silent, reply_of, line_reply, IsReply, NamesDeclared};
-ghost use Rattle.itpg_session.specs.Texts.{text_of};
-ghost use Rattle.itpg_session.specs.Replies.{Rows};
-ghost use Rattle.itpg_session.specs.Keeping.{AddsText, KeepsText};
-ghost use Rattle.relation_rows.specs.Answered.{Answered};
 ghost use Rattle.edit_reader.specs.Readings.{reading_of, Shows};
-ghost use Rattle.relation_rows.specs.Answered.{answered};
+ghost use Rattle.relation_rows.specs.Answered.{Answered, answered};
 ghost use Rattle.itpg_session.specs.PlainWatches.{all_plain};
+ghost use Rattle.itpg_session.specs.Replies.{Reply as PlainReply, Silent, Rows, reply_of, line_reply, IsReply, NamesDeclared};
+ghost use Rattle.itpg_session.specs.Texts.{text_of};
 ghost use Rattle.itpg_session.specs.Machine.{opening, Replies, after};
-ghost use Rattle.itpg_session.specs.Keeping.{IsTableRight, AreWatchesRight};
-ghost use Rattle.itpg_session.specs.Steps.{StandsAs, IsAlike, Stepped, StepsWithin, Passed, LineWants, ForgetsLine, LeavesLine, ShowsFresh, ShowsKept, Suits};
+ghost use Rattle.itpg_session.specs.Keeping.{AddsText, KeepsText, IsTableRight, AreWatchesRight};
+ghost use Rattle.itpg_session.specs.Steps.{StandsAs, IsAlike, Stepped, StepsWithin, Passed, LineWants, KeepsFresh, ForgetsLine, LeavesLine, ShowsFresh, ShowsKept, Suits};
 
 use crate::asking::Asked;
 use crate::laws::law_of_asked;
@@ -32,7 +30,7 @@ use std::alloc::{AllocError, Global};
 use std::marker::Model;
 use thiserror::Error;
 
-/// Why a line wasn't answered. The session is as it was.
+/// Why a line wasn't answered. The graph and the watches are as they were, with their bases and their kept answers.
 #[derive(Clone, Copy, Debug, PartialEq, Eq, Drop, Error)]
 pub enum StepFault {
     /// Memory ran out. Nothing was written.
@@ -65,8 +63,8 @@ impl From<Failed> for StepFault {
     }
 }
 
-/// A graph, the watches on it, the plan nodes of what was asked, and the limits of what is kept: what the lines so far have
-/// left.
+/// A graph, the watches on it, the plan nodes of what was asked with the relations that are kept at them, and the limit of rows: what
+/// the lines so far have left.
 ///
 /// ```text
 ///     line 1   graph g 0 100         nothing is written
@@ -79,7 +77,8 @@ impl From<Failed> for StepFault {
 ///                                    + a 0..9
 /// ```
 ///
-/// A contract sees it as a standing machine: the plain machine and its limit of rows.
+/// A contract sees it as a standing machine: the plain machine and its limit of rows, and beside it what is kept, which is right on the
+/// graph as it stands.
 #[derive(Drop)]
 pub struct Session {
     pub(crate) graph: Graph,
@@ -148,8 +147,8 @@ impl Session {
         &self.plans
     }
 
-    /// The reply to a question with this query text, as a value. The session stays as it is, but for the plan nodes that it
-    /// has for later questions.
+    /// The reply to a question with this query text, as a value. The session stays as it is, but for the plan nodes and the
+    /// relations that it keeps for later questions.
     ///
     /// ```text
     ///     MATCH (x:Person)              Rows: the moments at which each of them exists
@@ -185,10 +184,12 @@ impl Session {
     /// # Errors
     ///
     /// `Memory` if memory runs out: never for a blank line, a comment, a line that has a fault of its own, an edit that is
-    /// refused, `graph`, `drop`, `unwatch`, or a `show` or a `tick` that is refused. `Write` if the sink failed.
+    /// refused, `graph`, `drop`, `unwatch`, a `show` or a `tick` that is refused, or a `show` of a fresh watch. `Write` if the sink
+    /// failed. After either, relations that were worked out may be kept, and query plans may be added.
     pub fn step<K: Sink>(&mut self, no: u64, line: &[u8], out: &mut K) -> Result<Seen, StepFault>
         ensures stepped { IfOk result (λ seen. Stepped K.Sink out.old out.new (Replies self.old.limit self.old.machine line.now) no self.old self.new seen) }
         ensures alike { OnErr result (IsAlike self.old self.new) }
+        ensures keeps { OnOk result (KeepsFresh self.old self.new) }
         ensures forgets { OnOk result (ForgetsLine line.now self.old self.new) }
         ensures table { LeavesLine line.now self.old self.new }
         ensures memory { IsErrOf result StepFault.Memory → GetsNothing K.Sink out.old out.new }

@@ -1,5 +1,5 @@
 //! A tick: what it finds of each watch, what it writes of it, and the bases after it.
-ghost use Rattle.std.specs.Prelude.{◌≡◌, ◌<◌, length, map, slice_get, Bool, true, false, IfOk, OnOk, OnErr, IsErrOf, Some, IsSome, IsSomeAnd};
+ghost use Rattle.std.specs.Prelude.{◌≡◌, ◌<◌, ◌⊎◌, length, map, slice_get, Bool, true, false, IfOk, OnOk, OnErr, IsErrOf, Some, IsSome, IsSomeAnd};
 ghost use Rattle.std.specs.List.{list_any};
 ghost use Rattle.itpg_base.specs.Graphs.{changed_at};
 ghost use Rattle.standing_queries.specs.Watches.{IsOfKind};
@@ -8,7 +8,7 @@ ghost use Rattle.relation_rows.specs.Answered.{answered};
 ghost use Rattle.row_printer.specs.Texts.{AreDeclared};
 ghost use Rattle.itpg_session.specs.Questions.{IsTooWide, HasAnswer};
 ghost use Rattle.itpg_session.specs.PlainWatches.{plain, all_plain};
-ghost use Rattle.itpg_session.specs.Keeping.{IsKeptRight, IsTableRight, IsWorked};
+ghost use Rattle.itpg_session.specs.Keeping.{IsKeptRight, IsTableRight, IsWorked, KeepsPath, KeepsTicked, KeepAllTicked};
 ghost use Rattle.itpg_session.specs.Ticks.{ticked_of, IsTicked, AreTicked, stays_wide, settled_at, all_settled};
 ghost use Rattle.itpg_session.specs.Texts.{changes_text, ticked_text, tick_text};
 ghost use Rattle.itpg_session.specs.Watching.{IsTickDeclared, AreTicksDeclared, IsMoveOfKind, AreMovesOfKind};
@@ -92,6 +92,7 @@ pub(crate) fn tick_all(
     ensures found { IfOk result (λ found. AreTicked graph.now max_rows (all_plain watches.now) (map ticked_of found.items)) }
     ensures still_right { IsTableRight graph.now max_rows plans.new }
     ensures worked { IsWorked plans.old plans.new }
+    ensures keeps { IfOk result (λ found. KeepAllTicked graph.now plans.new (all_plain watches.now) (map ticked_of found.items)) }
 {
     let mut found = Vec::new(alloc);
     for place in 0..watches.len() {
@@ -115,6 +116,7 @@ fn tick_one(
     ensures found { IfOk result (λ found. IsSomeAnd (slice_get watches.now place) (λ w. IsTicked graph.now max_rows (plain w) (ticked_of found))) }
     ensures still_right { IsTableRight graph.now max_rows plans.new }
     ensures worked { IsWorked plans.old plans.new }
+    ensures keeps { IfOk result (λ found. IsSomeAnd (slice_get watches.now place) (λ w. KeepsTicked graph.now plans.new (plain w) (ticked_of found))) }
 {
     let name = watches.name(place);
     match answer_now(alloc, graph, plans, max_rows, watches, place) {
@@ -144,6 +146,7 @@ fn answer_now(
     ensures wide { IsErrOf result EvalFault.Wide → IsSomeAnd (slice_get watches.now place) (λ w. IsTooWide graph.now max_rows w.query) }
     ensures still_right { IsTableRight graph.now max_rows plans.new }
     ensures worked { IsWorked plans.old plans.new }
+    ensures keeps { IfOk result (λ _. IsSomeAnd (slice_get watches.now place) (λ w. ((plain w).fresh ≡ true) ⊎ KeepsPath graph.now w.query.path plans.new)) }
 {
     match watches.kept(place) {
         Some(answer) => Ok(answer.copy()?),

@@ -1,7 +1,7 @@
 use Rattle.std.proofs.Common.{map, take}
 use Rattle.itpg_session.specs.PlainWatches.{all_plain}
 use Rattle.itpg_session.specs.Ticks.{ticked_of, AreTicked}
-use Rattle.itpg_session.specs.Keeping.{IsTableRight, IsWorked}
+use Rattle.itpg_session.specs.Keeping.{IsTableRight, IsWorked, KeepAllTicked}
 use Rattle.itpg_session.proofs.ticking.tick_all.Given as goal
 
 abbrev pub invariant-loop-place : goal.invariant-loop-place
@@ -9,4 +9,5 @@ invariant-loop-place l = record {
   found : AreTicked l.graph l.max_rows (take l.place (all_plain l.watches)) (map ticked_of l.found.items);
   still_right : IsTableRight l.graph l.max_rows l.plans;
   worked : IsWorked l.initial.plans l.plans;
+  keeps : KeepAllTicked l.graph l.plans (take l.place (all_plain l.watches)) (map ticked_of l.found.items);
 }

@@ -45,3 +45,6 @@ returns-in-Err-clause-forgets c = λ edit is unbroken. let read = subst (λ r. r
 
 pub returns-in-Err-clause-table : goal.returns-in-Err-clause-table
 returns-in-Err-clause-table c = rw (c.in-Err.is) refl
+
+pub returns-in-Ok-clause-keeps : goal.returns-in-Ok-clause-keeps
+returns-in-Ok-clause-keeps c = c.decide_read.ensures.keeps

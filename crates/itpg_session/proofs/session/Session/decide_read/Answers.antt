@@ -1,9 +1,10 @@
 use Rattle.std.proofs.Common.{◌≡◌, refl, sym, subst}
 use Rattle.itpg_edit.specs.declared.edit.Edit.{Edit}
 use Rattle.itpg_edit.specs.Rules.{Unbroken}
-use Rattle.edit_reader.specs.Readings.{Changes, reading_of}
+use Rattle.edit_reader.specs.Readings.{Changes, Watches, reading_of}
 use Rattle.itpg_session.specs.Steps.{ForgetsEdit}
 use Rattle.itpg_session.proofs.Written.{on_ok}
+use Rattle.itpg_session.proofs.KeptFresh.{decided_keeps, one_keeps, asked_keeps}
 use Rattle.itpg_session.specs.Replies.{Silent, reply_of}
 use Rattle.itpg_session.proofs.Answering.{blank_answers, asks_answers, asked_asks, watches_answers, shows_answers, unwatches_answers, ticks_answers}
 use Rattle.itpg_session.proofs.Told.{decided_as, decides_as, said, said_alike}
@@ -60,3 +61,26 @@ returns-in_ok-ask-in-Ask-clause-table c = rw (c.in-Ask.is) c.ask.ensures.adds
 
 pub returns-in_err-ask-in-Ask-clause-table : goal.returns-in_err-ask-in-Ask-clause-table
 returns-in_err-ask-in-Ask-clause-table c = rw (c.in-Ask.is) c.ask.ensures.adds
+
+pub returns-in-Edit-clause-keeps : goal.returns-in-Edit-clause-keeps
+returns-in-Edit-clause-keeps c = decided_keeps _ (Changes c.in-Edit.edit) tt c.args.self.now c.edit.new.self c.edit.result c.edit.ensures.decides
+
+pub returns-in-Watch-clause-keeps : goal.returns-in-Watch-clause-keeps
+returns-in-Watch-clause-keeps c =
+    let m = c.args.self.now.machine in
+    decided_keeps _ (Watches _ _) tt c.args.self.now c.watch.new.self c.watch.result
+    (decides_as c.args.self.now c.watch.new.self (watches_answers c.args.self.now.limit m _ _) (λ u. u) c.watch.result c.watch.ensures.decides)
+
+pub returns-in-Unwatch-clause-keeps : goal.returns-in-Unwatch-clause-keeps
+returns-in-Unwatch-clause-keeps c =
+    one_keeps _ tt c.args.self.now c.unwatch.new.self _ (decided_as c.args.self.now c.unwatch.new.self (unwatches_answers c.args.self.now.limit c.args.self.now.machine _) _ c.unwatch.ensures.decides)
+
+pub returns-in_ok-ask-in-Ask-clause-keeps : goal.returns-in_ok-ask-in-Ask-clause-keeps
+returns-in_ok-ask-in-Ask-clause-keeps c =
+    rw (c.from.ensures) (asked_keeps _ _ c.ask.new.self _ _ c.in_ok-ask-in-Ask.ensures.reply)
+
+pub returns-in-Show-clause-keeps : goal.returns-in-Show-clause-keeps
+returns-in-Show-clause-keeps c = c.show.ensures.keeps
+
+pub returns-in-Tick-clause-keeps : goal.returns-in-Tick-clause-keeps
+returns-in-Tick-clause-keeps c = c.tick.ensures.keeps

@@ -4,9 +4,11 @@ use Rattle.path_ast.specs.Terms.{query_term}
 use Rattle.relation_rows.specs.Answered.{Answered, answered}
 use Rattle.itpg_session.specs.Questions.{IsTooWide, HasAnswer}
 use Rattle.itpg_session.specs.Replies.{FindsFor}
-use Rattle.itpg_session.specs.Keeping.{IsWorked}
+use Rattle.itpg_session.specs.PlainWatches.{all_plain}
+use Rattle.itpg_session.specs.Keeping.{IsWorked, KeepsPath, KeepsFound}
 use Rattle.itpg_session.specs.Machine.{Standing}
 use Rattle.itpg_session.proofs.Found.{planned_at}
+use Rattle.itpg_session.proofs.KeptFresh.{query_at}
 use Rattle.itpg_session.proofs.Settled.{found_at, worked_alike}
 use Rattle.itpg_session.proofs.session.Session.find_at.Goals as goal
 use Rattle.itpg_session.proofs.session.Session.find_at.Goals.{in-Ok, in-Err-Wide, in-Err-Memory}
@@ -33,3 +35,17 @@ returns-clause-alike c = worked_alike c.self.inside.graph c.self.inside.limits c
 
 pub returns-clause-worked : goal.returns-clause-worked
 returns-clause-worked c = subst (λ (s : Standing). IsWorked s.table c.find.new.plans) c.self.view_is c.find.ensures.worked
+
+pub returns-clause-keeps : goal.returns-clause-keeps
+returns-clause-keeps c =
+    let g = c.self.inside.graph in
+    let q = query_term c.query.result.now in
+    let table = c.find.new.plans in
+    let there : (found : Option Answered) → IsSomeAnd (slice_get (all_plain c.self.inside.watches) c.args.place) (λ w. KeepsFound g table w found)
+    → IsSomeAnd (slice_get c.args.self.now.machine.watches c.args.place) (λ w. KeepsFound c.args.self.now.machine.graph table w found) =
+    λ found keeps. subst (λ (s : Standing). IsSomeAnd (slice_get s.machine.watches c.args.place) (λ w. KeepsFound s.machine.graph table w found)) c.self.view_is keeps in
+    elim c.match-find.branch [
+      | in-Ok w ↦ rw (w.result-is) (there (Some (answered w.in-Ok.answer)) (query_at (λ r. KeepsPath g r.path table) c.self.inside.watches c.args.place q c.query.ensures.query w.in-Ok.ensures.keeps))
+      | in-Err-Wide w ↦ rw (w.result-is) (there None (query_at (λ r. Unit {0}) c.self.inside.watches c.args.place q c.query.ensures.query tt))
+      | in-Err-Memory w ↦ rw (w.result-is) tt
+    ]

@@ -1,4 +1,4 @@
-use Rattle.std.proofs.Common.{◌≡◌, refl, inr, subst}
+use Rattle.std.proofs.Common.{◌≡◌, refl, inr, sym, subst}
 use Rattle.std.proofs.lemmas.Result.{err_from_is_err_and}
 use Rattle.std.specs.Prelude.{slice_get, option_map, IsSomeAnd}
 use Rattle.itpg_edit.specs.Rules.{NoneOf, FirstOf}
@@ -6,7 +6,8 @@ use Rattle.relation_rows.specs.Answered.{answered}
 use Rattle.itpg_session.specs.PlainWatches.{PlainWatch}
 use Rattle.itpg_session.specs.Rules.{NameBreaks, name_rules}
 use Rattle.itpg_session.specs.Replies.{Refused, Shown}
-use Rattle.itpg_session.specs.Machine.{Standing, ShowsWatch}
+use Rattle.itpg_session.specs.Keeping.{KeepsFound}
+use Rattle.itpg_session.specs.Machine.{Machine, Standing, ShowsWatch}
 use Rattle.itpg_session.proofs.Answering.{refusal}
 use Rattle.itpg_session.proofs.Watching.{watch_at, of_watch}
 use Rattle.itpg_session.proofs.Told.{said, said_alike}
@@ -45,3 +46,8 @@ returns-in-Err-clause-decides c =
 
 pub returns-in-Err-clause-table : goal.returns-in-Err-clause-table
 returns-in-Err-clause-table c = worked_none c.args.self.now.table
+
+pub returns-in_ok-find_at-in-Ok-clause-keeps : goal.returns-in_ok-find_at-in-Ok-clause-keeps
+returns-in_ok-find_at-in-Ok-clause-keeps c =
+    let found = option_map answered c.in_ok-find_at-in-Ok.field-0 in
+    subst (λ (m : Machine). IsSomeAnd (slice_get m.watches c.in-Ok.place) (λ w. KeepsFound m.graph c.find_at.new.self.table w found)) (sym c.in_ok-find_at-in-Ok.ensures.alike.machine) c.in_ok-find_at-in-Ok.ensures.keeps

@@ -9,6 +9,7 @@ use Rattle.itpg_session.proofs.Planned.{alike_same}
 use Rattle.itpg_session.proofs.Told.{rows_seen}
 use Rattle.itpg_session.specs.Replies.{line_reply}
 use Rattle.itpg_session.proofs.Stepping.{kept_line}
+use Rattle.itpg_session.proofs.KeptFresh.{fresh_same, step_fresh}
 use Rattle.itpg_session.proofs.Leaving.{line_leaves, kept_forgets, line_so, line_settled, forgets_settled}
 use Rattle.itpg_session.proofs.session.Session.step.Goals as goal
 
@@ -65,3 +66,9 @@ returns-clause-forgets g c =
 pub returns-clause-table : goal.returns-clause-table
 returns-clause-table g c =
     line_settled c.args.line.now _ c.args.self.now c.decide.new.self c.settle.new.self (line_reply c.in_ok-reply.reply) _ c.read_line.ensures.only c.settle.ensures.table c.settle.ensures.stands c.decide.ensures.table
+
+pub returns-in-Some-clause-keeps : goal.returns-in-Some-clause-keeps
+returns-in-Some-clause-keeps g c = fresh_same c.args.self.now
+
+pub returns-clause-keeps : goal.returns-clause-keeps
+returns-clause-keeps g c = step_fresh _ c.args.self.now c.decide.new.self c.settle.new.self (line_reply c.in_ok-reply.reply) _ c.in_ok-reply.ensures.decides c.in_ok-reply.ensures.keeps c.settle.ensures.table c.settle.ensures.stands
