@@ -126,8 +126,8 @@ pub worked_none : (table : Table) → IsWorked table table
 worked_none table = record { nodes = refl; stays = λ k rows is. is }
 
 -- nothing else changes after a path was added
-pub adds_then : (p : PathTerm) (old table new : Table) → new ≡ table → AddsOrRenews p old table → AddsOrRenews p old new
-adds_then p old table new is adds = subst (AddsOrRenews p old) (sym is) adds
+pub adds_then : (p : PathTerm) (ws : List PlainWatch) (old table new : Table) → new ≡ table → AddsOrRenews p ws old table → AddsOrRenews p ws old new
+adds_then p ws old table new is adds = subst (AddsOrRenews p ws old) (sym is) adds
 
 -- ---- what is kept stays right
 

@@ -15,7 +15,8 @@ use Rattle.plan_cache.specs.KeptRows.{AddsFree, Stays}
 use Rattle.path_eval.specs.Keeping.{KeptOrFull, KeepsReached}
 use Rattle.itpg_session.specs.declared.asking.Asked.{Asked}
 use Rattle.itpg_session.specs.Replies.{Rows, reply_of}
-use Rattle.itpg_session.specs.Keeping.{IsWorked, AddsPath, AddsOrRenews, KeepsPath}
+use Rattle.itpg_session.specs.PlainWatches.{PlainWatch}
+use Rattle.itpg_session.specs.Keeping.{IsWorked, AddsPath, IsRootOf, AddsOrRenews, KeepsPath}
 use Rattle.itpg_session.proofs.Accepting.{adds_none}
 
 free_stays : (old new : List Kept) → AddsFree old new → Stays old new
@@ -32,9 +33,12 @@ adds_path p old new (Ok number) node only grows free same = record {
 adds_path p old new (Err e) node only grows free same = subst (AddsPath p old) (sym same) (adds_none p old)
 
 -- relations are worked out after it
-pub adds_worked : (p : PathTerm) (old mid new : Table) → AddsOrRenews p old mid → IsWorked mid new → AddsOrRenews p old new
-adds_worked p old mid new (inr full) worked = inr full
-adds_worked p old mid new (inl adds) worked = inl (record {
+pub adds_worked : (p : PathTerm) (ws : List PlainWatch) (old mid new : Table) → AddsOrRenews p ws old mid → IsWorked mid new → AddsOrRenews p ws old new
+adds_worked p ws old mid new (inr anew) worked = inr (record {
+  short = anew.short;
+  under = subst (λ (nodes : List PlanNode). (k : ℕ) → k < length nodes → (root : ℕ) × IsRootOf nodes p ws root × IsUnder nodes (root ∷ []) k) (sym worked.nodes) anew.under;
+})
+adds_worked p ws old mid new (inl adds) worked = inl (record {
   grows = subst (λ (nodes : List PlanNode). Grows (path_size p) old.nodes nodes) (sym worked.nodes) adds.grows;
   under = subst (λ (nodes : List PlanNode). (k : ℕ) → length old.nodes ≤ k → k < length nodes → (root : ℕ) × IsNodeOf nodes root (narrowed_member p All All) × IsUnder nodes (root ∷ []) k) (sym worked.nodes) adds.under;
   stays = λ k rows at. worked.stays k rows (adds.stays k rows at);

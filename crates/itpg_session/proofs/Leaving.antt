@@ -69,8 +69,8 @@ module _ (old mid new : Standing) (table : new.table ≡ mid.table) (graph : new
   reading_on Nothing a = table ∙ a
   reading_on (Changes edit) (inl a) = inl (forgets_on edit a)
   reading_on (Changes edit) (inr a) = inr (table ∙ a)
-  reading_on (Asks text) a = subst (AddsText text old.table) (sym table) a
-  reading_on (Watches name text) a = subst (AddsText text old.table) (sym table) a
+  reading_on (Asks text) a = subst (AddsText text old.machine.watches old.table) (sym table) a
+  reading_on (Watches name text) a = subst (AddsText text old.machine.watches old.table) (sym table) a
   reading_on (Shows name) a = subst (IsWorked old.table) (sym table) a
   reading_on (Unwatches name) a = table ∙ a
   reading_on Ticks a = subst (IsWorked old.table) (sym table) a

@@ -20,6 +20,7 @@ pub mod Untouched
 pub mod Plain
 pub mod Lasting
 pub mod Planned
+pub mod Anew
 pub mod Adding
 pub mod Found
 pub mod Settled

@@ -59,13 +59,31 @@ pub record AddsPath (p : PathTerm) (old new : Table) : Type 0 where
   pub under : (k : ℕ) → length old.nodes ≤ k → k < length new.nodes → (root : ℕ) × IsNodeOf new.nodes root (narrowed_member p All All) × IsUnder new.nodes (root ∷ []) k
   pub stays : Stays old.kept new.kept
 
--- so it is; or the table was made anew, since there may be no room for as many nodes as the path has terms
-abbrev pub AddsOrRenews : PathTerm → Table → Table → Type 0
-AddsOrRenews p old new = AddsPath p old new ⊎ (MAX_NODES < length old.nodes + path_size p)
+-- it is the node of the path of a watch's query, between all objects
+abbrev pub IsWatchRoot : List PlanNode → List PlainWatch → ℕ → Type 0
+IsWatchRoot nodes watches root = (w : PlainWatch) × Among watches w × IsNodeOf nodes root (narrowed_member w.query.path All All)
+
+-- it is the node of the path, or of that of a watch's query
+abbrev pub IsRootOf : List PlanNode → PathTerm → List PlainWatch → ℕ → Type 0
+IsRootOf nodes p watches root = IsNodeOf nodes root (narrowed_member p All All) ⊎ IsWatchRoot nodes watches root
+
+-- each node is under that of the path of a watch's query
+abbrev pub AreOfWatches : List PlainWatch → List PlanNode → Type 0
+AreOfWatches watches nodes = (k : ℕ) → k < length nodes → (root : ℕ) × IsWatchRoot nodes watches root × IsUnder nodes (root ∷ []) k
+
+-- the table was made anew, since there may be no room for as many nodes as the path has terms: each of its nodes is under that of the
+-- path, or of the path of a watch's query
+pub record IsMadeAnew (p : PathTerm) (watches : List PlainWatch) (old new : Table) : Type 0 where
+  pub short : MAX_NODES < length old.nodes + path_size p
+  pub under : (k : ℕ) → k < length new.nodes → (root : ℕ) × IsRootOf new.nodes p watches root × IsUnder new.nodes (root ∷ []) k
+
+-- the nodes of the path are added, or the table was made anew
+abbrev pub AddsOrRenews : PathTerm → List PlainWatch → Table → Table → Type 0
+AddsOrRenews p watches old new = AddsPath p old new ⊎ IsMadeAnew p watches old new
 
 -- so it is with the path of the query that the text reads as; or nothing changes
-abbrev pub AddsText : List ℕ → Table → Table → Type 0
-AddsText text old new = ((q : QueryTerm) × Reads text q × AddsOrRenews q.path old new) ⊎ (new ≡ old)
+abbrev pub AddsText : List ℕ → List PlainWatch → Table → Table → Type 0
+AddsText text watches old new = ((q : QueryTerm) × Reads text q × AddsOrRenews q.path watches old new) ⊎ (new ≡ old)
 
 -- at the node of the path between all objects its relation is kept, or it is too large to be kept beside the others
 pub record KeepsPath (g : Graph) (p : PathTerm) (table : Table) : Type 0 where

@@ -73,8 +73,8 @@ pub record ForgetsEdit (edit : Edit) (old new : Standing) : Type 0 where
 -- what answering a line that asks for this leaves of the table
 abbrev pub LeavesTable : Reading → Standing → Standing → Type 0
 LeavesTable (Changes edit) old new = ForgetsEdit edit old new ⊎ (new.table ≡ old.table)
-LeavesTable (Asks text) old new = AddsText text old.table new.table
-LeavesTable (Watches name text) old new = AddsText text old.table new.table
+LeavesTable (Asks text) old new = AddsText text old.machine.watches old.table new.table
+LeavesTable (Watches name text) old new = AddsText text old.machine.watches old.table new.table
 LeavesTable (Shows name) old new = IsWorked old.table new.table
 LeavesTable Ticks old new = IsWorked old.table new.table
 LeavesTable reading old new = new.table ≡ old.table

@@ -36,7 +36,7 @@ impl Session {
     pub(crate) fn reply_to(&mut self, text: &[u8]) -> Result<Asked, AllocError>
         ensures reply { IfOk result (λ asked. IsReply self.old.machine.graph self.old.limit text.now (reply_of asked)) }
         ensures alike { IsAlike self.old self.new }
-        ensures adds { AddsText text.now self.old.table self.new.table }
+        ensures adds { AddsText text.now self.old.machine.watches self.old.table self.new.table }
         ensures keeps { IfOk result (λ asked. (answer : Answered) → reply_of asked ≡ Rows answer → KeepsText self.new.machine.graph text.now self.new.table) }
     {
         law_of_queries();
@@ -54,7 +54,7 @@ impl Session {
         requires ends { IsTrue (query.now.first || query.now.last) }
         ensures reply { IfOk result (λ asked. IsReplyTo self.old.machine.graph self.old.limit (query_term query.now) (reply_of asked)) }
         ensures alike { IsAlike self.old self.new }
-        ensures adds { AddsOrRenews (path_term query.now.path) self.old.table self.new.table }
+        ensures adds { AddsOrRenews (path_term query.now.path) self.old.machine.watches self.old.table self.new.table }
         ensures keeps { IfOk result (λ asked. (answer : Answered) → reply_of asked ≡ Rows answer → KeepsPath self.new.machine.graph (path_term query.now.path) self.new.table) }
     {
         match broken_by_ask(&self.graph, query) {
@@ -71,7 +71,7 @@ impl Session {
         requires ends { IsTrue (query.now.first || query.now.last) }
         ensures found { IfOk result (λ asked. IsFound self.old.machine.graph self.old.limit (query_term query.now) (reply_of asked)) }
         ensures alike { IsAlike self.old self.new }
-        ensures adds { AddsOrRenews (path_term query.now.path) self.old.table self.new.table }
+        ensures adds { AddsOrRenews (path_term query.now.path) self.old.machine.watches self.old.table self.new.table }
         ensures keeps { IfOk result (λ asked. (answer : Answered) → reply_of asked ≡ Rows answer → KeepsPath self.new.machine.graph (path_term query.now.path) self.new.table) }
     {
         let no = self.planned(query)?;

@@ -93,7 +93,7 @@ impl Session {
     // Watches the query of a text from now on.
     fn watch(&mut self, name: Name, text: &[u8]) -> Result<Reply, AllocError>
         ensures decides { Decides (WatchesText self.old.machine name text.now) (Unit {0}) self.old self.new result }
-        ensures adds { AddsText text.now self.old.table self.new.table }
+        ensures adds { AddsText text.now self.old.machine.watches self.old.table self.new.table }
     {
         match read_query(self.alloc, text) {
             Ok(query) => self.watch_query(name, query),
@@ -108,7 +108,7 @@ impl Session {
         requires terms { path_size (path_term query.path) ≤ MAX_TERMS }
         requires ends { IsTrue (query.first || query.last) }
         ensures decides { Decides (WatchesQuery self.old.machine name (query_term query)) (Unit {0}) self.old self.new result }
-        ensures adds { AddsOrRenews (path_term query.path) self.old.table self.new.table }
+        ensures adds { AddsOrRenews (path_term query.path) self.old.machine.watches self.old.table self.new.table }
     {
         match broken_by_watch(&self.graph, &self.watches, &name, &query) {
             Some(rule) => Ok(Reply::Refused(rule)),
@@ -123,7 +123,7 @@ impl Session {
         requires ends { IsTrue (query.first || query.last) }
         requires unbroken { NoneOf (WatchBreaks self.old.machine.graph self.old.machine.watches name (query_term query)) watch_rules }
         ensures decides { Decides (WatchesQuery self.old.machine name (query_term query)) (Unit {0}) self.old self.new result }
-        ensures adds { AddsOrRenews (path_term query.path) self.old.table self.new.table }
+        ensures adds { AddsOrRenews (path_term query.path) self.old.machine.watches self.old.table self.new.table }
     {
         let no = self.planned(&query)?;
         self.add_planned(name, query, no)

@@ -1,13 +1,14 @@
 //! The plan nodes of queries, and a table of plans that is made anew where there may be no room for one more.
-ghost use Rattle.std.specs.Prelude.{◌≡◌, ◌+◌, ◌≤◌, [], length, IfOk, OnOk};
+ghost use Rattle.std.specs.Prelude.{◌≡◌, ◌+◌, ◌≤◌, [], length, IfOk, OnOk, OnErr};
 ghost use Rattle.path_ast.specs.Terms.{path_term};
 ghost use Rattle.path_ast.specs.Sizes.{path_size, IsPathInRange};
 ghost use Rattle.path_ast.specs.declared.counts.TheConstants.{MAX_TERMS};
 ghost use Rattle.label_scope.specs.declared.scope.Scope.TheVariants.{All};
 ghost use Rattle.plan_cache.specs.Nodes.{IsNodeOf, narrowed_member};
 ghost use Rattle.plan_cache.specs.declared.nodes.TheConstants.{MAX_NODES as most_nodes};
+ghost use Rattle.itpg_session.specs.PlainWatches.{all_plain};
 ghost use Rattle.itpg_session.specs.Steps.{IsAlike};
-ghost use Rattle.itpg_session.specs.Keeping.{AddsPath, AddsOrRenews};
+ghost use Rattle.itpg_session.specs.Keeping.{AddsPath, AddsOrRenews, AreOfWatches};
 ghost use Rattle.itpg_session.specs.Planning.{ArePlansOf, with_plans, KeepsNothing};
 
 use crate::session::Session;
@@ -23,7 +24,7 @@ impl Session {
         requires terms { path_size (path_term query.now.path) ≤ MAX_TERMS }
         ensures node { IfOk result (λ no. IsNodeOf self.new.table.nodes no.0 (narrowed_member (path_term query.now.path) All All)) }
         ensures alike { IsAlike self.old self.new }
-        ensures adds { AddsOrRenews (path_term query.now.path) self.old.table self.new.table }
+        ensures adds { AddsOrRenews (path_term query.now.path) self.old.machine.watches self.old.table self.new.table }
     {
         if terms(&query.path) > (MAX_NODES - self.plans.len()) as usize {
             self.renew()?;
@@ -45,6 +46,8 @@ impl Session {
     // Makes the table of plans anew, of the watches' queries alone. No relation is kept in it.
     fn renew(&mut self) -> Result<(), AllocError>
         ensures room { OnOk result (length self.new.table.nodes + MAX_TERMS ≤ most_nodes) }
+        ensures anew { OnOk result (AreOfWatches self.old.machine.watches self.new.table.nodes) }
+        ensures same { OnErr result (self.new.table ≡ self.old.table) }
         ensures alike { IsAlike self.old self.new }
     {
         let mut plans = Plans::new(self.alloc);
@@ -65,6 +68,7 @@ fn intern_all(
     requires free { plans.old.kept ≡ [] }
     ensures plans { IfOk result (λ numbers. ArePlansOf plans.new.nodes watches.now numbers.items) }
     ensures room { OnOk result (length plans.new.nodes + MAX_TERMS ≤ most_nodes) }
+    ensures anew { OnOk result (AreOfWatches (all_plain watches.now) plans.new.nodes) }
     ensures free { OnOk result (KeepsNothing plans.new.kept) }
 {
     let mut numbers = Vec::new(alloc);

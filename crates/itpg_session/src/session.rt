@@ -170,7 +170,7 @@ impl Session {
         ensures only { IfOk result (λ asked. (reply : PlainReply) → IsReply self.old.machine.graph self.old.limit text.now reply → reply_of asked ≡ reply) }
         ensures declared { IfOk result (λ asked. NamesDeclared self.old.machine.graph (reply_of asked)) }
         ensures alike { IsAlike self.old self.new }
-        ensures adds { AddsText text.now self.old.table self.new.table }
+        ensures adds { AddsText text.now self.old.machine.watches self.old.table self.new.table }
         ensures keeps { IfOk result (λ asked. (answer : Answered) → reply_of asked ≡ Rows answer → KeepsText self.new.machine.graph text.now self.new.table) }
     {
         law_of_asked();

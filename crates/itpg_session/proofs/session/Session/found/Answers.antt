@@ -8,5 +8,5 @@ use Rattle.itpg_session.proofs.session.Session.found.Goals as goal
 pub returns-clause-adds : goal.returns-clause-adds
 returns-clause-adds c =
     let p = path_term c.args.query.now.path in
-    let planned = subst (λ (s : Standing). AddsOrRenews p c.args.self.now.table s.table) (sym c.self.view_is) c.in_ok-no.ensures.adds in
-    adds_worked p c.args.self.now.table c.self.inside.plans c.find.new.plans planned c.find.ensures.worked
+    let planned = subst (λ (s : Standing). AddsOrRenews p c.args.self.now.machine.watches c.args.self.now.table s.table) (sym c.self.view_is) c.in_ok-no.ensures.adds in
+    adds_worked p c.args.self.now.machine.watches c.args.self.now.table c.self.inside.plans c.find.new.plans planned c.find.ensures.worked

@@ -3,7 +3,7 @@ use Rattle.standing_queries.specs.Watches.{Watch}
 use Rattle.itpg_session.specs.PlainWatches.{PlainWatch}
 use Rattle.itpg_session.specs.Machine.{Machine, Standing}
 use Rattle.itpg_session.specs.Steps.{IsAlike}
-use Rattle.itpg_session.specs.Keeping.{AreReplanned, IsKeptRight}
+use Rattle.itpg_session.specs.Keeping.{AreReplanned, IsKeptRight, AreOfWatches}
 use Rattle.itpg_session.specs.Planning.{with_plans}
 use Rattle.itpg_session.specs.contracts.session.Session.{the_view}
 use Rattle.itpg_session.proofs.Plain.{plain_replanned}
@@ -33,3 +33,6 @@ returns-clause-alike c =
       limit = refl;
       watches = replanned;
     })
+
+pub returns-clause-anew : goal.returns-clause-anew
+returns-clause-anew c = subst (λ (s : Standing). AreOfWatches s.machine.watches c.intern_all.new.plans.nodes) c.self.view_is c.in_ok-numbers.ensures.anew
