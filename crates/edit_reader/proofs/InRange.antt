@@ -36,6 +36,7 @@ same_moments {a = a} {b = b} e moments = let same : a ≡ b = cc in subst AsksOf
 
 form_moments : (text : ℕ → List ℕ) (command : Command) (parts : List Lexeme) (reading : Reading) → form text command parts ≡ Some reading → ¬ HasFarNumber (before_query command parts) → AsksOfMoments reading
 form_moments text Command.Graph (AWord name ∷ ANumber a ∷ ANumber b ∷ []) reading e none = same_moments e (two_there a b none)
+form_moments text Command.Extend (ANumber a ∷ ANumber b ∷ []) reading e none = same_moments e (two_there a b none)
 form_moments text Command.Node (AWord id ∷ AWord label ∷ []) reading e none = same_moments e tt
 form_moments text Command.Edge (AWord id ∷ AWord label ∷ AWord source ∷ AWord target ∷ []) reading e none = same_moments e tt
 form_moments text Command.Live (AWord id ∷ ANumber a ∷ ANumber b ∷ []) reading e none = same_moments e (two_there a b none)
@@ -78,6 +79,7 @@ one_label label = record { some = omega arith; few = omega arith; rising = (tt, 
 
 form_labels : (text : ℕ → List ℕ) (command : Command) (parts : List Lexeme) (reading : Reading) → form text command parts ≡ Some reading → AsksForLabels reading
 form_labels text Command.Graph (AWord name ∷ ANumber a ∷ ANumber b ∷ []) reading e = same_labels e tt
+form_labels text Command.Extend (ANumber a ∷ ANumber b ∷ []) reading e = same_labels e tt
 form_labels text Command.Node (AWord id ∷ AWord label ∷ []) reading e = same_labels e (one_label label)
 form_labels text Command.Edge (AWord id ∷ AWord label ∷ AWord source ∷ AWord target ∷ []) reading e = same_labels e (one_label label)
 form_labels text Command.Live (AWord id ∷ ANumber a ∷ ANumber b ∷ []) reading e = same_labels e tt

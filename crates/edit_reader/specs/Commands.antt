@@ -1,4 +1,4 @@
--- The thirteen command words.
+-- The fourteen command words.
 use Rattle.std.specs.Prelude.{ℕ, nat_eq, List, [], ◌∷◌, codes, Option, None}
 use Rattle.std.specs.Cmp.Lexicographic.{pointwise}
 use Rattle.std.specs.List.{find}
@@ -8,6 +8,7 @@ use Rattle.edit_reader.specs.declared.command.Command.{Command}
 -- the word of each command, in lower case
 abbrev pub command_word : Command → List ℕ
 command_word Command.Graph = codes "graph"
+command_word Command.Extend = codes "extend"
 command_word Command.Node = codes "node"
 command_word Command.Edge = codes "edge"
 command_word Command.Live = codes "live"
@@ -24,7 +25,7 @@ command_word Command.Tick = codes "tick"
 -- all commands
 abbrev pub commands : List Command
 commands =
-    Command.Live ∷ Command.Set ∷ Command.Node ∷ Command.Edge ∷ Command.Gone ∷ Command.Unset ∷ Command.Drop ∷ Command.Ask ∷ Command.Show ∷ Command.Tick ∷ Command.Watch ∷ Command.Unwatch ∷ Command.Graph ∷ []
+    Command.Live ∷ Command.Set ∷ Command.Node ∷ Command.Edge ∷ Command.Gone ∷ Command.Unset ∷ Command.Drop ∷ Command.Ask ∷ Command.Show ∷ Command.Tick ∷ Command.Watch ∷ Command.Unwatch ∷ Command.Extend ∷ Command.Graph ∷ []
 
 -- the command that has this word
 unfoldable pub command_of : List ℕ → Option Command

@@ -13,6 +13,7 @@ use Rattle.edit_reader.specs.Commands.{command_at}
 -- `text n` is the text of the line behind the token with the number n, where the command word has the number 0
 abbrev pub form : (ℕ → List ℕ) → Command → List Lexeme → Option Reading
 form text Command.Graph (AWord name ∷ ANumber lo ∷ ANumber hi ∷ []) = Some (Changes (Edit.Begin name (number_value lo) (number_value hi)))
+form text Command.Extend (ANumber lo ∷ ANumber hi ∷ []) = Some (Changes (Edit.Extend (number_value lo) (number_value hi)))
 form text Command.Node (AWord id ∷ AWord label ∷ []) = Some (Changes (Edit.AddNode id (label ∷ [])))
 form text Command.Edge (AWord id ∷ AWord label ∷ AWord source ∷ AWord target ∷ []) = Some (Changes (Edit.AddEdge id (label ∷ []) source target))
 form text Command.Live (AWord id ∷ ANumber from ∷ ANumber to ∷ []) = Some (Changes (Edit.Live id (number_value from) (number_value to)))

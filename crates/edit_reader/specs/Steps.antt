@@ -67,6 +67,9 @@ edge_names_then id label source target go_on = name_then id (λ a. name_then lab
 abbrev pub begin_told : List Lexeme → Told
 begin_told parts = name_and_span_then parts (λ name lo hi. Ok (Changes (Edit.Begin name lo hi)))
 
+abbrev pub extend_told : List Lexeme → Told
+extend_told parts = span_then parts (λ lo hi. Ok (Changes (Edit.Extend lo hi)))
+
 abbrev pub node_told : List Lexeme → Told
 node_told parts =
     word_then parts (λ id behind. word_then behind (λ label rest. end_then rest (name_then id (λ a. name_then label (λ b. Ok (Changes (Edit.AddNode a (b ∷ []))))))))

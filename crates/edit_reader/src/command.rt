@@ -5,6 +5,7 @@ ghost use Rattle.edit_reader.specs.Commands.{command_word, command_of};
 #[derive(Clone, Copy)]
 pub(crate) enum Command {
     Graph,
+    Extend,
     Node,
     Edge,
     Live,
@@ -20,7 +21,7 @@ pub(crate) enum Command {
 }
 
 // The words that scripts have most of stand first.
-const COMMANDS: [Command; 13] = [
+const COMMANDS: [Command; 14] = [
     Command::Live,
     Command::Set,
     Command::Node,
@@ -33,6 +34,7 @@ const COMMANDS: [Command; 13] = [
     Command::Tick,
     Command::Watch,
     Command::Unwatch,
+    Command::Extend,
     Command::Graph,
 ];
 
@@ -52,6 +54,7 @@ impl Command {
     {
         match self {
             Command::Graph => b"graph",
+            Command::Extend => b"extend",
             Command::Node => b"node",
             Command::Edge => b"edge",
             Command::Live => b"live",

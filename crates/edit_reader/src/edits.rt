@@ -1,5 +1,5 @@
 //! The lines that change the graph: what stands behind their command words.
-ghost use Rattle.edit_reader.specs.Steps.{begin_told, node_told, edge_told, live_told, gone_told, put_told, clear_told, remove_told};
+ghost use Rattle.edit_reader.specs.Steps.{begin_told, extend_told, node_told, edge_told, live_told, gone_told, put_told, clear_told, remove_told};
 ghost use Rattle.edit_reader.specs.Answers.{Tells};
 
 use crate::line::Line;
@@ -13,6 +13,14 @@ pub(crate) fn begin(parts: Parts<'_>) -> Result<Line<'_>, TextCode>
 {
     let (name, lo, hi) = parts.name_and_span()?;
     Ok(Line::Edit(Edit::Begin { name, lo, hi }))
+}
+
+// `LO HI`
+pub(crate) fn extend(parts: Parts<'_>) -> Result<Line<'_>, TextCode>
+    ensures { Tells parts.entry.line.now parts.entry.at extend_told result }
+{
+    let (lo, hi) = parts.span()?;
+    Ok(Line::Edit(Edit::Extend { lo, hi }))
 }
 
 // `ID LABEL`

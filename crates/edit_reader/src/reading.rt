@@ -11,7 +11,7 @@ ghost use Rattle.edit_reader.specs.Answers.{Tells};
 ghost use Rattle.edit_reader.specs.Taken.{OfRest};
 
 use crate::command::Command;
-use crate::edits::{begin, clear, edge, gone, live, node, put, remove};
+use crate::edits::{begin, clear, edge, extend, gone, live, node, put, remove};
 use crate::faults::{check_tokens, is_silent, without_end};
 use crate::line::Line;
 use crate::parts::{Parts, name};
@@ -82,6 +82,7 @@ fn read_command(command: Command, parts: Parts<'_>) -> Result<Line<'_>, TextCode
 {
     match command {
         Command::Graph => begin(parts),
+        Command::Extend => extend(parts),
         Command::Node => node(parts),
         Command::Edge => edge(parts),
         Command::Live => live(parts),

@@ -1,7 +1,7 @@
 -- The words of the rules that a line can break.
 use Rattle.std.specs.Prelude.{ℕ, List, codes}
 use Rattle.itpg_base.specs.declared.rule_code.RuleCode.{RuleCode}
-use Rattle.itpg_base.specs.declared.rule_code.RuleCode.TheVariants.{NoGraph, Again, Taken, Unknown, Kind, Backwards, Horizon, Ends, Absent, Held, Incident, Full, GraphName}
+use Rattle.itpg_base.specs.declared.rule_code.RuleCode.TheVariants.{NoGraph, Again, Taken, Unknown, Kind, Backwards, Horizon, Ends, Absent, Held, Incident, Full, GraphName, Narrow}
 
 -- the word of each rule
 abbrev pub rule_word : RuleCode → List ℕ
@@ -18,3 +18,4 @@ rule_word Held = codes "held"
 rule_word Incident = codes "incident"
 rule_word Full = codes "full"
 rule_word GraphName = codes "graphname"
+rule_word Narrow = codes "narrow"

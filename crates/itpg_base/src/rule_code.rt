@@ -31,6 +31,8 @@ pub enum RuleCode {
     Full,
     /// `ON` names another graph.
     GraphName,
+    /// Some moment of the old horizon is outside the new one.
+    Narrow,
 }
 
 impl RuleCode {
@@ -53,6 +55,7 @@ impl RuleCode {
             RuleCode::Incident => "incident",
             RuleCode::Full => "full",
             RuleCode::GraphName => "graphname",
+            RuleCode::Narrow => "narrow",
         }
     }
 }

@@ -5,7 +5,7 @@ use crate::name::Name;
 /// What an edit changes, as far as answers can depend on it. The labels are those of the edited object.
 #[derive(Clone, Copy)]
 pub enum Touch {
-    /// Everything: the graph was begun.
+    /// Everything: the graph was begun, or its horizon grew.
     All,
     /// Which objects stand: one with these labels was declared or dropped.
     Shape(LabelSet),

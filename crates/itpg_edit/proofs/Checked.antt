@@ -18,18 +18,14 @@ use Rattle.itpg_edit.specs.declared.edit.Edit.{Edit}
 use Rattle.itpg_edit.specs.declared.edit.Edit.TheVariants as edits
 use Rattle.itpg_edit.specs.declared.change.Site.{Site}
 use Rattle.itpg_edit.specs.declared.change.Change.{Change}
-use Rattle.itpg_edit.specs.declared.change.Change.TheVariants.{Begin, AddNode, AddEdge, Live, Gone, Put, Clear, Remove}
+use Rattle.itpg_edit.specs.declared.change.Change.TheVariants.{Begin, Widen, AddNode, AddEdge, Live, Gone, Put, Clear, Remove}
 use Rattle.itpg_edit.specs.Facts.{span_of, IsUnknown, LacksEnd, IsAbsent, IsHeld, AreManySpans, AreManyRuns, AreManyCut, HasNoPlace}
 use Rattle.itpg_edit.specs.Rules.{Breaks, NoneOf, FirstOf, Broken, Unbroken, NameBreaks, PlaceBreaks}
 use Rattle.itpg_edit.specs.Sites.{EndsExist, IsFree, IsThere}
 use Rattle.itpg_edit.specs.Changes.{IsNew, IsNamed, IsSite, IsAsked, IsPlaced, IsFound, Fits}
 use Rattle.itpg_edit.proofs.FirstOf.{first_after, none_after}
 use Rattle.itpg_graph.proofs.Asked.{into_horizon, out_of_horizon}
-use Rattle.itpg_edit.proofs.Moments.{begun_some}
-
-pub not_both : {X : Type 0} (o : Option X) → IsSome o → IsNone o → ⊥
-not_both None some none = let never : ⊥ = cc in never
-not_both (Some x) some none = let never : ⊥ = cc in never
+use Rattle.itpg_edit.proofs.Moments.{begun_some, not_both}
 
 pub named_stands : (g : Graph) (o : ℕ) (name : Word) → Named g o name → Stands g o
 named_stands g o name h = let t = there g.objects o _ h in here g.objects o _ t.0 t.1 t.2.0
@@ -40,6 +36,7 @@ placed g id site is = record { stands = named_stands g site.object.0 id is.objec
 
 pub found : (g : Graph) (edit : Edit) (change : Change) → IsAsked g edit change → IsFound g change
 found g edit (Begin name horizon) asked = asked.1
+found g edit (Widen horizon) asked = asked.1
 found g edit (AddNode id labels) asked = asked.1
 found g edit (AddEdge id labels source target) asked = (asked.3, named_stands g source.0 asked.0 asked.4.named, named_stands g target.0 asked.1 asked.5.named)
 found g edit (Live site) asked = placed g asked.0 site asked.2
@@ -215,6 +212,7 @@ remove_incident g id object is at =
 -- an edit whose change fits breaks no rule
 pub unbroken : (g : Graph) (edit : Edit) (change : Change) → IsAsked g edit change → Fits g change → Unbroken g edit
 unbroken g edit (Begin name horizon) asked fits = subst (Unbroken g) (sym asked.0) ((λ some. not_both g.begun some asked.1), ((λ lt. let le = asked.2 in omega (arith, ints)), tt))
+unbroken g edit (Widen horizon) asked fits = subst (Unbroken g) (sym asked.0) (not_both g.begun asked.1.begun, ((λ lt. let le = asked.1.ordered in omega (arith, ints)), ((λ l. l.outside (asked.1.whole l.moment l.within)), tt)))
 unbroken g edit (AddNode id labels) asked fits = subst (Unbroken g) (sym asked.0) (not_both g.begun asked.1.begun, (not_taken g id asked.1, ((λ many. omega arith), tt)))
 unbroken g edit (AddEdge id labels source target) asked fits = subst (Unbroken g) (sym asked.2) (edge_unbroken g id asked.3 labels asked.0 asked.1 source target asked.4 asked.5 fits.0 fits.1 fits.2)
 unbroken g edit (Live site) asked fits = subst (Unbroken g) (sym asked.1) (live_unbroken g asked.0 site asked.2 fits.0 fits.1)

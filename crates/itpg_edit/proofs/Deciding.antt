@@ -9,7 +9,7 @@ use Rattle.itpg_base.specs.Decided.{Decided}
 use Rattle.itpg_base.specs.Graphs.{Graph, Object, Property, Valued, Good, Named, Exists, Val, HasEnd, InHorizon, ObjectIs, AreFamilies, PropertiesHave, property_names}
 use Rattle.itpg_base.specs.declared.limits.TheConstants.{MAX_SPANS, MAX_PROPERTIES, MAX_OBJECTS}
 use Rattle.itpg_base.specs.declared.rule_code.RuleCode.{RuleCode}
-use Rattle.itpg_base.specs.declared.rule_code.RuleCode.TheVariants.{NoGraph, Again, Taken, Unknown, Kind, Backwards, Horizon, Ends as EndsRule, Absent, Held, Incident, Full, GraphName}
+use Rattle.itpg_base.specs.declared.rule_code.RuleCode.TheVariants.{NoGraph, Again, Taken, Unknown, Kind, Backwards, Horizon, Ends as EndsRule, Absent, Held, Incident, Full, GraphName, Narrow}
 use Rattle.itpg_base.proofs.Searches.{both, either, fails, as_well, at_most, before, is_true, if_some, same_word, same_number, some_below}
 use Rattle.itpg_base.proofs.Objects.{there, here}
 use Rattle.itpg_base.proofs.PointSearch.{there_below}
@@ -26,10 +26,11 @@ use Rattle.itpg_graph.proofs.Families.{InNames, has_name}
 use Rattle.itpg_graph.proofs.Kept.{exists_at, at_exists, val_at, at_val}
 use Rattle.itpg_graph.proofs.Asked.{alike_put, alike_clear}
 use Rattle.itpg_edit.specs.declared.edit.Edit.{Edit}
-use Rattle.itpg_edit.specs.declared.edit.Edit.TheVariants.{Begin, AddNode, AddEdge, Live, Gone, Put, Clear, Remove}
+use Rattle.itpg_edit.specs.declared.edit.Edit.TheVariants.{Begin, Extend, AddNode, AddEdge, Live, Gone, Put, Clear, Remove}
 use Rattle.itpg_edit.specs.Facts.{span_of, IsTaken, IsUnknown, IsEdge, LeavesHorizon, LacksEnd, IsAbsent, IsHeld, IsIncident, AreManySpans, AreManyRuns, HasNoPlace}
 use Rattle.itpg_edit.specs.Rules.{Breaks, rules_of, Broken, Unbroken}
 use Rattle.itpg_edit.proofs.FirstOf.{first_or_none}
+use Rattle.itpg_edit.proofs.Widening.{decide_loses}
 use Rattle.itpg_edit.proofs.Moments.{some_moment, decide_exists, alike_joined}
 
 decide_some : {X : Type 0} (o : Option X) → Decided (IsSome o)
@@ -254,6 +255,7 @@ decide_breaks g good edit Backwards = by_edit edit
   where
     by_edit : (edit : Edit) → Decided (Breaks g edit Backwards)
     by_edit (Begin name lo hi) = before hi lo
+    by_edit (Extend lo hi) = before hi lo
     by_edit (Live id from to) = before to from
     by_edit (Gone id from to) = before to from
     by_edit (Put id prop value from to) = before to from
@@ -289,6 +291,11 @@ decide_breaks g good edit Incident = by_edit edit
     by_edit edit = inr (λ b. b)
 decide_breaks g good edit Full = decide_full g good edit
 decide_breaks g good edit GraphName = inr (λ b. b)
+decide_breaks g good edit Narrow = by_edit edit
+  where
+    by_edit : (edit : Edit) → Decided (Breaks g edit Narrow)
+    by_edit (Extend lo hi) = decide_loses g (span_of lo hi)
+    by_edit edit = inr (λ b. b)
 
 -- an edit breaks a rule first, or none
 pub broken_or_none : (g : Graph) (edit : Edit) → Good g → ((rule : RuleCode) × Broken g edit rule) ⊎ Unbroken g edit

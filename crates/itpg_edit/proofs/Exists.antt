@@ -9,7 +9,7 @@ use Rattle.itpg_base.specs.Graphs.{Graph, Object, Property, Good, Named, Propert
 use Rattle.itpg_base.proofs.Objects.{there, here}
 use Rattle.interval_set.proofs.Unique.{runs_alike}
 use Rattle.interval_set.proofs.Changed.{joined_exists, cut_exists, put_exists, clear_exists}
-use Rattle.itpg_graph.specs.Changes.{begun_as, with_node, with_edge, with_live, with_object, with_properties, without, JoinsLive, CutsLive, PutsValue, ClearsValue, ValCleared, ValChanged}
+use Rattle.itpg_graph.specs.Changes.{begun_as, widened, with_node, with_edge, with_live, with_object, with_properties, without, JoinsLive, CutsLive, PutsValue, ClearsValue, ValCleared, ValChanged}
 use Rattle.itpg_graph.specs.Families.{IsOrderly, AreProperties, ExistsOutside, ValOutside}
 use Rattle.itpg_graph.specs.Tables.{IsGap, HasLess, HasMore}
 use Rattle.itpg_graph.proofs.Names.{compare, after_first, rising_rest, before_middle}
@@ -18,7 +18,7 @@ use Rattle.itpg_graph.proofs.Families.{properties_alike, named_split}
 use Rattle.itpg_graph.proofs.Cutting.{Outside, cut_none, cut_gone, cut_kept}
 use Rattle.itpg_graph.proofs.Kept.{exists_at, at_exists, val_at, at_val, own_properties}
 use Rattle.itpg_edit.specs.declared.edit.Edit.{Edit}
-use Rattle.itpg_edit.specs.declared.edit.Edit.TheVariants.{Begin, AddNode, AddEdge, Live, Gone, Put, Clear, Remove}
+use Rattle.itpg_edit.specs.declared.edit.Edit.TheVariants.{Begin, Extend, AddNode, AddEdge, Live, Gone, Put, Clear, Remove}
 use Rattle.itpg_edit.specs.Facts.{span_of, IsUnknown}
 use Rattle.itpg_edit.specs.Rules.{Unbroken}
 use Rattle.itpg_edit.specs.Next.{Next}
@@ -144,6 +144,7 @@ known g name never = elim (decide_taken g name) [ inl h ↦ h | inr none ↦ abs
 
 pub next_exists : (g : Graph) (edit : Edit) → Good g → Unbroken g edit → (new : Graph) × Next g edit new
 next_exists g (Begin name lo hi) good u = (begun_as g name (span_of lo hi), refl)
+next_exists g (Extend lo hi) good u = (widened g (span_of lo hi), refl)
 next_exists g (AddNode id labels) good u = (with_node g id labels, refl)
 next_exists g (AddEdge id labels source target) good u =
     let s = known g source (λ none. u.1.1.0 (inl none)) in

@@ -1,6 +1,7 @@
 pub mod FirstOf
 pub mod Moments
 pub mod Families
+pub mod Widening
 pub mod Deciding
 pub mod Unique
 pub mod Checked

@@ -1,6 +1,6 @@
 -- What is so, or isn't, at some moment of a span.
 use Rattle.std.proofs.Common.{◌≡◌, ℕ, suc, ◌+◌, ℤ, List, ◌⊎◌, inl, inr, ⊎_elim, Option, Some, None, refl, sym, subst, arith}
-use Rattle.std.specs.Prelude.{IsSome, slice_get, option_map}
+use Rattle.std.specs.Prelude.{IsSome, IsNone, slice_get, option_map}
 use Rattle.std.proofs.lemmas.Int.{ints}
 use borrow.Author.Differences.{up, down}
 use Rattle.itpg_base.specs.Spans.{Span, Within, Covers}
@@ -37,6 +37,10 @@ module _ (g : Graph) (o : ℕ) (live : List Span) (is : ObjectIs g o (λ x. live
 
     pub joined_alike : AreRuns (λ t. Exists g o t ⊎ Within t s) spans → AreRuns (λ t. Covers live t ⊎ Within t s) spans
     joined_alike = runs_alike (λ t. Exists g o t ⊎ Within t s) (λ t. Covers live t ⊎ Within t s) spans (λ t h. ⊎_elim (λ k. inl (covered t k)) (λ w. inr w) h) (λ t h. ⊎_elim (λ k. inl (existing t k)) (λ w. inr w) h)
+
+pub not_both : {X : Type 0} (o : Option X) → IsSome o → IsNone o → ⊥
+not_both None some none = let never : ⊥ = cc in never
+not_both (Some x) some none = let never : ⊥ = cc in never
 
 -- a graph with a horizon is begun
 pub begun_some : (b : Option Begun) (h : Span) → Some h ≡ option_map (λ b. b.horizon) b → IsSome b

@@ -11,9 +11,10 @@ use Rattle.itpg_base.proofs.Objects.{there, here}
 use Rattle.itpg_graph.specs.Kinds.{IsNode}
 use Rattle.itpg_graph.specs.Families.{HasPlace}
 use Rattle.itpg_graph.proofs.Goodness.{good_begun, good_node, good_edge, good_live, good_without}
+use Rattle.itpg_graph.proofs.Widening.{good_widened}
 use Rattle.itpg_graph.proofs.Kept.{good_cut, good_put, good_cleared}
 use Rattle.itpg_edit.specs.declared.edit.Edit.{Edit}
-use Rattle.itpg_edit.specs.declared.edit.Edit.TheVariants.{Begin, AddNode, AddEdge, Live, Gone, Put, Clear, Remove}
+use Rattle.itpg_edit.specs.declared.edit.Edit.TheVariants.{Begin, Extend, AddNode, AddEdge, Live, Gone, Put, Clear, Remove}
 use Rattle.itpg_edit.specs.Facts.{span_of, IsEdge, LeavesHorizon, LacksEnd, IsAbsent, IsHeld, HasNoPlace}
 use Rattle.itpg_edit.specs.Rules.{Unbroken}
 use Rattle.itpg_edit.specs.Next.{Next}
@@ -21,6 +22,7 @@ use Rattle.itpg_edit.specs.Sites.{HasMoments, HasLabels, EndsExist, IsFree, IsTh
 use Rattle.itpg_edit.proofs.Moments.{decide_exists}
 use Rattle.itpg_edit.proofs.Families.{cuts_many}
 use Rattle.itpg_edit.proofs.Checked.{named_stands}
+use Rattle.itpg_edit.proofs.Widening.{keeps_moments}
 use Rattle.itpg_edit.proofs.Deciding.{decide_in_horizon, decide_property}
 
 none_of : {X : Type 0} (o : Option X) → (IsSome o → ⊥) → IsNone o
@@ -78,6 +80,8 @@ has_place g good o name prop named never =
 pub next_good : (g new : Graph) (edit : Edit) → Good g → HasMoments edit → HasLabels edit → Unbroken g edit → Next g edit new → Good new
 next_good g new (Begin name lo hi) good moments labels u next =
     subst Good (sym next) (good_begun g good (none_of g.begun u.0) name (span_of lo hi) (not_after lo hi u.1.0) moments.0 moments.1)
+next_good g new (Extend lo hi) good moments labels u next =
+    subst Good (sym next) (good_widened g (span_of lo hi) (not_after lo hi u.1.0) moments.0 moments.1 (keeps_moments g (span_of lo hi) u.1.1.0) good)
 next_good g new (AddNode id labels) good moments are u next =
     subst Good (sym next) (good_node g good (some_of g.begun u.0) id labels are (λ o h. u.1.0 (o, h)) (below (length g.objects) MAX_OBJECTS u.1.1.0))
 next_good g new (AddEdge id labels source target) good moments are u next =

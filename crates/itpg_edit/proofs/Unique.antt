@@ -4,13 +4,14 @@ use Rattle.itpg_base.specs.Graphs.{Graph, Good}
 use Rattle.itpg_graph.specs.Changes.{with_edge, without, JoinsLive, CutsLive, PutsValue, ClearsValue}
 use Rattle.itpg_graph.proofs.Unique.{joins_one, cuts_one, puts_one, clears_one}
 use Rattle.itpg_edit.specs.declared.edit.Edit.{Edit}
-use Rattle.itpg_edit.specs.declared.edit.Edit.TheVariants.{Begin, AddNode, AddEdge, Live, Gone, Put, Clear, Remove}
+use Rattle.itpg_edit.specs.declared.edit.Edit.TheVariants.{Begin, Extend, AddNode, AddEdge, Live, Gone, Put, Clear, Remove}
 use Rattle.itpg_edit.specs.Facts.{span_of}
 use Rattle.itpg_edit.specs.Next.{Next}
 
 -- an edit leads to one graph
 pub next_unique : (g x y : Graph) (edit : Edit) → Good g → Next g edit x → Next g edit y → x ≡ y
 next_unique g x y (Begin name lo hi) good a b = a ∙ sym b
+next_unique g x y (Extend lo hi) good a b = a ∙ sym b
 next_unique g x y (AddNode id labels) good a b = a ∙ sym b
 next_unique g x y (AddEdge id labels source target) good a b =
     let s : a.0 ≡ b.0 = good.names_differ a.0 b.0 source a.2 b.2 in

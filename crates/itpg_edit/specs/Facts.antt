@@ -29,6 +29,12 @@ pub record LeavesHorizon (g : Graph) (s : Span) : Type 0 where
   pub within : Within moment s
   pub outside : ¬ InHorizon g moment
 
+-- a moment of the horizon is outside the span
+pub record LosesMoment (g : Graph) (s : Span) : Type 0 where
+  pub moment : ℤ
+  pub within : InHorizon g moment
+  pub outside : ¬ Within moment s
+
 -- an end of the edge of this name doesn't exist at a moment of the span
 pub record LacksEnd (g : Graph) (name : Word) (s : Span) : Type 0 where
   pub edge : ℕ

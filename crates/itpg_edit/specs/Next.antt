@@ -3,9 +3,9 @@ use Rattle.std.specs.Prelude.{◌≡◌, ℕ, List}
 use Rattle.itpg_base.specs.Graphs.{Graph, Named, ObjectIs}
 use Rattle.itpg_base.specs.declared.touch.Touch.{Touch}
 use Rattle.itpg_base.specs.declared.touch.Touch.TheVariants as touched
-use Rattle.itpg_graph.specs.Changes.{begun_as, with_node, with_edge, without, JoinsLive, CutsLive, PutsValue, ClearsValue}
+use Rattle.itpg_graph.specs.Changes.{begun_as, widened, with_node, with_edge, without, JoinsLive, CutsLive, PutsValue, ClearsValue}
 use Rattle.itpg_edit.specs.declared.edit.Edit.{Edit}
-use Rattle.itpg_edit.specs.declared.edit.Edit.TheVariants.{Begin, AddNode, AddEdge, Live, Gone, Put, Clear, Remove}
+use Rattle.itpg_edit.specs.declared.edit.Edit.TheVariants.{Begin, Extend, AddNode, AddEdge, Live, Gone, Put, Clear, Remove}
 use Rattle.itpg_edit.specs.declared.fault.EditFault.{EditFault}
 use Rattle.itpg_edit.specs.declared.fault.EditFault.TheVariants.{Memory, Rule}
 use Rattle.itpg_edit.specs.Facts.{span_of}
@@ -14,6 +14,7 @@ use Rattle.itpg_edit.specs.Rules.{Unbroken, Broken}
 -- the one graph that differs from g as the edit says, and in nothing else
 abbrev pub Next : Graph → Edit → Graph → Type 0
 Next g (Begin name lo hi) new = new ≡ begun_as g name (span_of lo hi)
+Next g (Extend lo hi) new = new ≡ widened g (span_of lo hi)
 Next g (AddNode id labels) new = new ≡ with_node g id labels
 Next g (AddEdge id labels source target) new = (s : ℕ) × (t : ℕ) × Named g s source × Named g t target × (new ≡ with_edge g id labels s t)
 Next g (Live id from to) new = (o : ℕ) × Named g o id × JoinsLive g o (span_of from to) new
@@ -29,6 +30,7 @@ WithLabels g name Is = (o : ℕ) × Named g o name × ObjectIs g o (λ x. Is x.l
 -- what the edit touches on the graph before it
 abbrev pub TouchOf : Graph → Edit → Touch → Type 0
 TouchOf g (Begin name lo hi) touch = touch ≡ touched.All
+TouchOf g (Extend lo hi) touch = touch ≡ touched.All
 TouchOf g (AddNode id labels) touch = touch ≡ touched.Shape labels
 TouchOf g (AddEdge id labels source target) touch = touch ≡ touched.Shape labels
 TouchOf g (Live id from to) touch = WithLabels g id (λ labels. touch ≡ touched.Live labels)
@@ -46,6 +48,7 @@ pub record Makes (g : Graph) (edit : Edit) (new : Graph) (touch : Touch) : Type 
 -- to make the edit takes memory
 abbrev pub TakesMemory : Edit → Type 0
 TakesMemory (Begin name lo hi) = ⊥
+TakesMemory (Extend lo hi) = ⊥
 TakesMemory (Remove id) = ⊥
 TakesMemory edit = Unit {0}
 

@@ -3,16 +3,17 @@ use Rattle.std.specs.Prelude.{◌≡◌, ℕ, ◌≤◌, ℤ, ◌<ℤ◌, List, 
 use Rattle.itpg_base.specs.Spans.{Within}
 use Rattle.itpg_base.specs.Graphs.{Graph, Named, Exists}
 use Rattle.itpg_base.specs.declared.rule_code.RuleCode.{RuleCode}
-use Rattle.itpg_base.specs.declared.rule_code.RuleCode.TheVariants.{NoGraph, Again, Taken, Unknown, Kind, Backwards, Horizon, Ends, Absent, Held, Incident, Full}
+use Rattle.itpg_base.specs.declared.rule_code.RuleCode.TheVariants.{NoGraph, Again, Taken, Unknown, Kind, Backwards, Horizon, Ends, Absent, Held, Incident, Full, Narrow}
 use Rattle.itpg_base.specs.declared.limits.TheConstants.{MAX_OBJECTS}
 use Rattle.itpg_edit.specs.declared.edit.Edit.{Edit}
-use Rattle.itpg_edit.specs.declared.edit.Edit.TheVariants.{Begin, AddNode, AddEdge, Live, Gone, Put, Clear, Remove}
-use Rattle.itpg_edit.specs.Facts.{span_of, IsTaken, IsUnknown, IsEdge, LeavesHorizon, LacksEnd, IsAbsent, IsHeld, IsIncident, AreManySpans, AreManyRuns, AreManyCut, HasNoPlace}
+use Rattle.itpg_edit.specs.declared.edit.Edit.TheVariants.{Begin, Extend, AddNode, AddEdge, Live, Gone, Put, Clear, Remove}
+use Rattle.itpg_edit.specs.Facts.{span_of, IsTaken, IsUnknown, IsEdge, LeavesHorizon, LosesMoment, LacksEnd, IsAbsent, IsHeld, IsIncident, AreManySpans, AreManyRuns, AreManyCut, HasNoPlace}
 use Rattle.itpg_graph.specs.Families.{ValOutside, ValPut}
 
 -- the rules of an edit, in order
 abbrev pub rules_of : Edit → List RuleCode
 rules_of (Begin name lo hi) = Again ∷ Backwards ∷ []
+rules_of (Extend lo hi) = NoGraph ∷ Backwards ∷ Narrow ∷ []
 rules_of (AddNode id labels) = NoGraph ∷ Taken ∷ Full ∷ []
 rules_of (AddEdge id labels source target) = NoGraph ∷ Taken ∷ Unknown ∷ Kind ∷ Full ∷ []
 rules_of (Live id from to) = NoGraph ∷ Unknown ∷ Backwards ∷ Horizon ∷ Ends ∷ Full ∷ []
@@ -50,6 +51,7 @@ TakesName g edit = ⊥
 -- the second moment comes before the first
 abbrev pub IsBackwards : Edit → Type 0
 IsBackwards (Begin name lo hi) = hi <ℤ lo
+IsBackwards (Extend lo hi) = hi <ℤ lo
 IsBackwards (Live id from to) = to <ℤ from
 IsBackwards (Gone id from to) = to <ℤ from
 IsBackwards (Put id prop value from to) = to <ℤ from
@@ -63,6 +65,11 @@ IsOutside g (Gone id from to) = LeavesHorizon g (span_of from to)
 IsOutside g (Put id prop value from to) = LeavesHorizon g (span_of from to)
 IsOutside g (Clear id prop from to) = LeavesHorizon g (span_of from to)
 IsOutside g edit = ⊥
+
+-- a moment of the old horizon is outside the new one
+abbrev pub IsNarrow : Graph → Edit → Type 0
+IsNarrow g (Extend lo hi) = LosesMoment g (span_of lo hi)
+IsNarrow g edit = ⊥
 
 -- an end of the edge would be missing
 abbrev pub LosesEnd : Graph → Edit → Type 0
@@ -103,6 +110,7 @@ Breaks g edit Absent = LosesObject g edit
 Breaks g edit Held = LeavesEdge g edit
 Breaks g edit Incident = DropsEnd g edit
 Breaks g edit Full = IsFull g edit
+Breaks g edit Narrow = IsNarrow g edit
 Breaks g edit rule = ⊥
 
 -- of these rules, tried one after another, none is broken

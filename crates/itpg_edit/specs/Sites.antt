@@ -6,7 +6,7 @@ use Rattle.itpg_base.specs.Graphs.{Graph, Stands, Exists, HasEnd}
 use Rattle.itpg_base.specs.declared.object_number.ObjNo.{ObjNo}
 use Rattle.itpg_graph.specs.Edges.{HasNumber}
 use Rattle.itpg_edit.specs.declared.edit.Edit.{Edit}
-use Rattle.itpg_edit.specs.declared.edit.Edit.TheVariants.{Begin, AddNode, AddEdge, Live, Gone, Put, Clear}
+use Rattle.itpg_edit.specs.declared.edit.Edit.TheVariants.{Begin, Extend, AddNode, AddEdge, Live, Gone, Put, Clear}
 
 -- each end of the object exists at each moment of the span
 abbrev pub EndsExist : Graph → ℕ → Span → Type 0
@@ -27,6 +27,7 @@ AreMoments from to = IsMoment from × IsMoment to
 -- each number of the edit is a moment
 abbrev pub HasMoments : Edit → Type 0
 HasMoments (Begin name lo hi) = AreMoments lo hi
+HasMoments (Extend lo hi) = AreMoments lo hi
 HasMoments (Live id from to) = AreMoments from to
 HasMoments (Gone id from to) = AreMoments from to
 HasMoments (Put id prop value from to) = AreMoments from to

@@ -34,6 +34,8 @@ pub(crate) enum Change {
         name: Name,
         horizon: Span,
     },
+    /// Widens the horizon to this one.
+    Widen(Span),
     /// Declares a node.
     AddNode {
         id: Name,
@@ -72,7 +74,7 @@ impl Change {
         ensures { Touches graph.now self.now result }
     {
         match *self {
-            Change::Begin { .. } => Touch::All,
+            Change::Begin { .. } | Change::Widen(_) => Touch::All,
             Change::AddNode { labels, .. } | Change::AddEdge { labels, .. } => Touch::Shape(labels),
             Change::Live(site) => Touch::Live(graph.labels(site.object)),
             Change::Gone(site) => Touch::Gone(graph.labels(site.object)),

@@ -51,7 +51,7 @@ fn check(graph: &Graph, change: &Change) -> Result<(), RuleCode>
     ensures broken { IfErr result (λ rule. (edit : AnyEdit) → IsAsked graph.now edit change.now → Broken graph.now edit rule) }
 {
     match change {
-        Change::Begin { .. } => Ok(()),
+        Change::Begin { .. } | Change::Widen(_) => Ok(()),
         Change::AddNode { .. } => check_room(graph),
         Change::AddEdge { source, target, .. } => {
             refuse_if(joins_edge(graph, *source, *target), RuleCode::Kind)?;

@@ -18,6 +18,11 @@ pub enum Edit {
         lo: i64,
         hi: i64,
     },
+    /// Gives the graph the horizon from `lo` to `hi`, which has each moment of the old one.
+    Extend {
+        lo: i64,
+        hi: i64,
+    },
     /// Declares a node.
     AddNode {
         id: Name,

@@ -15,7 +15,7 @@ use interval_set::Span;
 use itpg_base::{MAX_PROPERTIES, MAX_SPANS, Name, ObjNo};
 use itpg_graph::{Graph, Kind};
 
-/// Whether some moment of the span is outside the horizon.
+/// Whether some moment of the span is outside the horizon, or of one horizon outside another.
 pub(crate) fn leaves(span: Span, horizon: Span) -> bool
     ensures inside { result ≡ false → (t : ℤ) → Within t span → Within t horizon }
     ensures outside { result ≡ true → (t : ℤ) × Within t span × (¬ Within t horizon) }

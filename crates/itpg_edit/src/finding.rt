@@ -3,7 +3,8 @@ ghost use Rattle.std.specs.Prelude.{◌≡◌, ◌∷◌, [], IfOk, IfErr};
 ghost use Rattle.itpg_base.specs.declared.rule_code.RuleCode.TheVariants as rules;
 ghost use Rattle.itpg_edit.specs.Facts.{span_of};
 ghost use Rattle.itpg_edit.specs.Rules.{FirstOf, Broken, NewBreaks, NameBreaks, PlaceBreaks};
-ghost use Rattle.itpg_edit.specs.Changes.{IsNew, IsNamed, IsSite, IsAsked};
+ghost use Rattle.itpg_edit.specs.declared.edit.Edit.TheVariants as edits;
+ghost use Rattle.itpg_edit.specs.Changes.{IsWider, IsNew, IsNamed, IsSite, IsAsked};
 
 use crate::change::{Change, Site};
 use crate::edit::Edit;
@@ -25,6 +26,7 @@ pub(crate) fn find(graph: &Graph, edit: &Edit) -> Result<Change, RuleCode>
             let horizon = Span::new(lo, hi).ok_or(RuleCode::Backwards)?;
             Ok(Change::Begin { name, horizon })
         }
+        Edit::Extend { lo, hi } => Ok(Change::Widen(wider(graph, lo, hi)?)),
         Edit::AddNode { id, labels } => {
             check_new(graph, &id)?;
             Ok(Change::AddNode { id, labels })
@@ -62,6 +64,23 @@ pub(crate) fn find(graph: &Graph, edit: &Edit) -> Result<Change, RuleCode>
             Ok(Change::Clear { site, prop })
         }
         Edit::Remove { id } => Ok(Change::Remove(named(graph, &id)?)),
+    }
+}
+
+// The span from the one moment to the other, which has each moment of the horizon.
+fn wider(graph: &Graph, lo: i64, hi: i64) -> Result<Span, RuleCode>
+    ensures wider { IfOk result (λ span. IsWider graph.now span) }
+    ensures span { IfOk result (λ span. span ≡ span_of lo hi) }
+    ensures broken { IfErr result (λ rule. Broken graph.now (edits.Extend lo hi) rule) }
+{
+    let Some(horizon) = graph.horizon() else {
+        return Err(RuleCode::NoGraph);
+    };
+    let span = Span::new(lo, hi).ok_or(RuleCode::Backwards)?;
+    if leaves(horizon, span) {
+        Err(RuleCode::Narrow)
+    } else {
+        Ok(span)
     }
 }
 

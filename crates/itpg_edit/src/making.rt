@@ -22,7 +22,7 @@ use std::alloc::AllocError;
 /// # Errors
 ///
 /// `Rule(c)` exactly if c is the first rule that the edit breaks, and `Memory` if it breaks none and memory ran out.
-/// Then the graph is as it was. No memory is asked for if a rule is broken, nor for `Begin` and `Remove`.
+/// Then the graph is as it was. No memory is asked for if a rule is broken, nor for `Begin`, `Extend` and `Remove`.
 pub fn apply(graph: &mut Graph, edit: &Edit) -> Result<Touch, EditFault>
     requires { HasMoments edit.now }
     ensures makes { IfOk result (λ touch. Makes graph.old edit.now graph.new touch) }
@@ -48,6 +48,10 @@ fn make(graph: &mut Graph, change: &Change) -> Result<(), AllocError>
     match *change {
         Change::Begin { name, horizon } => {
             graph.begin(name, horizon);
+            Ok(())
+        }
+        Change::Widen(horizon) => {
+            graph.widen(horizon);
             Ok(())
         }
         Change::AddNode { id, labels } => {

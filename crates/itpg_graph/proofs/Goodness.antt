@@ -169,6 +169,7 @@ pub record KeepsShape (f : Object → Object) : Type 0 where
   pub name : (x : Object) → (f x).name ≡ x.name
   pub ends : (x : Object) → (f x).ends ≡ x.ends
   pub standing : (x : Object) → (f x).standing ≡ x.standing
+  pub labels : (x : Object) → (f x).labels ≡ x.labels
 
 -- a node is no end of itself
 pub no_own_end : (g : Graph) (o : ℕ) → Good g → HasEnd g o o → ⊥
@@ -234,7 +235,7 @@ pub good_live : (g : Graph) (o : ℕ) (s : Span) (live : List Span) → AreRuns 
 good_live g o s live runs good stands within ends few =
     let x = there g.objects o _ stands in
     let was = good.objects o x.0 x.1 in
-    let shape : KeepsShape (λ y. record y { live = live }) = record { name = λ y. refl; ends = λ y. refl; standing = λ y. refl } in
+    let shape : KeepsShape (λ y. record y { live = live }) = record { name = λ y. refl; ends = λ y. refl; standing = λ y. refl; labels = λ y. refl } in
     good_changed g o (λ y. record y { live = live }) good shape x.0 x.1 stands
     (record { labels = was.labels; live = runs.coalesced; few_spans = few; properties = was.properties; differ = was.differ; few_properties = was.few_properties })
     (λ a t has covers. elim (runs.only t covers) [ inl old ↦ good.ends_exist o a t has old | inr w ↦ ends a has t w ])

@@ -128,6 +128,20 @@ part_stands g objects o h = from_part g (only_of g objects) (HasNumber objects) 
 pub part_object : (g : Graph) (objects : List ObjNo) (o : ℕ) (P : Object → Type 0) → Stands (only_of g objects) o → ObjectIs g o P → ObjectIs (only_of g objects) o P
 part_object g objects o P stands h = to_part g (only_of g objects) (HasNumber objects) (only_is g objects) P o (part_stands g objects o stands).0 h
 
+-- the same of what can't be so of a dropped object
+pub of_part : (g : Graph) (objects : List ObjNo) (P : Object → Type 0) → ((x : Object) → P x → IsTrue x.standing) → (o : ℕ) → ObjectIs (only_of g objects) o P → HasNumber objects o × ObjectIs g o P
+of_part g objects P stands o h = from_part g (only_of g objects) (HasNumber objects) (only_is g objects) P (λ x so. not_standing x (stands (dropped x) so)) o h
+
+pub in_part : (g : Graph) (objects : List ObjNo) (P : Object → Type 0) (o : ℕ) → HasNumber objects o → ObjectIs g o P → ObjectIs (only_of g objects) o P
+in_part g objects P o has h = to_part g (only_of g objects) (HasNumber objects) (only_is g objects) P o has h
+
+-- by its list alone, a part is the graph of the list, and no list is the whole
+pub listed_alike : (g seen : Graph) (listed : Option (List ObjNo)) (objects : List ObjNo) → listed ≡ Some objects → part_of g listed ≡ seen → only_of g objects ≡ seen
+listed_alike g seen listed objects is e = subst (λ l. part_of g l ≡ seen) is e
+
+pub whole_alike : (g seen : Graph) (listed : Option (List ObjNo)) → listed ≡ None → part_of g listed ≡ seen → g ≡ seen
+whole_alike g seen listed is e = subst (λ l. part_of g l ≡ seen) is e
+
 -- the same of what a part, or a whole graph, is seen as
 pub seen_stands : (g seen : Graph) (listed : Option (List ObjNo)) (o : ℕ) → part_of g listed ≡ seen → Stands seen o → Stands g o
 seen_stands g seen None o e h = subst (λ p. Stands p o) (sym e) h

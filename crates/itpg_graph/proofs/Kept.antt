@@ -14,10 +14,10 @@ use Rattle.itpg_graph.proofs.Cutting.{values_alike}
 use Rattle.itpg_graph.proofs.Families.{families_valued, families_from, few_runs, fewer_properties, one_more, has_name, InNames}
 
 pub properties_shape : (properties : List Property) → KeepsShape (λ x. record x { properties = properties })
-properties_shape properties = record { name = λ x. refl; ends = λ x. refl; standing = λ x. refl }
+properties_shape properties = record { name = λ x. refl; ends = λ x. refl; standing = λ x. refl; labels = λ x. refl }
 
 pub families_shape : (live : List Span) (properties : List Property) → KeepsShape (λ x. record x { live = live; properties = properties })
-families_shape live properties = record { name = λ x. refl; ends = λ x. refl; standing = λ x. refl }
+families_shape live properties = record { name = λ x. refl; ends = λ x. refl; standing = λ x. refl; labels = λ x. refl }
 
 -- what is known of an object in its place
 module _ (g : Graph) (o : ℕ) (x : Object) (at : slice_get g.objects o ≡ Some x) where

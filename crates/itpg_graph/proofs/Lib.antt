@@ -4,12 +4,15 @@ pub mod Families
 pub mod Goodness
 pub mod GraphParts
 pub mod Kept
+pub mod Labels
 pub mod Linked
 pub mod Lists
 pub mod Losing
 pub mod Names
 pub mod NextNumbers
+pub mod PartLabels
 pub mod Parts
 pub mod Rising
 pub mod Unique
 pub mod Views
+pub mod Widening

@@ -111,7 +111,7 @@ pub unseen : (opened : Option Opened) (objects : List Stored) (o : ℕ) (s : Sto
 unseen opened objects o s P at h = subst (λ w. IsSomeAnd w P) (at_mapped object_of objects o s at) h
 
 pub live_shape : (live : List Span) → KeepsShape (λ x. record x { live = live })
-live_shape live = record { name = λ x. refl; ends = λ x. refl; standing = λ x. refl }
+live_shape live = record { name = λ x. refl; ends = λ x. refl; standing = λ x. refl; labels = λ x. refl }
 
 module _ (opened : Option Opened) (objects : List Stored) (o : ℕ) (s : Stored) (at : slice_get objects o ≡ Some s) (span : Span) (live : List Span) (runs : AreRuns (λ t. Covers s.live t ⊎ Within t span) live) where
   seen_runs : AreRuns (λ t. Exists (graph_of opened objects) o t ⊎ Within t span) live

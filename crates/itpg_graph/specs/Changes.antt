@@ -1,8 +1,8 @@
 -- What each writer changes.
-use Rattle.std.specs.Prelude.{◌≡◌, ℕ, ◌≤◌, ℤ, List, [], ◌∷◌, ◌++◌, length, Option, Some, None, true, false, ◌⊎◌}
+use Rattle.std.specs.Prelude.{◌≡◌, ℕ, ◌≤◌, ℤ, List, [], ◌∷◌, ◌++◌, length, Option, Some, None, option_map, true, false, ◌⊎◌}
 use Rattle.itpg_base.specs.Words.{Word}
 use Rattle.itpg_base.specs.Spans.{Span, Within}
-use Rattle.itpg_base.specs.Graphs.{Graph, Object, Ends, Property, Exists, Val, changed_at}
+use Rattle.itpg_base.specs.Graphs.{Graph, Begun, Object, Ends, Property, Exists, Val, changed_at}
 use Rattle.itpg_base.specs.declared.limits.TheConstants.{MAX_SPANS}
 use Rattle.interval_set.specs.Runs.{AreRuns}
 use Rattle.itpg_graph.specs.Families.{AreProperties, ExistsOutside, ValOutside}
@@ -10,6 +10,10 @@ use Rattle.itpg_graph.specs.Families.{AreProperties, ExistsOutside, ValOutside}
 -- the graph with this name and horizon, begun
 abbrev pub begun_as : Graph → Word → Span → Graph
 begun_as g name horizon = record g { begun = Some (record { name = name; horizon = horizon }) }
+
+-- the graph with this horizon, if it is begun, and the same name and objects
+abbrev pub widened : Graph → Span → Graph
+widened g horizon = record g { begun = option_map (λ (b : Begun). record b { horizon = horizon }) g.begun }
 
 -- a new object stands and exists at no moment; it is an edge if it has ends, and else a node
 abbrev pub new_object : Word → List Word → Option Ends → Object

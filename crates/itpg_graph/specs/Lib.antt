@@ -3,6 +3,8 @@ pub mod Edges
 pub mod Families
 pub mod GraphParts
 pub mod Kinds
+pub mod LabelLists
 pub mod Links
 pub mod Stores
 pub mod Tables
+pub mod WithLabel

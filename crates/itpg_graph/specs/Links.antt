@@ -27,6 +27,10 @@ pub record AreLinks (end : Ends → ℕ) (g : Graph) (lists : List (List ObjNo))
   pub each : (o : ℕ) (list : List ObjNo) → slice_get lists o ≡ Some list → AreNumbers (LeadsBy end g o) list
   pub count : length lists ≡ length g.objects
 
+-- a list that rises loses the number
+abbrev pub LosesIfRising : List ObjNo → ℕ → List ObjNo → Type 0
+LosesIfRising was e list = AreRising was → AreNumbers (λ k. HasNumber was k × (k ≢ e)) list
+
 -- the list of o loses the number, and each other stays
 pub record LosesNumber (old : List (List ObjNo)) (o e : ℕ) (new : List (List ObjNo)) : Type 0 where
   pub others : (k : ℕ) → k ≢ o → slice_get new k ≡ slice_get old k

@@ -3,8 +3,9 @@ ghost use Rattle.std.specs.Prelude.{◌≡◌, ℤ, ◌<◌, length, ℕ, IsNone
 ghost use Rattle.itpg_base.specs.Spans.{IsMoment, Within};
 ghost use Rattle.itpg_base.specs.Graphs.{Named, Stands, Exists, HasEnd, InHorizon};
 ghost use Rattle.itpg_graph.specs.Families.{FitCut, FitPut, FitClear, HasPlace};
-ghost use Rattle.itpg_graph.specs.Changes.{begun_as, with_node, with_edge, without, JoinsLive, FitFamily, CutsLive, PutsValue, ClearsValue};
+ghost use Rattle.itpg_graph.specs.Changes.{begun_as, widened, with_node, with_edge, without, JoinsLive, FitFamily, CutsLive, PutsValue, ClearsValue};
 
+use crate::by_label::only_label;
 use crate::graph::Graph;
 use crate::numbers::list;
 use crate::properties::Properties;
@@ -27,6 +28,19 @@ impl Graph {
         self.opened = Some(Opened { name, horizon });
     }
 
+    /// Widens the horizon: the old one lies in the new. No object exists at a new moment so far. It takes no memory.
+    pub fn widen(&mut self, horizon: Span)
+        requires begun { IsSome self.old.begun }
+        requires wider { (t : ℤ) → InHorizon self.old t → Within t horizon }
+        requires from { IsMoment horizon.from }
+        requires to { IsMoment horizon.to }
+        ensures { self.new ≡ widened self.old horizon }
+    {
+        prove!(horizon.from() <= horizon.to());
+        let name = self.opened.as_ref().unwrap().name;
+        self.opened = Some(Opened { name, horizon });
+    }
+
     /// Declares a node, which gets the next number and exists at no moment so far. Without memory nothing changes.
     pub fn add_node(&mut self, name: Name, labels: LabelSet) -> Result<ObjNo, AllocError>
         requires begun { IsSome self.old.begun }
@@ -41,10 +55,14 @@ impl Graph {
         self.objects.reserve(1)?;
         self.out.reserve()?;
         self.into.reserve()?;
+        let alloc = *self.objects.allocator();
+        let label = only_label(&labels);
+        self.by_label.reserve(alloc, &label)?;
         list(&mut self.numbers, name, number.0)?;
         self.out.push();
         self.into.push();
-        let node = Stored::new(*self.objects.allocator(), name, labels, None);
+        self.by_label.push(&label, number);
+        let node = Stored::new(alloc, name, labels, None);
         self.objects.push_reserved(node);
         Ok(number)
     }
@@ -71,11 +89,15 @@ impl Graph {
         self.objects.reserve(1)?;
         self.out.reserve_at(source)?;
         self.into.reserve_at(target)?;
+        let alloc = *self.objects.allocator();
+        let label = only_label(&labels);
+        self.by_label.reserve(alloc, &label)?;
         list(&mut self.numbers, name, number.0)?;
         self.out.push_at(source, number);
         self.into.push_at(target, number);
+        self.by_label.push(&label, number);
         let ends = Some((source, target));
-        let edge = Stored::new(*self.objects.allocator(), name, labels, ends);
+        let edge = Stored::new(alloc, name, labels, ends);
         self.objects.push_reserved(edge);
         Ok(number)
     }
@@ -160,9 +182,11 @@ impl Graph {
         let alloc = *self.objects.allocator();
         let object = &mut self.objects[o.0 as usize];
         let ends = object.ends;
+        let label = only_label(&object.labels);
         object.standing = false;
         object.live = IntervalSet::new(alloc);
         object.properties = Properties::new(alloc);
+        self.by_label.remove(&label, o);
         if let Some((source, target)) = ends {
             self.out.remove(source, o);
             self.into.remove(target, o);

@@ -6,7 +6,9 @@ ghost use Rattle.interval_set.specs.Runs.{AreRunsOf};
 ghost use Rattle.itpg_graph.specs.Edges.{LeadsFrom, LeadsTo, AreNumbers};
 ghost use Rattle.itpg_graph.specs.Families.{HasCutFamily};
 ghost use Rattle.itpg_graph.specs.GraphParts.{IsNextStanding, NoneStands};
+ghost use Rattle.itpg_graph.specs.WithLabel.{StandsWith};
 
+use crate::by_label::ByLabel;
 use crate::links::Links;
 use crate::numbers::number_of;
 use crate::stored::{Opened, Stored};
@@ -35,18 +37,20 @@ pub struct Graph {
     pub(crate) numbers: IndexMap<Name, u32>,
     pub(crate) out: Links,
     pub(crate) into: Links,
+    pub(crate) by_label: ByLabel,
 }
 
 impl Model for Graph {
     ghost use Rattle.itpg_base.specs.Graphs.{Graph as PlainGraph};
-    ghost use Rattle.itpg_graph.specs.Stores.{graph_of, IsStore};
+    ghost use Rattle.itpg_graph.specs.Stores.{graph_of};
     ghost use Rattle.itpg_graph.specs.Links.{links_of};
+    ghost use Rattle.itpg_graph.specs.LabelLists.{held, IsWholeStore};
 
     ghost Value = { PlainGraph };
 
     ghost view = { λ g. graph_of g.opened g.objects.items };
 
-    ghost invariant = { λ g. IsStore (graph_of g.opened g.objects.items) g.numbers (links_of g.out) (links_of g.into) };
+    ghost invariant = { λ g. IsWholeStore (graph_of g.opened g.objects.items) g.numbers (links_of g.out) (links_of g.into) (held g.by_label) };
 }
 
 impl Graph {
@@ -62,6 +66,7 @@ impl Graph {
             numbers: IndexMap::new(alloc),
             out: Links::new(alloc),
             into: Links::new(alloc),
+            by_label: ByLabel::new(alloc),
         }
     }
 
@@ -152,7 +157,35 @@ impl Graph {
         requires { Stands self.now o.0 }
         ensures { ObjectIs self.now o.0 (λ x. result ≡ x.labels) }
     {
-        self.objects[o.0 as usize].labels
+        *self.label_set(o)
+    }
+
+    // The labels of the object, where they lie.
+    pub(crate) fn label_set(&self, o: ObjNo) -> &LabelSet
+        requires { Stands self.now o.0 }
+        ensures { ObjectIs self.now o.0 (λ x. result.now ≡ x.labels) }
+    {
+        &self.objects[o.0 as usize].labels
+    }
+
+    // Whether the object has the label.
+    pub(crate) fn has_label(&self, o: ObjNo, label: &Name) -> bool
+        requires { Stands self.now o.0 }
+        ensures { IsTrue result ↔ StandsWith self.now label.now o.0 }
+    {
+        self.label_set(o).has(label)
+    }
+
+    /// The standing objects with the label, by rising number. It takes no memory.
+    ///
+    /// ```text
+    ///     a Person, b Person, m meets      labelled(Person) is [a, b]
+    /// ```
+    pub fn labelled(&self, label: &Name) -> &[ObjNo]
+        ensures numbers { AreNumbers (StandsWith self.now label.now) result.now }
+        ensures good { Good self.now }
+    {
+        self.by_label.at(label)
     }
 
     /// The moments at which the object exists, in at most `MAX_SPANS` spans.

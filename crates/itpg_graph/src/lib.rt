@@ -5,6 +5,7 @@
 //! and all lists are coalesced.
 #![tactic(auto)]
 
+mod by_label;
 mod changing;
 mod graph;
 mod laws;

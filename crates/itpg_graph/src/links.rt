@@ -1,7 +1,7 @@
 //! The edges at each object.
 ghost use Rattle.std.specs.Prelude.{◌≡◌, ◌<◌, ◌∷◌, ◌++◌, [], length, slice_get, Some, OnOk};
 ghost use Rattle.itpg_base.specs.Graphs.{changed_at};
-ghost use Rattle.itpg_graph.specs.Links.{links_of, HasRoom, HasRoomAt, LosesNumber};
+ghost use Rattle.itpg_graph.specs.Links.{links_of, HasRoom, HasRoomAt, LosesNumber, LosesIfRising};
 
 use itpg_base::ObjNo;
 use std::alloc::{AllocError, Global};
@@ -73,9 +73,15 @@ impl Links {
         requires { o.0 < length (links_of self.old) }
         ensures { LosesNumber (links_of self.old) o.0 edge.0 (links_of self.new) }
     {
-        let list = &mut self.lists[o.0 as usize];
-        if let Ok(place) = list.binary_search_by_key(&edge.0, |number| number.0) {
-            list.remove(place);
-        }
+        take_out(&mut self.lists[o.0 as usize], edge);
+    }
+}
+
+// Takes a number out of a list.
+pub(crate) fn take_out(list: &mut Vec<ObjNo>, number: ObjNo)
+    ensures { LosesIfRising list.old.items number.0 list.new.items }
+{
+    if let Ok(place) = list.binary_search_by_key(&number.0, |other| other.0) {
+        list.remove(place);
     }
 }

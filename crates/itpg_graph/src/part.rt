@@ -1,15 +1,17 @@
 //! A graph, or some objects of it, as a plain graph.
-ghost use Rattle.std.specs.Prelude.{◌≡◌, ◌≤◌, ◌<◌, ◌↔◌, ℤ, length, option_map, IfSome, IsNone, IsTrue};
+ghost use Rattle.std.specs.Prelude.{◌≡◌, ◌≤◌, ◌<◌, ◌↔◌, ℤ, length, option_map, IfOk, IfSome, IsNone, IsTrue};
 ghost use Rattle.itpg_base.specs.Words.{Word};
 ghost use Rattle.itpg_base.specs.Graphs.{Good, Stands, ObjectIs, Val};
 ghost use Rattle.interval_set.specs.Runs.{AreRunsOf};
-ghost use Rattle.itpg_graph.specs.Edges.{HasNumber, AreRising, LeadsFrom, LeadsTo};
+ghost use Rattle.itpg_graph.specs.Edges.{HasNumber, AreNumbers, AreRising, LeadsFrom, LeadsTo};
 ghost use Rattle.itpg_graph.specs.Kinds.{kind_of, ends_of, IsNode};
+ghost use Rattle.itpg_graph.specs.WithLabel.{StandsWith};
 ghost use Rattle.itpg_graph.specs.GraphParts.{only_of, ArePart, IsNextStanding, NoneStands, IsNextNumber, NoNumber, StandingAreNumbers};
 
 use crate::graph::{Graph, Kind};
 use interval_set::{IntervalSet, Span, ValuedSet};
 use itpg_base::{LabelSet, MAX_SPANS, Name, ObjNo};
+use std::alloc::{AllocError, Global};
 use std::marker::Model;
 
 /// A graph, or some objects of it as the graph in which no other object stands. Nothing is copied.
@@ -109,11 +111,22 @@ impl<'a> Part<'a> {
     }
 
     /// The labels of the object.
-    pub fn labels(&self, o: ObjNo) -> LabelSet
+    pub fn labels(&self, o: ObjNo) -> &LabelSet
         requires { Stands self.now o.0 }
-        ensures { ObjectIs self.now o.0 (λ x. result ≡ x.labels) }
+        ensures { ObjectIs self.now o.0 (λ x. result.now ≡ x.labels) }
     {
-        self.graph.labels(o)
+        self.graph.label_set(o)
+    }
+
+    /// The standing objects with the label, by rising number. Of a part no object beside it is looked at.
+    pub fn objects_of(&self, alloc: Global, label: &Name) -> Result<Vec<ObjNo>, AllocError>
+        ensures numbers { IfOk result (λ objects. AreNumbers (StandsWith self.now label.now) objects.items) }
+        ensures good { Good self.now }
+    {
+        match self.listed {
+            Some(objects) => those_with(alloc, self.graph, objects, label),
+            None => Vec::from_slice(alloc, self.graph.labelled(label)),
+        }
     }
 
     /// The moments at which the object exists, in at most `MAX_SPANS` spans.
@@ -151,6 +164,25 @@ impl<'a> Part<'a> {
     {
         self.graph.in_edges(o)
     }
+}
+
+// Those of a part's objects that have the label.
+fn those_with(
+    alloc: Global,
+    graph: &Graph,
+    objects: &[ObjNo],
+    label: &Name,
+) -> Result<Vec<ObjNo>, AllocError>
+    requires { ArePart graph.now objects.now }
+    ensures { IfOk result (λ kept. AreNumbers (StandsWith (only_of graph.now objects.now) label.now) kept.items) }
+{
+    let mut kept = Vec::new(alloc);
+    for object in objects {
+        if graph.has_label(*object, label) {
+            kept.push(*object)?;
+        }
+    }
+    Ok(kept)
 }
 
 // The first number of the list from this one on. The numbers rise.

@@ -9,7 +9,7 @@ use interval_set::{IntervalSet, Span};
 use itpg_base::{LabelSet, Name, ObjNo};
 use std::alloc::Global;
 
-/// The name and the horizon that a graph was begun with.
+/// The name and the horizon of a graph that is begun.
 #[derive(Drop)]
 pub(crate) struct Opened {
     pub(crate) name: Name,

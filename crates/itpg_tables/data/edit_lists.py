@@ -16,6 +16,7 @@ Rows of the table, one line each:
 import random
 
 LO, HI = 0, 12
+MORE = 80  # the horizon grows by less than this at each end
 NAMES = ["a", "b", "c", "m", "k"]
 PROPS = ["risk", "test"]
 VALUES = ["low", "high"]
@@ -55,6 +56,14 @@ class Model:
             return "all"
         if self.horizon is None:
             return "nograph"
+        if what == "extend":
+            lo, hi = int(words[1]), int(words[2])
+            if lo > hi:
+                return "backwards"
+            if any(not lo <= t <= hi for t in self.horizon):
+                return "narrow"
+            self.horizon = range(lo, hi + 1)
+            return "all"
         if what in ("node", "edge"):
             name, label = words[1], words[2]
             if self.find(name):
@@ -118,7 +127,7 @@ class Model:
 
 def runs(values):
     out = []
-    for t in range(LO - 1, HI + 2):
+    for t in range(LO - MORE - 1, HI + MORE + 2):
         if t in values and (t - 1 not in values or values[t - 1] != values[t]):
             out.append([t, t, values[t]])
         elif t in values:
@@ -128,7 +137,8 @@ def runs(values):
 
 def made_up(r, model):
     def span():
-        a = r.randint(LO, HI)
+        lo, hi = (model.horizon[0], model.horizon[-1]) if model.horizon else (LO, HI)
+        a = r.randint(lo, hi)
         b = a + r.choice([-1, 0, 0, 1, 2, 3, 5, 8])
         return f"{a} {b}"
 
@@ -142,9 +152,12 @@ def made_up(r, model):
     kind = r.random()
     if kind < 0.02:
         return f"graph g {r.randint(LO, HI)} {r.randint(LO, HI)}"
-    if kind < 0.10:
+    if kind < 0.06:
+        lo, hi = (model.horizon[0], model.horizon[-1]) if model.horizon else (LO, HI)
+        return f"extend {lo - r.choice([-1, 0, 0, 1, 2, -30])} {hi + r.choice([-1, 0, 0, 1, 3])}"
+    if kind < 0.12:
         return f"node {node()} {r.choice(['Person', 'Room'])}"
-    if kind < 0.20:
+    if kind < 0.22:
         return f"edge {r.choice(NAMES[3:])} meets {any_name()} {node()}"
     if kind < 0.48:
         return f"live {any_name()} {span()}"
@@ -158,7 +171,7 @@ def made_up(r, model):
 
 
 def main():
-    r = random.Random(20261127)
+    r = random.Random(20261130)
     seen = {}
     for number in range(36):
         model = Model()
@@ -171,7 +184,7 @@ def main():
             print("is " + answer)
             print("graph " + model.told())
         print("end")
-    wanted = "all shape live gone value nograph again taken unknown kind backwards horizon ends absent held incident".split()
+    wanted = "all shape live gone value nograph again taken unknown kind backwards horizon ends absent held incident narrow".split()
     missing = [w for w in wanted if w not in seen]
     assert not missing, missing
 

@@ -8,6 +8,7 @@ written COUNT times, or `byte COUNT NUMBER`, this byte COUNT times.
     show NAME                      edge ID LABEL SOURCE TARGET        put ID PROP 'VALUE' FROM TO
     unwatch NAME                   live ID FROM TO                    clear ID PROP FROM TO
     tick                           gone ID FROM TO                    remove ID
+    extend LO HI
 
 The two numbers of a query text are its first byte's place in the line and the place behind its last.
 
@@ -24,6 +25,7 @@ TOKEN = re.compile(
 OPEN_QUOTE = re.compile(rb"'[\x20-\x26\x28-\x7e]*\Z")
 FORMS = {
     b"graph": ("wii", "begin {} {} {}"),
+    b"extend": ("ii", "extend {} {}"),
     b"node": ("ww", "node {} {}"),
     b"edge": ("wwww", "edge {} {} {} {}"),
     b"live": ("wii", "live {} {} {}"),
@@ -100,8 +102,9 @@ by_hand = [
     ([(1, " "), (1, "\t"), (1, "# live"), (1, "\x00"), (1, "'"), (1, "\xff")], "blank"),
     ([(1, "# two"), (2, "\r")], "blank"),
     ([(1, "tick # x")], "fault byte"),
-    # the thirteen forms
+    # the fourteen forms
     ([(1, "graph g -5 100")], "begin g -5 100"),
+    ([(1, "extend -5 100")], "extend -5 100"),
     ([(1, "node a Person")], "node a Person"),
     ([(1, "edge m meets a b")], "edge m meets a b"),
     ([(1, "live a 0 20")], "live a 0 20"),
@@ -116,6 +119,7 @@ by_hand = [
     ([(1, "tick")], "tick"),
     # each with a CR, and with blanks round its tokens
     ([(1, "graph g 0 1"), (1, "\r")], "begin g 0 1"),
+    ([(1, "extend 0 1"), (1, "\r")], "extend 0 1"),
     ([(1, "node a L"), (1, "\r")], "node a L"),
     ([(1, "ask x"), (1, "\r")], "ask 3 5"),
     ([(1, "watch w x"), (1, "\r")], "watch w 7 9"),
@@ -131,6 +135,8 @@ by_hand = [
     ([(1, "set a p'v'0 9")], "put a p 'v' 0 9"),
     ([(1, "set a p'v'-1-2")], "put a p 'v' -1 -2"),
     ([(1, "live a-3-2")], "live a -3 -2"),
+    ([(1, "extend-3-2")], "extend -3 -2"),
+    ([(1, "extend0 1")], "fault text"),
     ([(1, "live a0 1")], "fault text"),
     ([(1, "ask(x)")], "ask 3 6"),
     ([(1, "watch w(x)")], "watch w 7 10"),
@@ -141,6 +147,7 @@ by_hand = [
     # command words as names, and words that are nearly commands
     ([(1, "live live 0 9")], "live live 0 9"),
     ([(1, "node node edge")], "node node edge"),
+    ([(1, "node extend extend")], "node extend extend"),
     ([(1, "edge set unset drop tick")], "edge set unset drop tick"),
     ([(1, "graph graph 0 0")], "begin graph 0 0"),
     ([(1, "set set set 'set' 0 0")], "put set set 'set' 0 0"),
@@ -154,6 +161,8 @@ by_hand = [
     ([(1, "tic")], "fault text"),
     ([(1, "unse a p 0 9")], "fault text"),
     ([(1, "lives a 0 9")], "fault text"),
+    ([(1, "Extend 0 9")], "fault text"),
+    ([(1, "extends 0 9")], "fault text"),
     ([(1, "asks x")], "fault text"),
     ([(1, "foo")], "fault text"),
     ([(1, "7")], "fault text"),
@@ -165,6 +174,11 @@ by_hand = [
     ([(1, "graph g 0 1 2")], "fault text"),
     ([(1, "graph 0 1 g")], "fault text"),
     ([(1, "graph 'g' 0 1")], "fault text"),
+    ([(1, "extend")], "fault text"),
+    ([(1, "extend 0")], "fault text"),
+    ([(1, "extend 0 1 2")], "fault text"),
+    ([(1, "extend g 0 1")], "fault text"),
+    ([(1, "extend '0' 1")], "fault text"),
     ([(1, "node a")], "fault text"),
     ([(1, "node a b c")], "fault text"),
     ([(1, "node a 'b'")], "fault text"),
@@ -223,6 +237,9 @@ by_hand = [
     ([(1, f"live a 0 {MOST + 1}")], "fault number"),
     ([(1, f"live a -{MOST + 1} 0")], "fault number"),
     ([(1, f"graph g {MOST + 1} {MOST + 1}")], "fault number"),
+    ([(1, f"extend -{MOST} {MOST}")], f"extend -{MOST} {MOST}"),
+    ([(1, f"extend 0 {MOST + 1}")], "fault number"),
+    ([(1, f"extend -{MOST + 1} 0")], "fault number"),
     ([(1, f"gone a 0 {MOST + 1}")], "fault number"),
     ([(1, f"set a p 'v' 0 {MOST + 1}")], "fault number"),
     ([(1, f"set a p 'v' -{MOST + 1} 0")], "fault number"),

@@ -77,6 +77,7 @@ fn describe(alloc: Global, line: &[u8]) -> Result<String> {
 fn describe_edit(alloc: Global, edit: &Edit) -> Result<String> {
     match edit {
         Edit::Begin { name, lo, hi } => Ok(format!(in alloc; "begin {} {lo} {hi}", word(name)?)?),
+        Edit::Extend { lo, hi } => Ok(format!(in alloc; "extend {lo} {hi}")?),
         Edit::AddNode { id, labels } => {
             Ok(format!(in alloc; "node {} {}", word(id)?, word(&label(labels)?)?)?)
         }

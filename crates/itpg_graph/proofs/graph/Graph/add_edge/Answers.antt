@@ -1,4 +1,4 @@
-use Rattle.std.proofs.Common.{◌≡◌, ◌∷◌, ◌++◌, [], ℕ, Some, List, length, map, ap, ◌∙◌, ◌<◌, sym, subst, rules}
+use Rattle.std.proofs.Common.{◌≡◌, ◌∷◌, ◌++◌, [], ℕ, Some, refl, List, length, map, ap, ◌∙◌, ◌<◌, sym, subst, rules}
 use Rattle.std.proofs.lemmas.List.{length-map}
 use Rattle.itpg_base.specs.Graphs.{Graph, Named}
 use Rattle.itpg_base.specs.declared.object_number.ObjNo.{ObjNo}
@@ -6,8 +6,10 @@ use Rattle.itpg_graph.specs.Links.{links_of}
 use Rattle.itpg_graph.specs.Stores.{object_of, graph_of, IsStore, listed}
 use Rattle.itpg_base.specs.Graphs.{changed_at}
 use Rattle.itpg_graph.specs.Kinds.{IsNode}
-use Rattle.itpg_graph.specs.Changes.{with_edge}
+use Rattle.itpg_graph.specs.Changes.{with_edge, new_object}
+use Rattle.itpg_graph.specs.LabelLists.{held, AreHeld}
 use Rattle.itpg_graph.proofs.Goodness.{pushed}
+use Rattle.itpg_graph.proofs.Labels.{labels_push}
 use Rattle.itpg_graph.proofs.Views.{edge_store, added}
 use Rattle.itpg_graph.proofs.graph.Graph.add_edge.Goals as goal
 
@@ -30,9 +32,18 @@ invariant_of-self-2 c =
     let more_out : links_of c.push_at.new.self ≡ now_out = c.push_at.ensures ∙ ap (λ ls. changed_at ls c.args.source.0 add ++ [] ∷ []) c.reserve_at.ensures.same in
     let more_into : links_of c.push_at-2.new.self ≡ now_into = c.push_at-2.ensures ∙ ap (λ ls. changed_at ls c.args.target.0 add ++ [] ∷ []) c.reserve_at-2.ensures.same in
     let now = with_edge g c.args.name c.args.labels c.args.source.0 c.args.target.0 in
-    let store = edge_store g c.args.name c.args.labels c.self.inside.numbers c.list.new.numbers out into c.self.invariant c.len.ensures.set
+    let store = edge_store g c.args.name c.args.labels c.self.inside.numbers c.list.new.numbers out into c.self.invariant.store c.len.ensures.set
     (subst (λ g. (o : ℕ) → Named g o c.args.name → ⊥) is c.requires.free) (subst (λ g. length g.objects < 200000) is c.requires.room) table c.in_ok-list.ensures.others
     c.args.source c.args.target number next (subst (λ g. IsNode g c.args.source.0) is c.requires.source) (subst (λ g. IsNode g c.args.target.0) is c.requires.target) in
-    subst (λ h. IsStore h c.list.new.numbers (links_of c.push_at.new.self) (links_of c.push_at-2.new.self)) (sym (ap (graph_of c.self.inside.opened) items ∙ added c.self.inside.opened old edge ∙ ap (pushed g) c.new-edge.ensures))
-    (subst (λ ls. IsStore now c.list.new.numbers ls (links_of c.push_at-2.new.self)) (sym more_out)
-    (subst (λ ls. IsStore now c.list.new.numbers now_out ls) (sym more_into) store))
+    let own = c.only_label-label.result in
+    let was = held c.self.inside.by_label in
+    let lists = held c.push.new.self in
+    let grown : lists own ≡ was own ++ number ∷ [] = c.push.ensures.own ∙ ap (λ l. l ++ number ∷ []) (c.reserve-2.ensures.same own) in
+    let labels = labels_push g (new_object c.args.name c.args.labels (Some (record { source = c.args.source.0; target = c.args.target.0 }))) own c.only_label-label.ensures refl number next was lists c.self.invariant.labels grown (λ label apart. c.push.ensures.others label apart ∙ c.reserve-2.ensures.same label) in
+    let view : graph_of c.self.inside.opened c.push_reserved.new.self.items ≡ pushed g (new_object c.args.name c.args.labels (Some (record { source = c.args.source.0; target = c.args.target.0 }))) = ap (graph_of c.self.inside.opened) items ∙ added c.self.inside.opened old edge ∙ ap (pushed g) c.new-edge.ensures in
+    record {
+      store = subst (λ h. IsStore h c.list.new.numbers (links_of c.push_at.new.self) (links_of c.push_at-2.new.self)) (sym view)
+          (subst (λ ls. IsStore now c.list.new.numbers ls (links_of c.push_at-2.new.self)) (sym more_out)
+          (subst (λ ls. IsStore now c.list.new.numbers now_out ls) (sym more_into) store));
+      labels = subst (λ h. AreHeld h lists) (sym view) labels;
+    }

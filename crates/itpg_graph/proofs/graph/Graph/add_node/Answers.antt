@@ -1,11 +1,14 @@
-use Rattle.std.proofs.Common.{◌≡◌, ◌∷◌, ◌++◌, [], ℕ, Some, length, map, ap, ◌∙◌, ◌<◌, sym, subst, rules}
+use Rattle.std.proofs.Common.{◌≡◌, ◌∷◌, ◌++◌, [], ℕ, Some, None, refl, length, map, ap, ◌∙◌, ◌<◌, sym, subst, rules}
 use Rattle.std.proofs.lemmas.List.{length-map}
 use Rattle.std.specs.Prelude.{IsSome}
 use Rattle.itpg_base.specs.Graphs.{Graph, Named}
+use Rattle.itpg_base.specs.declared.object_number.ObjNo.{ObjNo}
 use Rattle.itpg_graph.specs.Links.{links_of}
 use Rattle.itpg_graph.specs.Stores.{object_of, graph_of, IsStore, listed}
-use Rattle.itpg_graph.specs.Changes.{with_node}
+use Rattle.itpg_graph.specs.Changes.{with_node, new_object}
+use Rattle.itpg_graph.specs.LabelLists.{held, AreHeld}
 use Rattle.itpg_graph.proofs.Goodness.{pushed}
+use Rattle.itpg_graph.proofs.Labels.{labels_push}
 use Rattle.itpg_graph.proofs.Views.{node_store, added}
 use Rattle.itpg_graph.proofs.graph.Graph.add_node.Goals as goal
 
@@ -16,15 +19,26 @@ invariant_of-self-2 c =
     let g : Graph = graph_of c.self.inside.opened old in
     let node = c.new-node.result in
     let items : c.push_reserved.new.self.items ≡ old ++ node ∷ [] = search rules in
+    let number : ObjNo = record { 0 = c.len-2.result } in
     let count : c.len-2.result ≡ length old = search rules in
-    let table : listed c.list.new.numbers c.args.name ≡ Some (length (map object_of old)) = c.in_ok-list.ensures.ok ∙ ap Some (count ∙ sym (length-map old object_of)) in
+    let next : number.0 ≡ length (map object_of old) = count ∙ sym (length-map old object_of) in
+    let table : listed c.list.new.numbers c.args.name ≡ Some (length (map object_of old)) = c.in_ok-list.ensures.ok ∙ ap Some next in
     let out = links_of c.self.inside.out in
     let into = links_of c.self.inside.into in
     let more_out : links_of c.push.new.self ≡ out ++ [] ∷ [] = c.push.ensures ∙ ap (λ ls. ls ++ [] ∷ []) c.reserve-2.ensures.same in
     let more_into : links_of c.push-2.new.self ≡ into ++ [] ∷ [] = c.push-2.ensures ∙ ap (λ ls. ls ++ [] ∷ []) c.reserve-3.ensures.same in
-    let store = node_store g c.args.name c.args.labels c.self.inside.numbers c.list.new.numbers out into c.self.invariant c.len.ensures.set
+    let store = node_store g c.args.name c.args.labels c.self.inside.numbers c.list.new.numbers out into c.self.invariant.store c.len.ensures.set
     (subst (λ g. (o : ℕ) → Named g o c.args.name → ⊥) is c.requires.free) (subst (λ g. length g.objects < 200000) is c.requires.room) table c.in_ok-list.ensures.others
     (subst (λ g. IsSome g.begun) is c.requires.begun) in
-    subst (λ h. IsStore h c.list.new.numbers (links_of c.push.new.self) (links_of c.push-2.new.self)) (sym (ap (graph_of c.self.inside.opened) items ∙ added c.self.inside.opened old node ∙ ap (pushed g) c.new-node.ensures))
-    (subst (λ ls. IsStore (with_node g c.args.name c.args.labels) c.list.new.numbers ls (links_of c.push-2.new.self)) (sym more_out)
-    (subst (λ ls. IsStore (with_node g c.args.name c.args.labels) c.list.new.numbers (out ++ [] ∷ []) ls) (sym more_into) store))
+    let own = c.only_label-label.result in
+    let was = held c.self.inside.by_label in
+    let lists = held c.push-3.new.self in
+    let grown : lists own ≡ was own ++ number ∷ [] = c.push-3.ensures.own ∙ ap (λ l. l ++ number ∷ []) (c.reserve-4.ensures.same own) in
+    let labels = labels_push g (new_object c.args.name c.args.labels None) own c.only_label-label.ensures refl number next was lists c.self.invariant.labels grown (λ label apart. c.push-3.ensures.others label apart ∙ c.reserve-4.ensures.same label) in
+    let view : graph_of c.self.inside.opened c.push_reserved.new.self.items ≡ pushed g (new_object c.args.name c.args.labels None) = ap (graph_of c.self.inside.opened) items ∙ added c.self.inside.opened old node ∙ ap (pushed g) c.new-node.ensures in
+    record {
+      store = subst (λ h. IsStore h c.list.new.numbers (links_of c.push.new.self) (links_of c.push-2.new.self)) (sym view)
+          (subst (λ ls. IsStore (with_node g c.args.name c.args.labels) c.list.new.numbers ls (links_of c.push-2.new.self)) (sym more_out)
+          (subst (λ ls. IsStore (with_node g c.args.name c.args.labels) c.list.new.numbers (out ++ [] ∷ []) ls) (sym more_into) store));
+      labels = subst (λ h. AreHeld h lists) (sym view) labels;
+    }

@@ -7,4 +7,4 @@ use Rattle.itpg_graph.proofs.graph.Graph.begin.Goals as goal
 
 pub invariant_of-self : goal.invariant_of-self
 invariant_of-self c =
-    begun_store (graph_of c.self.inside.opened c.self.inside.objects.items) c.args.name c.args.horizon c.self.inside.numbers (links_of c.self.inside.out) (links_of c.self.inside.into) c.self.invariant (subst (λ g. IsNone g.begun) (sym c.self.view_is) c.requires.new) c.from.ensures.ordered c.requires.from c.requires.to
+    record { store = begun_store (graph_of c.self.inside.opened c.self.inside.objects.items) c.args.name c.args.horizon c.self.inside.numbers (links_of c.self.inside.out) (links_of c.self.inside.into) c.self.invariant.store (subst (λ g. IsNone g.begun) (sym c.self.view_is) c.requires.new) c.from.ensures.ordered c.requires.from c.requires.to; labels = record { each = c.self.invariant.labels.each } }

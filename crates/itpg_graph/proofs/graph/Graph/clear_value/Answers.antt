@@ -5,7 +5,10 @@ use Rattle.itpg_base.specs.Graphs.{Graph, Stands}
 use Rattle.itpg_graph.specs.Families.{FitClear}
 use Rattle.itpg_graph.specs.Changes.{ClearsValue}
 use Rattle.itpg_graph.specs.Links.{links_of}
+use Rattle.itpg_graph.specs.LabelLists.{held}
 use Rattle.itpg_graph.specs.Stores.{graph_of}
+use Rattle.itpg_graph.proofs.Kept.{properties_shape}
+use Rattle.itpg_graph.proofs.Labels.{labels_written}
 use Rattle.itpg_graph.proofs.Views.{is_within, clears, clear_store}
 use Rattle.itpg_graph.proofs.graph.Graph.clear_value.Goals as goal
 
@@ -17,8 +20,9 @@ invariant_of-self-2 c =
     let is = sym c.self.view_is in
     let stands = subst (λ g. Stands g o) is c.requires.stands in
     let at : slice_get items o ≡ Some s = slice_get_read items (length items) o s refl (is_within c.self.inside.opened items o _ stands) c.index_mut-object.ensures.value in
-    clear_store c.self.inside.opened items o s at c.args.s c.clear.new.self c.args.prop c.in_ok-clear.ensures.ok c.self.inside.numbers (links_of c.self.inside.out) (links_of c.self.inside.into) c.self.invariant stands
-    (subst (λ g. FitClear g o c.args.prop c.args.s) is c.requires.room)
+    let store = clear_store c.self.inside.opened items o s at c.args.s c.clear.new.self c.args.prop c.in_ok-clear.ensures.ok c.self.inside.numbers (links_of c.self.inside.out) (links_of c.self.inside.into) c.self.invariant.store stands
+    (subst (λ g. FitClear g o c.args.prop c.args.s) is c.requires.room) in
+    record { store = store; labels = labels_written c.self.inside.opened c.self.inside.objects.items o s (record s { properties = c.clear.new.self }) (λ x. record x { properties = c.clear.new.self }) (held c.self.inside.by_label) at refl (properties_shape c.clear.new.self) c.self.invariant.labels }
 
 pub returns-clause-ok : goal.returns-clause-ok
 returns-clause-ok c =

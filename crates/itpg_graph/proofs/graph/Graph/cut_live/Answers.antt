@@ -6,7 +6,10 @@ use Rattle.itpg_base.specs.Graphs.{Graph, Stands, HasEnd, Exists}
 use Rattle.itpg_graph.specs.Families.{FitCut}
 use Rattle.itpg_graph.specs.Changes.{CutsLive}
 use Rattle.itpg_graph.specs.Links.{links_of}
+use Rattle.itpg_graph.specs.LabelLists.{held}
 use Rattle.itpg_graph.specs.Stores.{graph_of}
+use Rattle.itpg_graph.proofs.Kept.{families_shape}
+use Rattle.itpg_graph.proofs.Labels.{labels_written}
 use Rattle.itpg_graph.proofs.Views.{is_within, cuts, cut_store}
 use Rattle.itpg_graph.proofs.graph.Graph.cut_live.Goals as goal
 
@@ -18,9 +21,10 @@ invariant_of-self-2 c =
     let is = sym c.self.view_is in
     let stands = subst (λ g. Stands g o) is c.requires.stands in
     let at : slice_get items o ≡ Some s = slice_get_read items (length items) o s refl (is_within c.self.inside.opened items o _ stands) c.index_mut-object.ensures.value in
-    cut_store c.self.inside.opened items o s at c.args.s c.in_ok-properties.properties c.cut_span.new.self c.in_ok-cut_span.ensures.ok c.in_ok-properties.ensures c.self.inside.numbers (links_of c.self.inside.out) (links_of c.self.inside.into) c.self.invariant stands
+    let store = cut_store c.self.inside.opened items o s at c.args.s c.in_ok-properties.properties c.cut_span.new.self c.in_ok-cut_span.ensures.ok c.in_ok-properties.ensures c.self.inside.numbers (links_of c.self.inside.out) (links_of c.self.inside.into) c.self.invariant.store stands
     (subst (λ g. (e : ℕ) (t : ℤ) → HasEnd g e o → Within t c.args.s → Exists g e t → ⊥) is c.requires.held)
-    (subst (λ g. FitCut g o c.args.s) is c.requires.room)
+    (subst (λ g. FitCut g o c.args.s) is c.requires.room) in
+    record { store = store; labels = labels_written c.self.inside.opened c.self.inside.objects.items o s (record s { live = c.cut_span.new.self; properties = c.in_ok-properties.properties }) (λ x. record x { live = c.cut_span.new.self; properties = c.in_ok-properties.properties }) (held c.self.inside.by_label) at refl (families_shape c.cut_span.new.self c.in_ok-properties.properties) c.self.invariant.labels }
 
 pub returns-clause-ok : goal.returns-clause-ok
 returns-clause-ok c =

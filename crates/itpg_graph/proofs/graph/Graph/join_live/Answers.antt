@@ -5,8 +5,10 @@ use Rattle.itpg_base.specs.Spans.{Within}
 use Rattle.itpg_base.specs.Graphs.{Graph, Stands, HasEnd, InHorizon, Exists}
 use Rattle.itpg_graph.specs.Changes.{FitFamily, JoinsLive}
 use Rattle.itpg_graph.specs.Links.{links_of}
+use Rattle.itpg_graph.specs.LabelLists.{held}
 use Rattle.itpg_graph.specs.Stores.{graph_of}
-use Rattle.itpg_graph.proofs.Views.{joins, joined_store, is_within}
+use Rattle.itpg_graph.proofs.Labels.{labels_written}
+use Rattle.itpg_graph.proofs.Views.{joins, joined_store, is_within, live_shape}
 use Rattle.itpg_graph.proofs.graph.Graph.join_live.Goals as goal
 
 pub invariant_of-self-2 : goal.invariant_of-self-2
@@ -14,11 +16,12 @@ invariant_of-self-2 c =
     let at : slice_get c.self.inside.objects.items c.args.o.0 ≡ Some c.index_mut-object.result.now = slice_get_read c.self.inside.objects.items (length c.self.inside.objects.items) c.args.o.0 c.index_mut-object.result.now refl (is_within c.self.inside.opened c.self.inside.objects.items c.args.o.0 _ (subst (λ g. Stands g c.args.o.0) (sym c.self.view_is) c.requires.stands)) c.index_mut-object.ensures.value in
     let is = sym c.self.view_is in
     let o = c.args.o.0 in
-    joined_store c.self.inside.opened c.self.inside.objects.items o c.index_mut-object.result.now at c.args.s c.join_span.new.self c.in_ok-join_span.ensures.ok c.self.inside.numbers (links_of c.self.inside.out) (links_of c.self.inside.into) c.self.invariant
+    let store = joined_store c.self.inside.opened c.self.inside.objects.items o c.index_mut-object.result.now at c.args.s c.join_span.new.self c.in_ok-join_span.ensures.ok c.self.inside.numbers (links_of c.self.inside.out) (links_of c.self.inside.into) c.self.invariant.store
     (subst (λ g. Stands g o) is c.requires.stands)
     (subst (λ g. (t : ℤ) → Within t c.args.s → InHorizon g t) is c.requires.within)
     (subst (λ g. (a : ℕ) → HasEnd g o a → (t : ℤ) → Within t c.args.s → Exists g a t) is c.requires.ends)
-    (subst (λ g. FitFamily g o c.args.s) is c.requires.room)
+    (subst (λ g. FitFamily g o c.args.s) is c.requires.room) in
+    record { store = store; labels = labels_written c.self.inside.opened c.self.inside.objects.items o c.index_mut-object.result.now (record (c.index_mut-object.result.now) { live = c.join_span.new.self }) (λ x. record x { live = c.join_span.new.self }) (held c.self.inside.by_label) at refl (live_shape c.join_span.new.self) c.self.invariant.labels }
 
 pub returns-clause-ok : goal.returns-clause-ok
 returns-clause-ok c =

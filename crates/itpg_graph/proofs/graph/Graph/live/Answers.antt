@@ -8,4 +8,4 @@ use Rattle.itpg_graph.proofs.graph.Graph.live.Goals as goal
 pub returns-clause-few : goal.returns-clause-few
 returns-clause-few c =
     let at : slice_get c.self.inside.objects.items c.args.o.0 ≡ Some c.index.result.now = slice_get_read c.self.inside.objects.items (length c.self.inside.objects.items) c.args.o.0 c.index.result.now refl (is_within c.self.inside.opened c.self.inside.objects.items c.args.o.0 _ (subst (λ g. Stands g c.args.o.0) (sym c.self.view_is) c.requires)) c.index.ensures in
-    few_spans c.self.inside.opened c.self.inside.objects.items c.args.o.0 c.index.result.now c.self.invariant.good at
+    few_spans c.self.inside.opened c.self.inside.objects.items c.args.o.0 c.index.result.now c.self.invariant.store.good at

@@ -12,4 +12,4 @@ returns-clause-few c =
     let items = c.self.inside.objects.items in
     let within = is_within c.self.inside.opened items c.args.o.0 _ (subst (λ g. Stands g c.args.o.0) (sym c.self.view_is) c.requires) in
     let at : slice_get items c.args.o.0 ≡ Some c.index.result.now = slice_get_read items (length items) c.args.o.0 c.index.result.now refl within c.index.ensures in
-    subst (λ n. n ≤ 64) (sym c.count.ensures) ((c.self.invariant.good.objects c.args.o.0 (object_of c.index.result.now) (at_mapped object_of items c.args.o.0 c.index.result.now at)).few_properties)
+    subst (λ n. n ≤ 64) (sym c.count.ensures) ((c.self.invariant.store.good.objects c.args.o.0 (object_of c.index.result.now) (at_mapped object_of items c.args.o.0 c.index.result.now at)).few_properties)

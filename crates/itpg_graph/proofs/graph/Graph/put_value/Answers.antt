@@ -6,7 +6,10 @@ use Rattle.itpg_base.specs.Graphs.{Graph, Stands, Exists}
 use Rattle.itpg_graph.specs.Families.{FitPut, HasPlace}
 use Rattle.itpg_graph.specs.Changes.{PutsValue}
 use Rattle.itpg_graph.specs.Links.{links_of}
+use Rattle.itpg_graph.specs.LabelLists.{held}
 use Rattle.itpg_graph.specs.Stores.{graph_of}
+use Rattle.itpg_graph.proofs.Kept.{properties_shape}
+use Rattle.itpg_graph.proofs.Labels.{labels_written}
 use Rattle.itpg_graph.proofs.Views.{is_within, puts, put_store}
 use Rattle.itpg_graph.proofs.graph.Graph.put_value.Goals as goal
 
@@ -18,10 +21,11 @@ invariant_of-self-2 c =
     let is = sym c.self.view_is in
     let stands = subst (λ g. Stands g o) is c.requires.stands in
     let at : slice_get items o ≡ Some s = slice_get_read items (length items) o s refl (is_within c.self.inside.opened items o _ stands) c.index_mut-object.ensures.value in
-    put_store c.self.inside.opened items o s at c.args.s c.put.new.self c.args.prop c.args.value c.in_ok-put.ensures.ok c.self.inside.numbers (links_of c.self.inside.out) (links_of c.self.inside.into) c.self.invariant stands
+    let store = put_store c.self.inside.opened items o s at c.args.s c.put.new.self c.args.prop c.args.value c.in_ok-put.ensures.ok c.self.inside.numbers (links_of c.self.inside.out) (links_of c.self.inside.into) c.self.invariant.store stands
     (subst (λ g. (t : ℤ) → Within t c.args.s → Exists g o t) is c.requires.present)
     (subst (λ g. FitPut g o c.args.prop c.args.value c.args.s) is c.requires.room)
-    (subst (λ g. HasPlace g o c.args.prop) is c.requires.place)
+    (subst (λ g. HasPlace g o c.args.prop) is c.requires.place) in
+    record { store = store; labels = labels_written c.self.inside.opened c.self.inside.objects.items o s (record s { properties = c.put.new.self }) (λ x. record x { properties = c.put.new.self }) (held c.self.inside.by_label) at refl (properties_shape c.put.new.self) c.self.invariant.labels }
 
 pub returns-clause-ok : goal.returns-clause-ok
 returns-clause-ok c =

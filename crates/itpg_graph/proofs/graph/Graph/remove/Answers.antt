@@ -4,19 +4,10 @@ use Rattle.std.proofs.lemmas.Option.{slice_get_read}
 use Rattle.itpg_base.specs.Graphs.{Stands, HasEnd}
 use Rattle.itpg_graph.specs.Changes.{without}
 use Rattle.itpg_graph.specs.Links.{links_of}
+use Rattle.itpg_graph.specs.LabelLists.{held}
+use Rattle.itpg_graph.proofs.Labels.{gone_labels}
 use Rattle.itpg_graph.proofs.Views.{is_within, dropped_view, dropped_node, dropped_edge, source_within, target_within}
 use Rattle.itpg_graph.proofs.graph.Graph.remove.Goals as goal
-
-pub remove-requires : goal.remove-requires
-remove-requires c =
-    let items = c.self.inside.objects.items in
-    let o = c.args.o.0 in
-    let s = c.index_mut-object.result.now in
-    let is = sym c.self.view_is in
-    let stands = subst (λ g. Stands g o) is c.requires.stands in
-    let at : slice_get items o ≡ Some s = slice_get_read items (length items) o s refl (is_within c.self.inside.opened items o _ stands) c.index_mut-object.ensures.value in
-    let free = subst (λ g. (e : ℕ) → HasEnd g e o → ⊥) is c.requires.free in
-    source_within c.self.inside.opened items o s at [] [] refl refl c.self.inside.numbers (links_of c.self.inside.out) (links_of c.self.inside.into) c.self.invariant c.in-Some.source c.in-Some.target c.in-Some.is stands
 
 pub remove-requires-in-Some : goal.remove-requires-in-Some
 remove-requires-in-Some c =
@@ -27,7 +18,18 @@ remove-requires-in-Some c =
     let stands = subst (λ g. Stands g o) is c.requires.stands in
     let at : slice_get items o ≡ Some s = slice_get_read items (length items) o s refl (is_within c.self.inside.opened items o _ stands) c.index_mut-object.ensures.value in
     let free = subst (λ g. (e : ℕ) → HasEnd g e o → ⊥) is c.requires.free in
-    target_within c.self.inside.opened items o s at [] [] refl refl c.self.inside.numbers (links_of c.self.inside.out) (links_of c.self.inside.into) c.self.invariant c.in-Some.source c.in-Some.target c.in-Some.is stands
+    source_within c.self.inside.opened items o s at [] [] refl refl c.self.inside.numbers (links_of c.self.inside.out) (links_of c.self.inside.into) c.self.invariant.store c.in-Some.source c.in-Some.target c.in-Some.is stands
+
+pub remove-requires-in-Some-2 : goal.remove-requires-in-Some-2
+remove-requires-in-Some-2 c =
+    let items = c.self.inside.objects.items in
+    let o = c.args.o.0 in
+    let s = c.index_mut-object.result.now in
+    let is = sym c.self.view_is in
+    let stands = subst (λ g. Stands g o) is c.requires.stands in
+    let at : slice_get items o ≡ Some s = slice_get_read items (length items) o s refl (is_within c.self.inside.opened items o _ stands) c.index_mut-object.ensures.value in
+    let free = subst (λ g. (e : ℕ) → HasEnd g e o → ⊥) is c.requires.free in
+    target_within c.self.inside.opened items o s at [] [] refl refl c.self.inside.numbers (links_of c.self.inside.out) (links_of c.self.inside.into) c.self.invariant.store c.in-Some.source c.in-Some.target c.in-Some.is stands
 
 pub invariant_of-self : goal.invariant_of-self
 invariant_of-self c =
@@ -38,7 +40,10 @@ invariant_of-self c =
     let stands = subst (λ g. Stands g o) is c.requires.stands in
     let at : slice_get items o ≡ Some s = slice_get_read items (length items) o s refl (is_within c.self.inside.opened items o _ stands) c.index_mut-object.ensures.value in
     let free = subst (λ g. (e : ℕ) → HasEnd g e o → ⊥) is c.requires.free in
-    dropped_edge c.self.inside.opened items o s at c.new.result c.new-2.result c.new.ensures c.new-2.ensures c.self.inside.numbers (links_of c.self.inside.out) (links_of c.self.inside.into) c.self.invariant c.in-Some.source c.in-Some.target c.in-Some.is stands free (links_of c.remove.new.self) (links_of c.remove-in-Some.new.self) c.remove.ensures c.remove-in-Some.ensures
+    record {
+      store = dropped_edge c.self.inside.opened items o s at c.new.result c.new-2.result c.new.ensures c.new-2.ensures c.self.inside.numbers (links_of c.self.inside.out) (links_of c.self.inside.into) c.self.invariant.store c.in-Some.source c.in-Some.target c.in-Some.is stands free (links_of c.remove-in-Some.new.self) (links_of c.remove-in-Some-2.new.self) c.remove-in-Some.ensures c.remove-in-Some-2.ensures;
+      labels = gone_labels c.self.inside.opened items o s at c.new.result c.new-2.result c.new.ensures c.new-2.ensures c.only_label-label.result c.only_label-label.ensures (held c.self.inside.by_label) (held c.remove.new.self) c.self.invariant.labels c.remove.ensures.own c.remove.ensures.others;
+    }
 
 pub invariant_of-self-in_default : goal.invariant_of-self-in_default
 invariant_of-self-in_default c =
@@ -49,7 +54,10 @@ invariant_of-self-in_default c =
     let stands = subst (λ g. Stands g o) is c.requires.stands in
     let at : slice_get items o ≡ Some s = slice_get_read items (length items) o s refl (is_within c.self.inside.opened items o _ stands) c.index_mut-object.ensures.value in
     let free = subst (λ g. (e : ℕ) → HasEnd g e o → ⊥) is c.requires.free in
-    dropped_node c.self.inside.opened items o s at c.new.result c.new-2.result c.new.ensures c.new-2.ensures c.self.inside.numbers (links_of c.self.inside.out) (links_of c.self.inside.into) c.self.invariant free c.in_default.is
+    record {
+      store = dropped_node c.self.inside.opened items o s at c.new.result c.new-2.result c.new.ensures c.new-2.ensures c.self.inside.numbers (links_of c.self.inside.out) (links_of c.self.inside.into) c.self.invariant.store free c.in_default.is;
+      labels = gone_labels c.self.inside.opened items o s at c.new.result c.new-2.result c.new.ensures c.new-2.ensures c.only_label-label.result c.only_label-label.ensures (held c.self.inside.by_label) (held c.remove.new.self) c.self.invariant.labels c.remove.ensures.own c.remove.ensures.others;
+    }
 
 pub returns-in-Some : goal.returns-in-Some
 returns-in-Some c =

@@ -33,5 +33,5 @@ returns-clause-few c =
     let stands = subst (λ g. Stands g o) is c.requires in
     let at : slice_get items o ≡ Some s = slice_get_read items (length items) o s refl (is_within c.self.inside.opened items o _ stands) c.index.ensures in
     let place = at_mapped object_of items o s at in
-    let kept = c.self.invariant.good.objects o (object_of s) place in
+    let kept = c.self.invariant.store.good.objects o (object_of s) place in
     IfSome_then c.get.result c.get.ensures.some (λ values runs. few_runs s.properties c.args.prop.now values.now kept.properties kept.differ runs)

@@ -1,0 +1,90 @@
+//! The objects with each label.
+ghost use Rattle.std.specs.Prelude.{◌≡◌, ◌≢◌, ◌∷◌, ◌++◌, [], OnOk};
+ghost use Rattle.itpg_base.specs.Words.{Word};
+ghost use Rattle.itpg_graph.specs.LabelLists.{held, HasNone, HasRoomWith};
+ghost use Rattle.itpg_graph.specs.Links.{LosesIfRising};
+
+use crate::links::take_out;
+use indexmap::IndexMap;
+use itpg_base::{LabelSet, Name, ObjNo};
+use std::alloc::{AllocError, Global};
+
+/// For each label, the rising numbers of the standing objects that have it. A label that no object was declared with has no
+/// list.
+#[derive(Drop)]
+pub(crate) struct ByLabel {
+    pub(crate) lists: IndexMap<Name, Vec<ObjNo>>,
+}
+
+impl ByLabel {
+    /// The table of no object. It takes no memory.
+    pub(crate) fn new(alloc: Global) -> ByLabel
+        ensures { (label : Word) → held result label ≡ [] }
+    {
+        ByLabel {
+            lists: IndexMap::new(alloc),
+        }
+    }
+
+    /// The objects with a label.
+    pub(crate) fn at(&self, label: &Name) -> &[ObjNo]
+        ensures { result.now ≡ held self.now label.now }
+    {
+        match self.lists.get(label) {
+            Some(list) => list.as_slice(),
+            None => &[],
+        }
+    }
+
+    /// Makes room for one more object with the label.
+    pub(crate) fn reserve(&mut self, alloc: Global, label: &Name) -> Result<(), AllocError>
+        ensures same { (other : Word) → held self.new other ≡ held self.old other }
+        ensures room { OnOk result (HasRoomWith self.new label.now) }
+    {
+        if let Some(list) = self.lists.get_mut(label) {
+            return list.reserve(1);
+        }
+        self.add(alloc, *label)
+    }
+
+    // Adds the list of a label, with room for one object.
+    fn add(&mut self, alloc: Global, label: Name) -> Result<(), AllocError>
+        requires { HasNone self.old label }
+        ensures same { (other : Word) → held self.new other ≡ held self.old other }
+        ensures room { OnOk result (HasRoomWith self.new label) }
+    {
+        let mut list = Vec::new(alloc);
+        list.reserve(1)?;
+        self.lists.insert(label, list)?;
+        Ok(())
+    }
+
+    /// Adds an object with the label, whose number is the greatest.
+    pub(crate) fn push(&mut self, label: &Name, number: ObjNo)
+        requires { HasRoomWith self.old label.now }
+        ensures own { held self.new label.now ≡ held self.old label.now ++ number ∷ [] }
+        ensures others { (other : Word) → other ≢ label.now → held self.new other ≡ held self.old other }
+    {
+        if let Some(list) = self.lists.get_mut(label) {
+            list.push_reserved(number);
+        }
+    }
+
+    /// Takes an object with the label away.
+    pub(crate) fn remove(&mut self, label: &Name, number: ObjNo)
+        ensures own { LosesIfRising (held self.old label.now) number.0 (held self.new label.now) }
+        ensures others { (other : Word) → other ≢ label.now → held self.new other ≡ held self.old other }
+    {
+        if let Some(list) = self.lists.get_mut(label) {
+            take_out(list, number);
+        }
+    }
+}
+
+// The label of an object, which has one.
+pub(crate) fn only_label(labels: &LabelSet) -> Name
+    ensures { labels.now ≡ result ∷ [] }
+{
+    prove!(labels.len() == 1);
+    labels.get(0).unwrap()
+}
