@@ -13,6 +13,7 @@ use Rattle.relation_rows.specs.declared.rows.RelFault.TheVariants.{Memory, Wide}
 use Rattle.relation_rows.specs.Rows.{between, RowBefore, NormalRows, IsWide}
 use Rattle.relation_rows.specs.Answers.{Gives}
 use Rattle.relation_rows.specs.Relations.{HasMiddlePoint}
+use Rattle.relation_rows.specs.Apart.{AreLone}
 use Rattle.relation_rows.proofs.Listed.{Listed, join, goes_further, normal_of, listed_of, carried, row_apart, ordered_fewer}
 use Rattle.relation_rows.proofs.Alike.{row_alike, rows_alike, row_start, in_relation}
 use Rattle.relation_rows.proofs.Keeping.{kept_exists, kept_normal}
@@ -174,5 +175,5 @@ all_composed rows second left done none g =
     let e = no_first left none in
     normal_of (HasMiddlePoint rows second) (λ (o p : ℕ). IsEarlier left o) done g.listed (λ x y h r a. absurd (subst (λ (v : List Row). Among v r) e a))
 
-pub group_formed : (rows : List Row) (second : List Row) (left done : List Row) → HasComposed rows second left done → (n : ℕ) (group : List Row) → group ≡ take n left → ((r : Row) → Among rows r → IsWellFormed r.band) → (r : Row) → Among group r → IsWellFormed r.band
-group_formed rows second left done g n group e formed r a = formed r (g.there r (front_among left n r (subst (λ (v : List Row). Among v r) e a)))
+pub group_lone : (rows : List Row) (second : List Row) (left done : List Row) → HasComposed rows second left done → (n : ℕ) (group : List Row) → group ≡ take n left → AreLone rows → AreLone group
+group_lone rows second left done g n group e lone r a = lone r (g.there r (front_among left n r (subst (λ (v : List Row). Among v r) e a)))

@@ -12,16 +12,16 @@ use Rattle.relation_rows.specs.Times.{InTime, TimesHold, OnlyFirstHas, AreTimes}
 use Rattle.relation_rows.proofs.Finite.{lower_of, upper_of, between_wider}
 use Rattle.relation_rows.proofs.TimeLaws.{times_exist}
 
-has_more : (r : OneRow) (rows : List OneRow) (o : ℕ) (t : ℤ) → TimesHold (r ∷ rows) o t → InTime r o t ⊎ TimesHold rows o t
+pub has_more : (r : OneRow) (rows : List OneRow) (o : ℕ) (t : ℤ) → TimesHold (r ∷ rows) o t → InTime r o t ⊎ TimesHold rows o t
 has_more r rows o t h = ⊎_elim (λ (e : r ≡ h.0). inl (subst (λ (v : OneRow). InTime v o t) (sym e) h.2)) (λ a. inr (h.0, a, h.2)) h.1
 
-more_has : (r : OneRow) (rows : List OneRow) (o : ℕ) (t : ℤ) → InTime r o t ⊎ TimesHold rows o t → TimesHold (r ∷ rows) o t
+pub more_has : (r : OneRow) (rows : List OneRow) (o : ℕ) (t : ℤ) → InTime r o t ⊎ TimesHold rows o t → TimesHold (r ∷ rows) o t
 more_has r rows o t (inl i) = (r, inl refl, i)
 more_has r rows o t (inr h) = (h.0, inr h.1, h.2)
 
-record HasBounds (rows : List OneRow) (objects : ℕ) (low high : ℤ) : Type 0 where
-  object : (o : ℕ) (t : ℤ) → TimesHold rows o t → o < objects
-  moment : (o : ℕ) (t : ℤ) → TimesHold rows o t → Between low high t
+pub record HasBounds (rows : List OneRow) (objects : ℕ) (low high : ℤ) : Type 0 where
+  pub object : (o : ℕ) (t : ℤ) → TimesHold rows o t → o < objects
+  pub moment : (o : ℕ) (t : ℤ) → TimesHold rows o t → Between low high t
 
 bounds_more : (r : OneRow) (rows : List OneRow) (objects : ℕ) (low high least greatest : ℤ) → HasBounds rows objects low high → least ≤ℤ r.span.from → least ≤ℤ low → r.span.to ≤ℤ greatest → high ≤ℤ greatest
     → HasBounds (r ∷ rows) (r.object.0 + 1 + objects) least greatest
@@ -36,7 +36,7 @@ bounds_more r rows objects low high least greatest b lf ll tg hg = record {
         let going = w.going in
         record { above = omega (arith, ints); below = omega (arith, ints) }
 
-times_finite : (rows : List OneRow) → (objects : ℕ) × (low : ℤ) × (high : ℤ) × HasBounds rows objects low high
+pub times_finite : (rows : List OneRow) → (objects : ℕ) × (low : ℤ) × (high : ℤ) × HasBounds rows objects low high
 times_finite [] = (0, pos 0, pos 0, record { object = λ o t h. absurd h.1; moment = λ o t h. absurd h.1 })
 times_finite (r ∷ rows) =
     let b = times_finite rows in
@@ -50,7 +50,7 @@ decide_time r o t = as_well
     (λ i. (i.object, i.moment))
     (both (same_number r.object.0 o) (within_span t r.span))
 
-decide_times : (rows : List OneRow) (o : ℕ) (t : ℤ) → Decided (TimesHold rows o t)
+pub decide_times : (rows : List OneRow) (o : ℕ) (t : ℤ) → Decided (TimesHold rows o t)
 decide_times [] o t = inr (λ h. h.1)
 decide_times (r ∷ rows) o t = as_well (more_has r rows o t) (has_more r rows o t) (either (decide_time r o t) (decide_times rows o t))
 

@@ -38,3 +38,9 @@ pub mod Giving
 pub mod Sorting
 pub mod StrikeLemmas
 pub mod ItemZones
+pub mod ApartRows
+pub mod RestingRows
+pub mod DirectWays
+pub mod CutRows
+pub mod Neighbours
+pub mod BandWays

@@ -44,6 +44,21 @@ is_left : (s : OneRow) (o : ℕ) (t : ℤ) → Past s o (s.span.to <ℤ t) → e
 is_left s o t (inl l) = grind (arith, ints, Decides-ltb)
 is_left s o t (inr (e, l)) = grind (arith, ints, Decides-ltb)
 
+pub ended : (s : OneRow) (o : ℕ) (t : ℤ) → ends_before s o t ≡ true → (s.object.0 < o) ⊎ ((s.object.0 ≡ o) × (s.span.to <ℤ t))
+ended s o t e = left_is s o t e
+
+pub ends_partitioned : (rows : List OneRow) → Ordered Rises rows → (o : ℕ) (from : ℤ) → IsPartitionedBy (λ (s : OneRow). ends_before s o from) rows
+ends_partitioned rows order o from i j d le lt e = elim (eqb_tells i j) [
+  | inl s ↦ subst (λ (v : ℕ). ends_before (get_or rows v d) o from ≡ true) (sym s.1) e
+  | inr m ↦ is_left (get_or rows i d) o from (go (get_or rows i d) (get_or rows j d) (ordered_by_place Rises rows order i j d (let ne = m.1 in omega arith) lt) (left_is (get_or rows j d) o from e))
+]
+  where
+    go : (s t : OneRow) → Rises s t → Past t o (t.span.to <ℤ from) → Past s o (s.span.to <ℤ from)
+    go s t (inl l) (inl m) = inl (omega arith)
+    go s t (inl l) (inr (f, m)) = inl (omega arith)
+    go s t (inr (e, a, b)) (inl m) = inl (omega arith)
+    go s t (inr (e, a, b)) (inr (f, m)) = inr (e ∙ f, omega (arith, ints))
+
 module _ (rows : List OneRow) (table : IsOneTime rows) (o : ℕ) (from to : ℤ) where
   pub count_partitioned : IsPartitionedBy (λ (s : OneRow). begins_by s o to) rows
   count_partitioned i j d le lt e = elim (eqb_tells i j) [
@@ -62,16 +77,7 @@ module _ (rows : List OneRow) (table : IsOneTime rows) (o : ℕ) (from to : ℤ)
     begun_order = ordered_first Rises (take n rows) (drop n rows) (subst (λ (v : List OneRow). Ordered Rises v) (sym (take-append-drop n rows)) (rising rows table))
 
     pub left_partitioned : IsPartitionedBy (λ (s : OneRow). ends_before s o from) (take n rows)
-    left_partitioned i j d le lt e = elim (eqb_tells i j) [
-      | inl s ↦ subst (λ (v : ℕ). ends_before (get_or (take n rows) v d) o from ≡ true) (sym s.1) e
-      | inr m ↦ is_left (get_or (take n rows) i d) o from (go (get_or (take n rows) i d) (get_or (take n rows) j d) (ordered_by_place Rises (take n rows) begun_order i j d (let ne = m.1 in omega arith) lt) (left_is (get_or (take n rows) j d) o from e))
-    ]
-      where
-        go : (s t : OneRow) → Rises s t → Past t o (t.span.to <ℤ from) → Past s o (s.span.to <ℤ from)
-        go s t (inl l) (inl m) = inl (omega arith)
-        go s t (inl l) (inr (f, m)) = inl (omega arith)
-        go s t (inr (e, a, b)) (inl m) = inl (omega arith)
-        go s t (inr (e, a, b)) (inr (f, m)) = inr (e ∙ f, omega (arith, ints))
+    left_partitioned = ends_partitioned (take n rows) begun_order o from
 
     module _ (m : ℕ) (within : m ≤ length (take n rows)) (split : IsPartitionPoint (λ (s : OneRow). ends_before s o from ≡ true) (λ (s : OneRow). ends_before s o from ≡ false) (take n rows) m) where
       rest_is : take (length (take n rows) - m) (drop m (take n rows)) ≡ drop m (take n rows)

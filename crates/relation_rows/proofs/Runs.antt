@@ -4,14 +4,14 @@ use Rattle.std.proofs.lemmas.Int.{ints}
 use Rattle.std.proofs.lemmas.List.{take_more, take_all, get_or-take, get_or-drop, length-take, length-drop}
 use Rattle.std.specs.Prelude.{slice_get}
 use Rattle.std.specs.Ordering.{nat_cmp, int_cmp, is_lt, ordering_then}
-use Rattle.std.specs.List.Sorted.{IsPermutation}
 use Rattle.itpg_base.specs.Spans.{Within, IsSpan}
 use Rattle.itpg_base.specs.Lists.{Among, Ordered}
-use Rattle.itpg_base.proofs.Lists.{ordered_at, ordered_from_neighbours, permutation_among, among_permutation}
+use Rattle.itpg_base.proofs.Lists.{ordered_at, ordered_from_neighbours}
 use Rattle.relation_rows.specs.declared.times.OneRow.{OneRow}
 use Rattle.relation_rows.specs.Times.{TimesHold, TimeUpTo, AreTimes, IsOneTime, Joins}
 use Rattle.relation_rows.proofs.Partitions.{front_among}
 use Rattle.relation_rows.proofs.Legs.{up_to}
+use Rattle.relation_rows.proofs.Neighbours.{AreNext}
 use Rattle.relation_rows.proofs.Coalescing.{Coalesced, coalesced_first, coalesced_joined, coalesced_pushed, time_trans}
 
 pub take_one : (times : List OneRow) (first : OneRow) → Some first ≡ slice_get times 0 → take (0 + 1) times ≡ first ∷ []
@@ -78,10 +78,10 @@ pub sorted_times : (times : List OneRow)
     → Ordered TimeUpTo times
 sorted_times times up = ordered_from_neighbours TimeUpTo time_trans times (λ k d lt. up_to _ _ _ _ (up k d (omega arith) lt))
 
-pub times_permuted : (xs ys : List OneRow) → IsPermutation xs ys → (rows : List OneRow) → AreTimes (TimesHold ys) rows → AreTimes (TimesHold xs) rows
+pub times_permuted : (xs ys : List OneRow) → ((r : OneRow) → Among ys r ↔ Among xs r) → (rows : List OneRow) → AreTimes (TimesHold ys) rows → AreTimes (TimesHold xs) rows
 times_permuted xs ys p rows a = record {
-  whole = λ o t h. a.whole o t (h.0, among_permutation xs ys p h.0 h.1, h.2);
-  only = λ o t h. let k = a.only o t h in (k.0, permutation_among xs ys p k.0 k.1, k.2);
+  whole = λ o t h. a.whole o t (h.0, (p h.0).1 h.1, h.2);
+  only = λ o t h. let k = a.only o t h in (k.0, (p k.0).0 k.1, k.2);
   spans = a.spans;
   order = a.order;
 }
@@ -109,3 +109,7 @@ module _ (times : List OneRow) (order : Ordered TimeUpTo times) (spans : (r : On
   pub item_pushed : (Joins last x → ⊥) → (all : List OneRow) → all ≡ rows ++ last ∷ [] → Coalesced (take (i + 1 + 1) times) all x
   item_pushed apart all e = subst (λ (v : OneRow). Coalesced (take (i + 1 + 1) times) all v) (sym read)
       (step_pushed times order spans i x lt rows last c (λ j. apart (subst (λ (v : OneRow). Joins last v) (sym read) j)) all e)
+
+-- neighbours in order
+pub all_up : (times : List OneRow) (i : ℕ) → length times ≤ i → AreNext TimeUpTo times i → Ordered TimeUpTo times
+all_up times i le so = ordered_from_neighbours TimeUpTo time_trans times (λ k d lt. so k d (omega (arith, le, lt)))

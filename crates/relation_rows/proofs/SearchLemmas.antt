@@ -98,6 +98,15 @@ module _ {X : Type 0} (number : X → ℕ) (o : ℕ) where
       → IsPartitionPoint (λ (r : X). has_number r ≡ true) (λ (r : X). has_number r ≡ false) rows n
   number_ends rows n e parts some lt before here = place_between has_number rows n e parts some lt (is_number (get_or rows (n - 1) e) before) (not_number (get_or rows n e) here)
 
+  -- no number is o, if the first isn't
+  pub number_nowhere : (rows : List X) (e : X) → IsPartitionedBy has_number rows → 0 < length rows → (number (get_or rows 0 e) ≡ o → ⊥)
+      → IsPartitionPoint (λ (r : X). has_number r ≡ true) (λ (r : X). has_number r ≡ false) rows 0
+  number_nowhere rows e parts some other = (λ k d le lk. absurd (omega (arith, lk)), λ k d le lk. by_test k d le lk (has_number (get_or rows k d)) refl)
+    where
+      by_test : (k : ℕ) (d : X) → 0 ≤ k → k < length rows → (b : Bool) → has_number (get_or rows k d) ≡ b → has_number (get_or rows k d) ≡ false
+      by_test k d le lk false f = f
+      by_test k d le lk true f = absurd (other (number_is (get_or rows 0 e) (subst (λ (v : X). has_number v ≡ true) (get_or_default rows 0 d e some) (parts 0 k d le lk f))))
+
   module _ (Before : X → X → Type 0) (up : (r s : X) → Before r s → number r ≤ number s) (rows : List X) (order : Ordered Before rows) where
     less_down : (r s : X) → Before r s → has_less s ≡ true → has_less r ≡ true
     less_down r s b e = is_less r (let l = less_is s e in let u = up r s b in omega arith)
@@ -111,6 +120,24 @@ module _ {X : Type 0} (number : X → ℕ) (o : ℕ) where
     pub less_partitioned : IsPartitionedBy has_less rows
     less_partitioned = early_partitioned Before has_less has_number less_down number_down number_apart rows order
 
+    climb : (i j : ℕ) (d : X) → i ≤ j → j < length rows → number (get_or rows i d) ≤ number (get_or rows j d)
+    climb i j d le lj = elim (eqb_tells i j) [
+      | inl e ↦ subst (λ (v : ℕ). number (get_or rows i d) ≤ number (get_or rows v d)) e.1 (omega arith)
+      | inr m ↦ up (get_or rows i d) (get_or rows j d) (ordered_by_place Before rows order i j d (let ne = m.1 in omega arith) lj)
+    ]
+
+    -- the end, where the last number is less
+    pub end_is_point : (n : ℕ) (e : X) → n ≡ length rows → 0 < n → number (get_or rows (n - 1) e) < o
+        → IsPartitionPoint (λ (r : X). has_less r ≡ true) (λ (r : X). has_less r ≡ false) rows n
+    end_is_point n e is some less = (
+      λ k d le lk.
+          let within : n - 1 < length rows = omega (arith, is, some) in
+          let at = subst (λ (v : X). number v < o) (get_or_default rows (n - 1) e d within) less in
+          let higher = climb k (n - 1) d (omega (arith, lk)) within in
+          is_less (get_or rows k d) (omega (arith, at, higher)),
+      λ k d le lk. absurd (omega (arith, le, lk, is)),
+    )
+
     -- a place at which no number is less, and before which there is none or one that is
     pub place_is_point : (n : ℕ) (e : X) → n < length rows → o ≤ number (get_or rows n e) → (n ≡ 0) ⊎ (number (get_or rows (n - 1) e) < o)
         → IsPartitionPoint (λ (r : X). has_less r ≡ true) (λ (r : X). has_less r ≡ false) rows n
@@ -119,12 +146,6 @@ module _ {X : Type 0} (number : X → ℕ) (o : ℕ) where
       λ k d le lk. is_not_less (get_or rows k d) (behind k d le lk),
     )
       where
-        climb : (i j : ℕ) (d : X) → i ≤ j → j < length rows → number (get_or rows i d) ≤ number (get_or rows j d)
-        climb i j d le lj = elim (eqb_tells i j) [
-          | inl e ↦ subst (λ (v : ℕ). number (get_or rows i d) ≤ number (get_or rows v d)) e.1 (omega arith)
-          | inr m ↦ up (get_or rows i d) (get_or rows j d) (ordered_by_place Before rows order i j d (let ne = m.1 in omega arith) lj)
-        ]
-
         behind : (k : ℕ) (d : X) → n ≤ k → k < length rows → o ≤ number (get_or rows k d)
         behind k d le lk =
             let at = subst (λ (v : X). o ≤ number v) (get_or_default rows n e d lt) late in

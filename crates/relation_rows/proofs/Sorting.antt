@@ -1,8 +1,8 @@
 -- Items that are sorted by source and target.
-use Rattle.std.proofs.Common.{◌≡◌, ◌⊎◌, inl, inr, ℕ, ◌+◌, ◌<◌, ◌≤◌, List, length, get_or, false, sym, ◌∙◌, subst, arith, true≢false}
+use Rattle.std.proofs.Common.{◌≡◌, ◌⊎◌, inl, inr, ℕ, ◌+◌, ◌<◌, ◌≤◌, List, length, get_or, false, refl, sym, ◌∙◌, subst, arith, true≢false}
 use Rattle.std.specs.Ordering.{nat_cmp, is_lt, ordering_then}
 use Rattle.std.specs.declared.cmp.Ordering.{Ordering}
-use Rattle.std.specs.declared.cmp.Ordering.TheVariants.{Less, Equal}
+use Rattle.std.specs.declared.cmp.Ordering.TheVariants.{Less, Equal, Greater}
 use Rattle.std.specs.List.Sorted.{IsPermutation}
 use Rattle.itpg_base.specs.Points.{Point}
 use Rattle.itpg_base.specs.Lists.{Ordered}
@@ -38,6 +38,12 @@ pub sorted_items : (items : List Item)
     → ((k : ℕ) (d : Item) → 0 ≤ k → k + 1 < length items → is_lt (ordering_then (nat_cmp (get_or items (k + 1) d).0.0 (get_or items k d).0.0) (nat_cmp (get_or items (k + 1) d).1.0 (get_or items k d).1.0)) ≡ false)
     → Ordered ItemUpTo items
 sorted_items items up = ordered_from_neighbours ItemUpTo item_trans items (λ k d lt. up_to _ _ _ _ (up k d (omega arith) lt))
+
+-- what isn't less by two measures isn't less by the first
+pub first_not_less : (p q : Ordering) → is_lt (ordering_then p q) ≡ false → is_lt p ≡ false
+first_not_less Less q e = absurd (true≢false e)
+first_not_less Equal q e = refl
+first_not_less Greater q e = refl
 
 -- items in another order hold the same
 pub items_to : (xs ys : List Item) → IsPermutation xs ys → (x y : Point) → ItemsHold xs x y → ItemsHold ys x y

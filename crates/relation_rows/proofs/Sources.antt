@@ -3,7 +3,7 @@ use Rattle.std.proofs.Common.{◌≡◌, ◌↔◌, ◌⊎◌, inl, inr, ⊎_eli
 use Rattle.std.specs.Prelude.{slice_get, ◌==◌}
 use Rattle.std.specs.List.Sorted.{IsPartitionedBy, IsPartitionPoint}
 use Rattle.std.proofs.lemmas.Bool.Decides.{eqb_tells}
-use Rattle.std.proofs.lemmas.List.{take-append-drop}
+use Rattle.std.proofs.lemmas.List.{take-append-drop, get_or_default}
 use Rattle.std.proofs.lemmas.Option.{slice_get_within, get_or_from_slice_get}
 use Rattle.itpg_base.specs.Points.{Point}
 use Rattle.itpg_base.specs.Lists.{Among, Ordered}
@@ -68,6 +68,26 @@ module _ (rows : List Row) (first : Row) (order : Ordered RowBefore rows) (is : 
           )
       | inr e ↦ (let ne = e.1 in omega arith)
     ]
+
+  -- where the second row has another source, the first is alone
+  module _ (second : Row) (more : 1 < length rows) (next : second ≡ get_or rows 1 second) (other : has_source first second ≡ false) where
+    pub alone_point : IsPartitionPoint (λ (r : Row). has_source first r ≡ true) (λ (r : Row). has_source first r ≡ false) rows 1
+    alone_point = (before, behind)
+      where
+        before : (k : ℕ) (d : Row) → 0 ≤ k → k < 1 → has_source first (get_or rows k d) ≡ true
+        before k d le lk =
+            let zero_is : 0 ≡ k = omega arith in
+            let here : get_or rows k d ≡ first = subst (λ (v : ℕ). get_or rows v d ≡ first) zero_is (get_or_from_slice_get rows 0 first d is) in
+            is_source first (get_or rows k d) (subst (λ (v : Row). v.source.0 ≡ first.source.0) (sym here) refl)
+
+        by_test : (k : ℕ) (d : Row) → 1 ≤ k → k < length rows → (b : Bool) → has_source first (get_or rows k d) ≡ b → has_source first (get_or rows k d) ≡ false
+        by_test k d le lk false e = e
+        by_test k d le lk true e =
+            let early = source_partitioned 1 k d le lk e in
+            absurd (true≢false (sym (subst (λ (v : Row). has_source first v ≡ true) (get_or_default rows 1 d second more ∙ sym next) early) ∙ other))
+
+        behind : (k : ℕ) (d : Row) → 1 ≤ k → k < length rows → has_source first (get_or rows k d) ≡ false
+        behind k d le lk = by_test k d le lk (has_source first (get_or rows k d)) refl
 
 -- ---- the rows of busy sources, one source after the other
 

@@ -4,7 +4,7 @@ use Rattle.itpg_base.specs.Points.{Point}
 use Rattle.itpg_base.specs.Lists.{Among, Ordered}
 use Rattle.itpg_base.proofs.Lists.{among_append, append_first, append_second, append_ordered, ordered_first, ordered_second, ordered_across}
 use Rattle.relation_rows.specs.declared.rows.Row.{Row}
-use Rattle.relation_rows.specs.Rows.{RowBefore, InRow, RowsHold, IsRelation}
+use Rattle.relation_rows.specs.Rows.{RowBefore, InRow, RowsHold, IsRelation, RowsHold, NormalRows}
 use Rattle.relation_rows.specs.Relations.{OnlyFirstHolds}
 use Rattle.relation_rows.proofs.Listed.{row_apart}
 
@@ -127,3 +127,12 @@ striking_end first second kept left cuts right kept' cuts' e f s =
     let P : List Row → Type 0 = λ v. AreStruck first second v cuts' in
     let Q : List Row → Type 0 = λ v. AreStruck first second (kept ++ left) v in
     subst P (sym e) (subst Q (sym f) (record { order = s.order; cuts_order = s.cuts_order; there = s.there; cuts_there = s.cuts_there; same = s.same }))
+
+-- of two equal lists nothing is left
+pub none_left : (first second : List Row) → first ≡ second → NormalRows (OnlyFirstHolds first second) []
+none_left first second e = record {
+  whole = λ x y h. absurd (h.1 (subst (λ (v : List Row). RowsHold v x y) e h.0));
+  once = λ r s x y i j m n. absurd i;
+  each = λ r i. absurd i;
+  order = tt;
+}

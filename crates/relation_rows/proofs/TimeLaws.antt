@@ -91,31 +91,31 @@ times_unique S xs ys nx ny = ordered_unique Starts starts_apart xs ys (starting 
 
 -- ---- existence
 
-abbrev rows_of : ℕ → List Span → List OneRow
+abbrev pub rows_of : ℕ → List Span → List OneRow
 rows_of o [] = []
 rows_of o (s ∷ ss) = record { object = record { 0 = o }; span = s } ∷ rows_of o ss
 
-of_rows : (o : ℕ) (spans : List Span) (r : OneRow) → Among (rows_of o spans) r → (r.object.0 ≡ o) × Among spans r.span
+pub of_rows : (o : ℕ) (spans : List Span) (r : OneRow) → Among (rows_of o spans) r → (r.object.0 ≡ o) × Among spans r.span
 of_rows o [] r a = absurd a
 of_rows o (s ∷ ss) r (inl e) = (sym (ap (λ (v : OneRow). v.object.0) e), inl (ap (λ (v : OneRow). v.span) e))
 of_rows o (s ∷ ss) r (inr a) = let w = of_rows o ss r a in (w.0, inr w.1)
 
-covers_among : (spans : List Span) (s : Span) (t : ℤ) → Among spans s → Within t s → Covers spans t
+pub covers_among : (spans : List Span) (s : Span) (t : ℤ) → Among spans s → Within t s → Covers spans t
 covers_among [] s t a w = a
 covers_among (x ∷ xs) s t (inl e) w = inl (subst (λ (v : Span). Within t v) (sym e) w)
 covers_among (x ∷ xs) s t (inr a) w = inr (covers_among xs s t a w)
 
-covers_rows : (o : ℕ) (spans : List Span) (t : ℤ) → Covers spans t → TimesHold (rows_of o spans) o t
+pub covers_rows : (o : ℕ) (spans : List Span) (t : ℤ) → Covers spans t → TimesHold (rows_of o spans) o t
 covers_rows o [] t c = absurd c
 covers_rows o (s ∷ ss) t (inl w) = (record { object = record { 0 = o }; span = s }, inl refl, record { object = refl; moment = w })
 covers_rows o (s ∷ ss) t (inr c) = let h = covers_rows o ss t c in (h.0, inr h.1, h.2)
 
-spans_of : (spans : List Span) → IsCoalesced spans → (s : Span) → Among spans s → IsSpan s
+pub spans_of : (spans : List Span) → IsCoalesced spans → (s : Span) → Among spans s → IsSpan s
 spans_of [] c s a = absurd a
 spans_of (x ∷ xs) c s (inl e) = subst IsSpan e c.0
 spans_of (x ∷ xs) c s (inr a) = spans_of xs c.2 s a
 
-rows_ordered : (o : ℕ) (spans : List Span) → IsCoalesced spans → Ordered TimeBefore (rows_of o spans)
+pub rows_ordered : (o : ℕ) (spans : List Span) → IsCoalesced spans → Ordered TimeBefore (rows_of o spans)
 rows_ordered o [] c = tt
 rows_ordered o (s ∷ ss) c = (
   λ r a.

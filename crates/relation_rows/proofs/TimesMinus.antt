@@ -14,7 +14,7 @@ use Rattle.relation_rows.proofs.Partitions.{rest_among, rest_ordered, front_amon
 use Rattle.relation_rows.proofs.Runs.{times_alike}
 
 -- runs behind runs
-append_times : (S T U : ℕ → ℤ → Type 0) (xs ys : List OneRow) → AreTimes S xs → AreTimes T ys → ((r s : OneRow) → Among xs r → Among ys s → TimeBefore r s) → ((o : ℕ) (t : ℤ) → U o t ↔ (S o t ⊎ T o t)) → AreTimes U (xs ++ ys)
+pub append_times : (S T U : ℕ → ℤ → Type 0) (xs ys : List OneRow) → AreTimes S xs → AreTimes T ys → ((r s : OneRow) → Among xs r → Among ys s → TimeBefore r s) → ((o : ℕ) (t : ℤ) → U o t ↔ (S o t ⊎ T o t)) → AreTimes U (xs ++ ys)
 append_times S T U xs ys a b across is = record {
   whole = λ o t h. ⊎_elim (λ k. let w = a.whole o t k in (w.0, append_first xs ys w.0 w.1, w.2)) (λ k. let w = b.whole o t k in (w.0, append_second xs ys w.0 w.1, w.2)) ((is o t).0 h);
   only = λ o t h. (is o t).1 (⊎_elim (λ k. inl (a.only o t (h.0, k, h.2))) (λ k. inr (b.only o t (h.0, k, h.2))) (among_append xs ys h.0 h.1));
@@ -22,7 +22,7 @@ append_times S T U xs ys a b across is = record {
   order = append_ordered TimeBefore xs ys a.order b.order across;
 }
 
-one_run : (r : OneRow) → IsSpan r.span → AreTimes (InTime r) (r ∷ [])
+pub one_run : (r : OneRow) → IsSpan r.span → AreTimes (InTime r) (r ∷ [])
 one_run r span = record {
   whole = λ o t h. (r, inl refl, h);
   only = λ o t h. ⊎_elim (λ (e : r ≡ h.0). subst (λ (v : OneRow). InTime v o t) (sym e) h.2) (λ a. absurd a) h.1;
@@ -31,10 +31,10 @@ one_run r span = record {
 }
 
 -- a row has its object at its first moment, and at its last
-at_first : (r : OneRow) → IsSpan r.span → InTime r r.object.0 r.span.from
+pub at_first : (r : OneRow) → IsSpan r.span → InTime r r.object.0 r.span.from
 at_first r span = record { object = refl; moment = record { begun = omega (arith, ints); going = span } }
 
-at_last : (r : OneRow) → IsSpan r.span → InTime r r.object.0 r.span.to
+pub at_last : (r : OneRow) → IsSpan r.span → InTime r r.object.0 r.span.to
 at_last r span = record { object = refl; moment = record { begun = span; going = omega (arith, ints) } }
 
 -- the object from the one moment on, before the other

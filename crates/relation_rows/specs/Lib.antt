@@ -10,3 +10,6 @@ pub mod Sides
 pub mod Answered
 pub mod Uniting
 pub mod Minus
+pub mod Apart
+pub mod Resting
+pub mod Direct

@@ -93,3 +93,24 @@ gap object from before = if int_lt from before then record { object = object; sp
 -- what the row has and no cut has was added, as runs
 abbrev pub HasUncut : OneRow → List OneRow → List OneRow → List OneRow → Type 0
 HasUncut row cuts old new = (pieces : List OneRow) × (new ≡ old ++ pieces) × AreTimes (λ o t. InTime row o t × (¬ SomeHas cuts t)) pieces
+
+-- the two have one object, and the same moments
+pub record HaveSameMoments (r s : OneRow) : Type 0 where
+  pub object : r.object.0 ≡ s.object.0
+  pub from : r.span.from ≡ s.span.from
+  pub to : r.span.to ≡ s.span.to
+
+-- the second row is of a later object, or of the first row's and doesn't end before that one begins
+abbrev pub Reaches : OneRow → OneRow → Type 0
+Reaches r s = (r.object.0 < s.object.0) ⊎ ((s.object.0 ≡ r.object.0) × (r.span.from ≤ℤ s.span.to))
+
+-- what the row has and the cuts haven't was added, and those cuts are left that go on behind the row
+pub record CutsRow (row : OneRow) (cuts left old new : List OneRow) : Type 0 where
+  pub met : List OneRow
+  pub there : (s : OneRow) → Among met s → Among cuts s
+  pub meets : (s : OneRow) → Among met s → MeetsTime row s
+  pub all : (s : OneRow) → Among cuts s → MeetsTime row s → Among met s
+  pub uncut : HasUncut row met old new
+  pub left_there : (s : OneRow) → Among left s → Among cuts s
+  pub left_order : IsOneTime left
+  pub kept : (s : OneRow) → Among cuts s → (row.object.0 < s.object.0) ⊎ ((s.object.0 ≡ row.object.0) × (row.span.to <ℤ s.span.to)) → Among left s

@@ -4,7 +4,7 @@
 //! ways go by departure: once a moment is free at which no row departs, no later way can join the rows of those before it. So these
 //! rows are counted, and only their zones are kept, which is why a relation that is too wide is told by few ways more than its limit.
 
-ghost use Rattle.std.specs.Prelude.{◌≡◌, ◌↔◌, ◌<◌, ◌≤◌, pos, ◌+ℤ◌, ◌≤ℤ◌, ◌<ℤ◌, length, take, drop, slice_get, Some, IfOk, IsTrue};
+ghost use Rattle.std.specs.Prelude.{◌≡◌, ◌==◌, ◌↔◌, ◌<◌, ◌≤◌, pos, ◌+ℤ◌, ◌≤ℤ◌, ◌<ℤ◌, length, take, drop, slice_get, Some, IfOk, IsTrue};
 ghost use Rattle.itpg_base.specs.Points.{Point};
 ghost use Rattle.itpg_base.specs.Lists.{Among, Ordered};
 ghost use Rattle.band_normal.specs.Bands.{IsWellFormed};
@@ -12,8 +12,11 @@ ghost use Rattle.relation_rows.specs.declared.rows.Row.{Row as PlainRow};
 ghost use Rattle.relation_rows.specs.Rows.{RowBefore, RowsHold};
 ghost use Rattle.relation_rows.specs.Answers.{Gives};
 ghost use Rattle.relation_rows.specs.Relations.{HasMiddlePoint};
+ghost use Rattle.relation_rows.specs.Apart.{AreLone};
 ghost use Rattle.relation_rows.specs.Ways.{HasBusy, AreComposed, DepartsNoLater, DepartApart};
 
+use crate::apart::is_apart;
+use crate::direct::direct_rows;
 use crate::gather::{gathered_of, push_zones};
 use crate::known::Known;
 use crate::offsets::{Offsets, offsets_of};
@@ -27,6 +30,12 @@ use std::alloc::{AllocError, Global};
 // So many rows of whole sources are worked together.
 const BATCH: usize = 32;
 
+fn have_one_source(row: &Row, first: &Row) -> bool
+    ensures { result ≡ (row.now.source.0 == first.now.source.0) }
+{
+    row.source.0 == first.source.0
+}
+
 // How many of the rows, from the first on, have its source.
 fn source_count(rows: &[Row], first: &Row) -> usize
     requires order { Ordered RowBefore rows.now }
@@ -36,6 +45,11 @@ fn source_count(rows: &[Row], first: &Row) -> usize
     ensures same { (r : PlainRow) → Among (take result rows.now) r → r.source.0 ≡ first.now.source.0 }
     ensures later { (r : PlainRow) → Among (drop result rows.now) r → first.now.source.0 < r.source.0 }
 {
+    if let Some(second) = rows.get(1) {
+        if !have_one_source(second, first) {
+            return 1;
+        }
+    }
     count_leading(rows, |row| row.source.0 == first.source.0)
 }
 
@@ -85,13 +99,6 @@ fn by_departure(alloc: Global, rows: &[Row]) -> Result<Vec<Row>, AllocError>
     Ok(sorted)
 }
 
-// Whether the row departs so late that a moment is free after the last departure.
-fn is_apart(last: i64, row: &Row) -> bool
-    ensures { IsTrue result ↔ ((last +ℤ pos 1) <ℤ row.now.band.from) }
-{
-    last < row.band.from && last + 1 < row.band.from
-}
-
 // The last departure with one more row.
 fn last_with(last: i64, row: &Row) -> i64
     ensures old { last ≤ℤ result }
@@ -120,8 +127,8 @@ fn stretch_len(rows: &[Row]) -> usize
     rows.len()
 }
 
-// The relation of the ways that begin with the rows.
-fn of_sources(
+// The relation of the ways that begin with the rows, by their zones.
+fn by_zones(
     known: &mut Known,
     rows: &[Row],
     second: &[Row],
@@ -160,6 +167,29 @@ fn of_sources(
     gathered_of(known, ways, room)
 }
 
+// The relation of the ways that begin with the rows.
+fn of_sources(
+    known: &mut Known,
+    rows: &[Row],
+    second: &[Row],
+    begins: &Offsets,
+    busy: &[Leg],
+    room: usize,
+) -> Result<Relation, RelFault>
+    requires rows { AreLone rows.now }
+    requires lone { AreLone second.now }
+    requires second { AreComposed second.now busy.now }
+    ensures { Gives result (HasMiddlePoint rows.now second.now) room }
+{
+    let Some(ways) = direct_rows(known.allocator(), rows, second, begins)? else {
+        return by_zones(known, rows, second, begins, busy, room);
+    };
+    if ways.len() > room {
+        return Err(RelFault::Wide);
+    }
+    Ok(Relation { rows: ways })
+}
+
 /// The relation of the ways that begin with the rows and go on in the second. The legs are those of the second's busy objects.
 pub(crate) fn composed(
     alloc: Global,
@@ -169,7 +199,8 @@ pub(crate) fn composed(
     max_rows: usize,
 ) -> Result<Relation, RelFault>
     requires order { Ordered RowBefore rows.now }
-    requires rows { (r : PlainRow) → Among rows.now r → IsWellFormed r.band }
+    requires rows { AreLone rows.now }
+    requires lone { AreLone second.now }
     requires second { AreComposed second.now busy.now }
     ensures { Gives result (HasMiddlePoint rows.now second.now) max_rows }
 {

@@ -138,6 +138,14 @@ pub(crate) fn gathered(known: &mut Known, items: &[Item], room: usize) -> Result
     Ok(Relation { rows })
 }
 
+// By this items are sorted: by source and target, and then such that a zone often lies inside the one before it.
+fn place_of(item: &Item) -> ((ObjNo, ObjNo), (i64, i64))
+    ensures { result ≡ ((item.now.0, item.now.1), (item.now.2.a, item.now.2.c)) }
+{
+    let bounds = item.2.bounds();
+    ((item.0, item.1), (bounds.a, bounds.c))
+}
+
 /// The relation of the items, in whatever order they stand.
 pub(crate) fn gathered_of(
     known: &mut Known,
@@ -147,7 +155,7 @@ pub(crate) fn gathered_of(
     ensures gives { Gives result (ItemsHold items.items) room }
     ensures counted { IsCounted result room }
 {
-    items.sort_unstable_by_key(|item| (item.0, item.1));
+    items.sort_unstable_by_key(|item| place_of(item));
     gathered(known, &items, room)
 }
 

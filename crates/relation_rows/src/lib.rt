@@ -7,7 +7,9 @@
 #![tactic(auto)]
 
 pub mod answered;
+mod apart;
 mod compose;
+mod direct;
 mod gather;
 mod known;
 pub mod laws;
@@ -15,6 +17,7 @@ mod minus;
 mod offsets;
 mod parting;
 pub mod relations;
+mod resting;
 pub mod rows;
 mod search;
 mod strike;

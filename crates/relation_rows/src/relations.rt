@@ -174,6 +174,9 @@ impl Relation {
         ensures { IfOk result (λ rows. NormalRows (OnlyFirstHolds self.now other.now) rows) }
     {
         let alloc = *self.rows.allocator();
+        if self.rows == other.rows {
+            return Ok(Relation::empty(alloc));
+        }
         let (kept, cuts) = struck(alloc, &self.rows, &other.rows)?;
         let items = only_in_first(alloc, &kept, &cuts)?;
         let rows = gathered_all(alloc, items)?;

@@ -70,6 +70,12 @@ fn count_before(rows: &[Row], told: usize, source: ObjNo) -> usize
             return told;
         }
     }
+    let count = rows.len();
+    if count > 0 {
+        if rows[count - 1].source.0 < source.0 {
+            return count;
+        }
+    }
     rows.partition_point(|row| row.source.0 < source.0)
 }
 
@@ -82,6 +88,11 @@ fn count_of(rows: &[Row], told: usize, source: ObjNo) -> usize
     if 0 < told && told < rows.len() {
         if rows[told - 1].source.0 == source.0 && rows[told].source.0 != source.0 {
             return told;
+        }
+    }
+    if rows.len() > 0 {
+        if rows[0].source.0 != source.0 {
+            return 0;
         }
     }
     count_leading(rows, |row| row.source.0 == source.0)

@@ -8,8 +8,12 @@ ghost use Rattle.band_normal.specs.Bands.{IsWellFormed};
 ghost use Rattle.relation_rows.specs.declared.rows.Row.{Row as PlainRow};
 ghost use Rattle.relation_rows.specs.declared.times.OneRow.{OneRow as PlainOneRow};
 ghost use Rattle.relation_rows.specs.Times.{InTime, TimesHold, IsOneTime, OnlyFirstHas, SomeHas, begins_by, ends_before, TimeUpTo, AreTimes, Departs, Arrives, Joins, DepartsIn, ArrivesIn};
+ghost use Rattle.relation_rows.specs.Answers.{Gives};
+ghost use Rattle.relation_rows.specs.Resting.{AreNearTimes, StaysWithin};
 
-use crate::rows::Row;
+use crate::relations::Relation;
+use crate::resting::rows_at_rest;
+use crate::rows::{RelFault, Row};
 use crate::times_minus::only_first;
 use band_normal::Band;
 use interval_set::Span;
@@ -54,12 +58,36 @@ impl OneTime {
         &self.rows
     }
 
+    /// The objects at the moments of these rows, which stand by object and first moment, and between two of one object at least one
+    /// moment is missing.
+    pub fn from_rows(rows: Vec<OneRow>) -> OneTime
+        requires { IsOneTime rows.items }
+        ensures { result ≡ rows.items }
+    {
+        OneTime { rows }
+    }
+
     /// Equal rows of its own.
     pub(crate) fn copy(&self) -> Result<OneTime, AllocError>
         ensures { IfOk result (λ copy. copy ≡ self.now) }
     {
         let rows = Vec::from_slice(*self.rows.allocator(), &self.rows)?;
         Ok(OneTime { rows })
+    }
+
+    /// The relation in which each of the points leads to itself. `Wide` exactly if its normal rows, one for each row here, are more than
+    /// `max_rows`.
+    ///
+    /// The moments lie within 4 * 10^12 of zero.
+    pub fn as_relation(&self, max_rows: u32) -> Result<Relation, RelFault>
+        requires { AreNearTimes self.now }
+        ensures { Gives result (StaysWithin self.now) max_rows }
+    {
+        if self.rows.len() > max_rows as usize {
+            return Err(RelFault::Wide);
+        }
+        let rows = rows_at_rest(*self.rows.allocator(), &self.rows)?;
+        Ok(Relation { rows })
     }
 
     /// The objects at the moments that these rows have and the others haven't.
@@ -132,13 +160,46 @@ fn joined_all(alloc: Global, times: &[OneRow]) -> Result<Vec<OneRow>, AllocError
     Ok(rows)
 }
 
+// Whether the row comes no earlier than the last one, by object and first moment.
+fn comes_later(last: &OneRow, row: &OneRow) -> bool
+    ensures { IsTrue result → TimeUpTo last.now row.now }
+{
+    if last.object.0 < row.object.0 {
+        return true;
+    }
+    last.object.0 == row.object.0 && last.span.from() <= row.span.from()
+}
+
+fn are_in_order(times: &[OneRow]) -> bool
+    ensures { IsTrue result → Ordered TimeUpTo times.now }
+{
+    for i in 1..times.len() {
+        if !comes_later(&times[i - 1], &times[i]) {
+            return false;
+        }
+    }
+    true
+}
+
+// Puts the rows in order by object and first moment, in which they often stand.
+fn put_in_order(times: &mut Vec<OneRow>)
+    ensures order { Ordered TimeUpTo times.new.items }
+    ensures same { (r : PlainOneRow) → Among times.new.items r ↔ Among times.old.items r }
+    ensures count { length times.new.items ≡ length times.old.items }
+{
+    if are_in_order(times) {
+        return;
+    }
+    times.sort_unstable_by_key(|row| (row.object, row.span.from()));
+}
+
 // The runs of the moments that the rows have.
 fn runs_of(alloc: Global, mut times: Vec<OneRow>) -> Result<OneTime, AllocError>
     requires { (r : PlainOneRow) → Among times.items r → IsSpan r.span }
     ensures times { IfOk result (λ rows. AreTimes (TimesHold times.items) rows) }
     ensures few { IfOk result (λ rows. length rows ≤ length times.items) }
 {
-    times.sort_by_key(|row| (row.object, row.span.from()))?;
+    put_in_order(&mut times);
     let rows = joined_all(alloc, &times)?;
     Ok(OneTime { rows })
 }
@@ -185,7 +246,7 @@ pub(crate) fn times_of(alloc: Global, rows: &[Row], side: Side) -> Result<OneTim
     ensures times { IfOk result (λ times. AreTimes (HaveTime side rows.now) times) }
     ensures few { IfOk result (λ times. length times ≤ length rows.now) }
 {
-    let mut times = Vec::new(alloc);
+    let mut times = Vec::with_capacity(alloc, rows.len())?;
     for row in rows {
         times.push(time_of(row, side))?;
     }

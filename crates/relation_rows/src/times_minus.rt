@@ -1,17 +1,17 @@
 //! Difference of one-time rows: one row after the other without the cuts that it meets.
 //!
-//! The cuts of a row are sought by halving, and stand in order. So what is left of it comes out in order too, and of all rows in the
-//! order of the rows: nothing is sorted, and no list is made for a row.
+//! Both lists stand in order, so each is passed once, and what is left of the rows comes out in order too: nothing is sorted, and no
+//! list is made for a row. A row that both have costs one comparison.
 
 ghost use Rattle.std.specs.Prelude.{◌≡◌, ◌++◌, ◌↔◌, pos, ◌+ℤ◌, ◌≤ℤ◌, ◌<ℤ◌, IsTrue, IfOk, OnOk};
 ghost use Rattle.itpg_base.specs.Spans.{IsSpan};
 ghost use Rattle.itpg_base.specs.Lists.{Among};
 ghost use Rattle.relation_rows.specs.declared.times.OneRow.{OneRow as PlainOneRow};
-ghost use Rattle.relation_rows.specs.Times.{IsOneTime, AreTimes, OnlyFirstHas, HasUncut, MeetsTime, begins_by, ends_before, gap};
+ghost use Rattle.relation_rows.specs.Times.{IsOneTime, AreTimes, OnlyFirstHas, HasUncut, MeetsTime, HaveSameMoments, Reaches, CutsRow, begins_by, ends_before, gap};
 
 use crate::times::{OneRow, OneTime};
 use interval_set::Span;
-use itpg_base::ObjNo;
+use itpg_base::{ObjNo, count_leading};
 use std::alloc::{AllocError, Global};
 
 fn begins_in_time(cut: &OneRow, row: &OneRow) -> bool
@@ -35,9 +35,9 @@ fn meeting<'a>(rows: &'a [OneRow], row: &OneRow) -> &'a [OneRow]
     ensures order { IsOneTime result.now }
     ensures all { (s : PlainOneRow) → Among rows.now s → s.object.0 ≡ row.now.object.0 → s.span.from ≤ℤ row.now.span.to → row.now.span.from ≤ℤ s.span.to → Among result.now s }
 {
-    let count = rows.partition_point(|cut| begins_in_time(cut, row));
+    let count = count_leading(rows, |cut| begins_in_time(cut, row));
     let begun = &rows[..count];
-    let left = begun.partition_point(|cut| ends_too_soon(cut, row));
+    let left = count_leading(begun, |cut| ends_too_soon(cut, row));
     &begun[left..]
 }
 
@@ -95,6 +95,47 @@ fn push_uncut(times: &mut Vec<OneRow>, row: &OneRow, cuts: &[OneRow]) -> Result<
     Ok(())
 }
 
+// Whether the two have the same object and the same moments.
+fn is_same(cut: &OneRow, row: &OneRow) -> bool
+    ensures { IsTrue result → HaveSameMoments cut.now row.now }
+{
+    if cut.object.0 != row.object.0 {
+        return false;
+    }
+    cut.span.from() == row.span.from() && cut.span.to() == row.span.to()
+}
+
+// The cuts that don't end before the row begins.
+fn reaching<'a>(cuts: &'a [OneRow], row: &OneRow) -> &'a [OneRow]
+    requires { IsOneTime cuts.now }
+    ensures order { IsOneTime result.now }
+    ensures there { (s : PlainOneRow) → Among result.now s → Among cuts.now s }
+    ensures kept { (s : PlainOneRow) → Among cuts.now s → Reaches row.now s → Among result.now s }
+{
+    let passed = count_leading(cuts, |cut| ends_too_soon(cut, row));
+    &cuts[passed..]
+}
+
+// Adds what the row has and no cut has. The cuts that may have something of the rows behind it are left.
+fn push_left<'a>(
+    times: &mut Vec<OneRow>,
+    row: &OneRow,
+    cuts: &'a [OneRow],
+) -> Result<&'a [OneRow], AllocError>
+    requires span { IsSpan row.now.span }
+    requires order { IsOneTime cuts.now }
+    ensures { IfOk result (λ left. CutsRow row.now cuts.now left.now times.old.items times.new.items) }
+{
+    if let Some((cut, later)) = cuts.split_first() {
+        if is_same(cut, row) {
+            return Ok(later);
+        }
+    }
+    let left = reaching(cuts, row);
+    push_uncut(times, row, meeting(left, row))?;
+    Ok(left)
+}
+
 /// What the first rows have and the second haven't.
 pub(crate) fn only_first(
     alloc: Global,
@@ -106,8 +147,9 @@ pub(crate) fn only_first(
     ensures { IfOk result (λ rest. AreTimes (OnlyFirstHas first.now second.now) rest) }
 {
     let mut times = Vec::new(alloc);
+    let mut cuts = second;
     for row in first {
-        push_uncut(&mut times, row, meeting(second, row))?;
+        cuts = push_left(&mut times, row, cuts)?;
     }
     Ok(OneTime { rows: times })
 }

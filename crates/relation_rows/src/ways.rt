@@ -46,8 +46,8 @@ fn push_there(
     Ok(())
 }
 
-// Whether each pair of the band arrives when it departs.
-fn is_still(band: &Band) -> bool
+/// Whether each pair of the band arrives when it departs.
+pub(crate) fn is_still(band: &Band) -> bool
     ensures { IsTrue result → IsStill band.now }
 {
     match band.low {

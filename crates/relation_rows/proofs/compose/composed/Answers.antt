@@ -5,7 +5,7 @@ use Rattle.band_normal.specs.Bands.{IsWellFormed}
 use Rattle.relation_rows.specs.declared.rows.Row.{Row}
 use Rattle.relation_rows.specs.Relations.{HasMiddlePoint}
 use Rattle.relation_rows.proofs.Alike.{relation_of}
-use Rattle.relation_rows.proofs.Composing.{HasComposed, start, next_composed, within_limit, fault_after, group_formed, all_composed}
+use Rattle.relation_rows.proofs.Composing.{HasComposed, start, next_composed, within_limit, fault_after, group_lone, all_composed}
 use Rattle.relation_rows.proofs.compose.composed.Goals as goal
 
 pub loop-first-init : goal.loop-first-init
@@ -28,7 +28,7 @@ loop-first-preserved c =
     )
 
 pub of_sources-requires-clause-rows : goal.of_sources-requires-clause-rows
-of_sources-requires-clause-rows c = group_formed c.args.rows.now c.args.second.now c.loop-first.left.now c.loop-first.done.items c.loop-first.invariant.0 c.batch_len.result c.split_at.result.0.now c.split_at.ensures.front c.requires.rows
+of_sources-requires-clause-rows c = group_lone c.args.rows.now c.args.second.now c.loop-first.left.now c.loop-first.done.items c.loop-first.invariant.0 c.batch_len.result c.split_at.result.0.now c.split_at.ensures.front c.requires.rows
 
 pub returns-in_err-more : goal.returns-in_err-more
 returns-in_err-more c =

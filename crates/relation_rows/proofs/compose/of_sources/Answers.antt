@@ -1,73 +1,27 @@
-use Rattle.std.proofs.Common.{◌≡◌, ◌⊎◌, ◌↔◌, ◌+◌, ◌++◌, ℕ, List, ap, sym, subst, ◌∙◌, length, arith}
-use Rattle.std.proofs.lemmas.Result.{err_from_is_err_and}
-use Rattle.itpg_base.specs.Lists.{Among, Ordered}
-use Rattle.band_normal.proofs.PartLemmas.{none_left}
+use Rattle.std.proofs.Common.{Option, subst, arith}
+use Rattle.std.specs.Prelude.{IfSome}
+use Rattle.std.specs.Global.{Global}
+use Rattle.std.specs.declared.vec.Vec.{Vec}
 use Rattle.relation_rows.specs.declared.rows.Row.{Row}
-use Rattle.itpg_base.specs.Points.{Point}
-use Rattle.relation_rows.specs.Rows.{RowsHold}
-use Rattle.relation_rows.specs.Answers.{Gives}
-use Rattle.relation_rows.specs.Relations.{Item, ItemsHold, HasMiddlePoint}
-use Rattle.relation_rows.specs.Ways.{DepartsNoLater}
-use Rattle.relation_rows.proofs.Giving.{gives_alike}
-use Rattle.relation_rows.proofs.Counting.{IsUnderway, start, part_formed, step, count_all, fault_now, items_from, from_items, all_ways, ways_all}
+use Rattle.relation_rows.specs.Relations.{HasMiddlePoint}
+use Rattle.relation_rows.specs.Direct.{AreItsRows}
+use Rattle.relation_rows.proofs.DirectWays.{its_relation, its_wide, lone_formed}
 use Rattle.relation_rows.proofs.compose.of_sources.Goals as goal
 
-pub returns-then-rows-le-BATCH : goal.returns-then-rows-le-BATCH
-returns-then-rows-le-BATCH c =
-    gives_alike (ItemsHold c.in_ok-ways.ways.items) (HasMiddlePoint c.args.rows.now c.args.second.now)
-    (all_ways c.args.second.now c.args.rows.now c.in_ok-space.space.items c.in_ok-ways.ways.items c.in_ok-space.ensures.items c.in_ok-ways.ensures)
-    (ways_all c.args.second.now c.args.rows.now c.in_ok-space.space.items c.in_ok-ways.ways.items c.in_ok-space.ensures.items c.in_ok-ways.ensures)
-    c.args.room c.gathered_of.result c.gathered_of.ensures.gives
+pub by_zones-requires-clause-rows : goal.by_zones-requires-clause-rows
+by_zones-requires-clause-rows c = lone_formed c.args.rows.now c.requires.rows
 
-pub loop-left-init : goal.loop-left-init
-loop-left-init c =
-    start c.args.second.now c.deref.result.now c.new-kept.result.items c.new-ways.result.items c.args.room c.new-kept.ensures.items c.new-ways.ensures.items
-    (subst (λ (v : List Row). Ordered DepartsNoLater v) (sym c.deref.ensures.value) c.in_ok-sorted.ensures.order)
-
-pub stretch_len-requires-clause-order : goal.stretch_len-requires-clause-order
-stretch_len-requires-clause-order c = c.loop-left.invariant.order
-
-pub with_ways-requires-in-loop-left-clause-rows : goal.with_ways-requires-in-loop-left-clause-rows
-with_ways-requires-in-loop-left-clause-rows c =
-    part_formed c.args.second.now c.deref.result.now c.loop-left.left.now c.loop-left.kept.items c.loop-left.ways.items c.loop-left.count c.args.room c.loop-left.invariant
-    c.split_at.result.0.now c.stretch_len.result c.split_at.ensures.front c.args.rows.now
-    (subst (λ (v : List Row). (r : Row) → Among v r ↔ Among c.args.rows.now r) (sym c.deref.ensures.value) c.in_ok-sorted.ensures.same) c.requires.rows
-
-pub returns-in_err-complete : goal.returns-in_err-complete
-returns-in_err-complete c =
-    let fault = err_from_is_err_and c.from_residual-in_err-complete.result c.from_residual-in_err-complete.ensures.1 in
-    rw (fault.1, fault.2)
-    (fault_now c.args.second.now c.deref.result.now c.loop-left.left.now c.loop-left.kept.items c.loop-left.ways.items c.loop-left.count c.args.room c.loop-left.invariant
-    c.split_at.result.0.now c.split_at.result.1.now c.stretch_len.result c.split_at.ensures.by_index.0 c.split_at.ensures.front c.split_at.ensures.back c.stretch_len.ensures.apart
-    c.in_ok-ways-2.ways.items c.in_ok-ways-2.ensures c.args.rows.now
-    (subst (λ (v : List Row). (r : Row) → Among v r ↔ Among c.args.rows.now r) (sym c.deref.ensures.value) c.in_ok-sorted.ensures.same) _ c.in_err-complete.ensures.gives)
-
-pub loop-left-preserved-in_ok-push_zones : goal.loop-left-preserved-in_ok-push_zones
-loop-left-preserved-in_ok-push_zones c =
-    let is = c.deref-then-len-gt-MANY.ensures.value ∙ c.complete.view_is in
-    let many : c.len-count.result ≡ length c.complete.inside.rows.items = omega arith in
-    subst (λ (v : ℕ). IsUnderway c.args.second.now c.deref.result.now c.split_at.result.1.now c.push_zones.new.items.items c.new-ways-then-len-gt-MANY.result.items (c.loop-left.count + v) c.args.room)
-    (sym (many ∙ ap length c.complete.view_is))
-    (count_all c.args.second.now c.deref.result.now c.loop-left.left.now c.loop-left.kept.items c.loop-left.ways.items c.loop-left.count c.args.room c.loop-left.invariant
-    c.split_at.result.0.now c.split_at.result.1.now c.stretch_len.result c.split_at.ensures.by_index.0 c.split_at.ensures.front c.split_at.ensures.back c.stretch_len.ensures.apart
-    c.in_ok-ways-2.ways.items c.in_ok-ways-2.ensures c.in_ok-complete.complete c.in_ok-complete.ensures.gives c.push_zones.new.items.items c.new-ways-then-len-gt-MANY.result.items
-    (subst (λ (v : List Row). (x y : Point) → ItemsHold c.push_zones.new.items.items x y ↔ (ItemsHold c.loop-left.kept.items x y ⊎ RowsHold v x y)) is c.in_ok-push_zones.ensures)
-    c.new-ways-then-len-gt-MANY.ensures.items)
-
-pub loop-left-preserved : goal.loop-left-preserved
-loop-left-preserved c =
-    step c.args.second.now c.deref.result.now c.loop-left.left.now c.loop-left.kept.items c.loop-left.ways.items c.loop-left.count c.args.room c.loop-left.invariant
-    c.split_at.result.0.now c.split_at.result.1.now c.stretch_len.result c.split_at.ensures.by_index.0 c.split_at.ensures.front c.split_at.ensures.back c.stretch_len.ensures.apart
-    c.in_ok-ways-2.ways.items c.in_ok-ways-2.ensures
+pub returns-then-len-room : goal.returns-then-len-room
+returns-then-len-room c =
+    let ways = subst (λ (v : Option (Vec Row Global)). IfSome v (λ ways. AreItsRows (HasMiddlePoint c.args.rows.now c.args.second.now) ways.items)) c.in-Some.is c.in_ok-ways.ensures in
+    its_wide (HasMiddlePoint c.args.rows.now c.args.second.now) c.in-Some.ways.items c.args.room ways (omega arith)
 
 pub returns : goal.returns
 returns c =
-    let none = none_left c.loop-left.left.now c.loop-left-test.ensures in
-    let g = subst (λ (v : List Row). IsUnderway c.args.second.now c.deref.result.now v c.loop-left.kept.items c.loop-left.ways.items c.loop-left.count c.args.room) none c.loop-left.invariant in
-    let same = subst (λ (v : List Row). (r : Row) → Among v r ↔ Among c.args.rows.now r) (sym c.deref.ensures.value) c.in_ok-sorted.ensures.same in
-    let is : c.extend_from_slice.new.self.items ≡ c.loop-left.ways.items ++ c.loop-left.kept.items =
-    c.in_ok-extend_from_slice.ensures.items ∙ ap (λ (v : List Item). c.loop-left.ways.items ++ v) c.deref-2.ensures.value in
-    gives_alike (ItemsHold (c.loop-left.ways.items ++ c.loop-left.kept.items)) (HasMiddlePoint c.args.rows.now c.args.second.now)
-    (items_from c.args.second.now c.deref.result.now c.loop-left.kept.items c.loop-left.ways.items c.loop-left.count c.args.room g c.args.rows.now same)
-    (from_items c.args.second.now c.deref.result.now c.loop-left.kept.items c.loop-left.ways.items c.loop-left.count c.args.room g c.args.rows.now same)
-    c.args.room c.gathered_of-2.result (subst (λ (v : List Item). Gives c.gathered_of-2.result (ItemsHold v) c.args.room) is c.gathered_of-2.ensures.gives)
+    let ways = subst (λ (v : Option (Vec Row Global)). IfSome v (λ ways. AreItsRows (HasMiddlePoint c.args.rows.now c.args.second.now) ways.items)) c.in-Some.is c.in_ok-ways.ensures in
+    (ways.normal, omega arith)
+
+pub invariant_of-result : goal.invariant_of-result
+invariant_of-result c =
+    let ways = subst (λ (v : Option (Vec Row Global)). IfSome v (λ ways. AreItsRows (HasMiddlePoint c.args.rows.now c.args.second.now) ways.items)) c.in-Some.is c.in_ok-ways.ensures in
+    its_relation (HasMiddlePoint c.args.rows.now c.args.second.now) c.in-Some.ways.items ways

@@ -6,7 +6,7 @@ pub time_of-requires : goal.time_of-requires
 time_of-requires c = row_formed c.args.rows.now c.loop-row.row-index _ c.loop-row-test.true c.requires
 
 pub loop-row-init : goal.loop-row-init
-loop-row-init c = no_times c.args.side c.args.rows.now _ c.new-times.ensures.items
+loop-row-init c = no_times c.args.side c.args.rows.now _ c.in_ok-times.ensures.items
 
 pub loop-row-preserved : goal.loop-row-preserved
 loop-row-preserved c =

@@ -7,35 +7,35 @@ use Rattle.relation_rows.proofs.times_minus.meeting.Goals as goal
 
 pub returns-clause-there : goal.returns-clause-there
 returns-clause-there c =
-    let point = IsPartitionPoint-from_clause (λ (s : OneRow). begins_by s c.args.row.now.object.0 c.args.row.now.span.to) _ _ c.partition_point-count.ensures.partitioned (count_partitioned c.args.rows.now c.requires c.args.row.now.object.0 c.args.row.now.span.from c.args.row.now.span.to) (λ a r f k. search (rules, of_calls)) in
-    let split = IsPartitionPoint-from_clause (λ (s : OneRow). ends_before s c.args.row.now.object.0 c.args.row.now.span.from) _ _ c.partition_point-left.ensures.partitioned
-    (left_partitioned c.args.rows.now c.requires c.args.row.now.object.0 c.args.row.now.span.from c.args.row.now.span.to c.partition_point-count.result c.partition_point-count.ensures.bound point) (λ a r f k. search (rules, of_calls)) in
-    found_there c.args.rows.now c.requires c.args.row.now.object.0 c.args.row.now.span.from c.args.row.now.span.to c.partition_point-count.result c.partition_point-count.ensures.bound point c.partition_point-left.result c.partition_point-left.ensures.bound split
+    let point = IsPartitionPoint-from_clause (λ (s : OneRow). begins_by s c.args.row.now.object.0 c.args.row.now.span.to) _ _ c.count_leading-count.ensures.partitioned (count_partitioned c.args.rows.now c.requires c.args.row.now.object.0 c.args.row.now.span.from c.args.row.now.span.to) (λ a r f k. search (rules, of_calls)) in
+    let split = IsPartitionPoint-from_clause (λ (s : OneRow). ends_before s c.args.row.now.object.0 c.args.row.now.span.from) _ _ c.count_leading-left.ensures.partitioned
+    (left_partitioned c.args.rows.now c.requires c.args.row.now.object.0 c.args.row.now.span.from c.args.row.now.span.to c.count_leading-count.result c.count_leading-count.ensures.bound point) (λ a r f k. search (rules, of_calls)) in
+    found_there c.args.rows.now c.requires c.args.row.now.object.0 c.args.row.now.span.from c.args.row.now.span.to c.count_leading-count.result c.count_leading-count.ensures.bound point c.count_leading-left.result c.count_leading-left.ensures.bound split
 
 pub returns-clause-object : goal.returns-clause-object
 returns-clause-object c =
-    let point = IsPartitionPoint-from_clause (λ (s : OneRow). begins_by s c.args.row.now.object.0 c.args.row.now.span.to) _ _ c.partition_point-count.ensures.partitioned (count_partitioned c.args.rows.now c.requires c.args.row.now.object.0 c.args.row.now.span.from c.args.row.now.span.to) (λ a r f k. search (rules, of_calls)) in
-    let split = IsPartitionPoint-from_clause (λ (s : OneRow). ends_before s c.args.row.now.object.0 c.args.row.now.span.from) _ _ c.partition_point-left.ensures.partitioned
-    (left_partitioned c.args.rows.now c.requires c.args.row.now.object.0 c.args.row.now.span.from c.args.row.now.span.to c.partition_point-count.result c.partition_point-count.ensures.bound point) (λ a r f k. search (rules, of_calls)) in
-    found_object c.args.rows.now c.requires c.args.row.now.object.0 c.args.row.now.span.from c.args.row.now.span.to c.partition_point-count.result c.partition_point-count.ensures.bound point c.partition_point-left.result c.partition_point-left.ensures.bound split
+    let point = IsPartitionPoint-from_clause (λ (s : OneRow). begins_by s c.args.row.now.object.0 c.args.row.now.span.to) _ _ c.count_leading-count.ensures.partitioned (count_partitioned c.args.rows.now c.requires c.args.row.now.object.0 c.args.row.now.span.from c.args.row.now.span.to) (λ a r f k. search (rules, of_calls)) in
+    let split = IsPartitionPoint-from_clause (λ (s : OneRow). ends_before s c.args.row.now.object.0 c.args.row.now.span.from) _ _ c.count_leading-left.ensures.partitioned
+    (left_partitioned c.args.rows.now c.requires c.args.row.now.object.0 c.args.row.now.span.from c.args.row.now.span.to c.count_leading-count.result c.count_leading-count.ensures.bound point) (λ a r f k. search (rules, of_calls)) in
+    found_object c.args.rows.now c.requires c.args.row.now.object.0 c.args.row.now.span.from c.args.row.now.span.to c.count_leading-count.result c.count_leading-count.ensures.bound point c.count_leading-left.result c.count_leading-left.ensures.bound split
 
 pub returns-clause-meets : goal.returns-clause-meets
 returns-clause-meets c =
-    let point = IsPartitionPoint-from_clause (λ (s : OneRow). begins_by s c.args.row.now.object.0 c.args.row.now.span.to) _ _ c.partition_point-count.ensures.partitioned (count_partitioned c.args.rows.now c.requires c.args.row.now.object.0 c.args.row.now.span.from c.args.row.now.span.to) (λ a r f k. search (rules, of_calls)) in
-    let split = IsPartitionPoint-from_clause (λ (s : OneRow). ends_before s c.args.row.now.object.0 c.args.row.now.span.from) _ _ c.partition_point-left.ensures.partitioned
-    (left_partitioned c.args.rows.now c.requires c.args.row.now.object.0 c.args.row.now.span.from c.args.row.now.span.to c.partition_point-count.result c.partition_point-count.ensures.bound point) (λ a r f k. search (rules, of_calls)) in
-    found_meets c.args.rows.now c.requires c.args.row.now.object.0 c.args.row.now.span.from c.args.row.now.span.to c.partition_point-count.result c.partition_point-count.ensures.bound point c.partition_point-left.result c.partition_point-left.ensures.bound split c.args.row.now refl refl refl
+    let point = IsPartitionPoint-from_clause (λ (s : OneRow). begins_by s c.args.row.now.object.0 c.args.row.now.span.to) _ _ c.count_leading-count.ensures.partitioned (count_partitioned c.args.rows.now c.requires c.args.row.now.object.0 c.args.row.now.span.from c.args.row.now.span.to) (λ a r f k. search (rules, of_calls)) in
+    let split = IsPartitionPoint-from_clause (λ (s : OneRow). ends_before s c.args.row.now.object.0 c.args.row.now.span.from) _ _ c.count_leading-left.ensures.partitioned
+    (left_partitioned c.args.rows.now c.requires c.args.row.now.object.0 c.args.row.now.span.from c.args.row.now.span.to c.count_leading-count.result c.count_leading-count.ensures.bound point) (λ a r f k. search (rules, of_calls)) in
+    found_meets c.args.rows.now c.requires c.args.row.now.object.0 c.args.row.now.span.from c.args.row.now.span.to c.count_leading-count.result c.count_leading-count.ensures.bound point c.count_leading-left.result c.count_leading-left.ensures.bound split c.args.row.now refl refl refl
 
 pub returns-clause-order : goal.returns-clause-order
 returns-clause-order c =
-    let point = IsPartitionPoint-from_clause (λ (s : OneRow). begins_by s c.args.row.now.object.0 c.args.row.now.span.to) _ _ c.partition_point-count.ensures.partitioned (count_partitioned c.args.rows.now c.requires c.args.row.now.object.0 c.args.row.now.span.from c.args.row.now.span.to) (λ a r f k. search (rules, of_calls)) in
-    let split = IsPartitionPoint-from_clause (λ (s : OneRow). ends_before s c.args.row.now.object.0 c.args.row.now.span.from) _ _ c.partition_point-left.ensures.partitioned
-    (left_partitioned c.args.rows.now c.requires c.args.row.now.object.0 c.args.row.now.span.from c.args.row.now.span.to c.partition_point-count.result c.partition_point-count.ensures.bound point) (λ a r f k. search (rules, of_calls)) in
-    found_order c.args.rows.now c.requires c.args.row.now.object.0 c.args.row.now.span.from c.args.row.now.span.to c.partition_point-count.result c.partition_point-count.ensures.bound point c.partition_point-left.result c.partition_point-left.ensures.bound split
+    let point = IsPartitionPoint-from_clause (λ (s : OneRow). begins_by s c.args.row.now.object.0 c.args.row.now.span.to) _ _ c.count_leading-count.ensures.partitioned (count_partitioned c.args.rows.now c.requires c.args.row.now.object.0 c.args.row.now.span.from c.args.row.now.span.to) (λ a r f k. search (rules, of_calls)) in
+    let split = IsPartitionPoint-from_clause (λ (s : OneRow). ends_before s c.args.row.now.object.0 c.args.row.now.span.from) _ _ c.count_leading-left.ensures.partitioned
+    (left_partitioned c.args.rows.now c.requires c.args.row.now.object.0 c.args.row.now.span.from c.args.row.now.span.to c.count_leading-count.result c.count_leading-count.ensures.bound point) (λ a r f k. search (rules, of_calls)) in
+    found_order c.args.rows.now c.requires c.args.row.now.object.0 c.args.row.now.span.from c.args.row.now.span.to c.count_leading-count.result c.count_leading-count.ensures.bound point c.count_leading-left.result c.count_leading-left.ensures.bound split
 
 pub returns-clause-all : goal.returns-clause-all
 returns-clause-all c =
-    let point = IsPartitionPoint-from_clause (λ (s : OneRow). begins_by s c.args.row.now.object.0 c.args.row.now.span.to) _ _ c.partition_point-count.ensures.partitioned (count_partitioned c.args.rows.now c.requires c.args.row.now.object.0 c.args.row.now.span.from c.args.row.now.span.to) (λ a r f k. search (rules, of_calls)) in
-    let split = IsPartitionPoint-from_clause (λ (s : OneRow). ends_before s c.args.row.now.object.0 c.args.row.now.span.from) _ _ c.partition_point-left.ensures.partitioned
-    (left_partitioned c.args.rows.now c.requires c.args.row.now.object.0 c.args.row.now.span.from c.args.row.now.span.to c.partition_point-count.result c.partition_point-count.ensures.bound point) (λ a r f k. search (rules, of_calls)) in
-    found_all c.args.rows.now c.requires c.args.row.now.object.0 c.args.row.now.span.from c.args.row.now.span.to c.partition_point-count.result c.partition_point-count.ensures.bound point c.partition_point-left.result c.partition_point-left.ensures.bound split
+    let point = IsPartitionPoint-from_clause (λ (s : OneRow). begins_by s c.args.row.now.object.0 c.args.row.now.span.to) _ _ c.count_leading-count.ensures.partitioned (count_partitioned c.args.rows.now c.requires c.args.row.now.object.0 c.args.row.now.span.from c.args.row.now.span.to) (λ a r f k. search (rules, of_calls)) in
+    let split = IsPartitionPoint-from_clause (λ (s : OneRow). ends_before s c.args.row.now.object.0 c.args.row.now.span.from) _ _ c.count_leading-left.ensures.partitioned
+    (left_partitioned c.args.rows.now c.requires c.args.row.now.object.0 c.args.row.now.span.from c.args.row.now.span.to c.count_leading-count.result c.count_leading-count.ensures.bound point) (λ a r f k. search (rules, of_calls)) in
+    found_all c.args.rows.now c.requires c.args.row.now.object.0 c.args.row.now.span.from c.args.row.now.span.to c.count_leading-count.result c.count_leading-count.ensures.bound point c.count_leading-left.result c.count_leading-left.ensures.bound split

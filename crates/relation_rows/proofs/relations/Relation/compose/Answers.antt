@@ -8,7 +8,9 @@ use Rattle.relation_rows.specs.Rows.{RowBefore, RowsHold}
 use Rattle.relation_rows.specs.Relations.{HasMiddlePoint}
 use Rattle.relation_rows.specs.Timetables.{LegsHold}
 use Rattle.relation_rows.specs.Ways.{HasBusy, AreComposed}
+use Rattle.relation_rows.specs.Apart.{AreLone}
 use Rattle.relation_rows.proofs.Sources.{composed_of}
+use Rattle.relation_rows.proofs.DirectWays.{relation_lone}
 use Rattle.relation_rows.proofs.relations.Relation.compose.Goals as goal
 
 pub busy_rows-requires : goal.busy_rows-requires
@@ -31,7 +33,8 @@ composed-requires c =
     (subst (λ (v : List Row). HasBusy v c.in_ok-rows.rows.items) c.deref.ensures.value busy) c.in_ok-busy.ensures.table holds in
     record {
       order = subst (λ (v : List Row). Ordered RowBefore v) (sym c.deref-3.ensures.value) (c.self.invariant).normal.order;
-      rows = λ r i. (c.self.invariant).formed r (subst (λ (v : List Row). Among v r) c.deref-3.ensures.value i);
+      rows = subst AreLone (sym c.deref-3.ensures.value) (relation_lone c.self.inside.rows.items c.self.invariant);
+      lone = subst AreLone (sym c.deref-4.ensures.value) (relation_lone c.other.inside.rows.items c.other.invariant);
       second = subst (λ (v : List Row). AreComposed v c.deref-5.result.now) (sym c.deref-4.ensures.value) (subst (λ (v : List Leg). AreComposed c.other.inside.rows.items v) (sym c.deref-5.ensures.value) second);
     }
 

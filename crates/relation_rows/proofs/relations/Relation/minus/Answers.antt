@@ -4,7 +4,10 @@ use Rattle.itpg_base.specs.Lists.{Among, Ordered}
 use Rattle.relation_rows.specs.declared.rows.Row.{Row}
 use Rattle.relation_rows.specs.Rows.{RowBefore, IsRelation, NormalRows}
 use Rattle.relation_rows.specs.Relations.{ItemsHold, OnlyFirstHolds}
+use Rattle.std.proofs.lemmas.Slice.Eq.{slice_eq-Decides}
 use Rattle.relation_rows.proofs.Alike.{rows_alike}
+use Rattle.relation_rows.proofs.Equal.{row_decides}
+use Rattle.relation_rows.proofs.StrikeLemmas.{none_left}
 use Rattle.relation_rows.proofs.relations.Relation.minus.Goals as goal
 
 pub struck-requires : goal.struck-requires
@@ -36,3 +39,9 @@ returns c =
     (subst (λ (v : List Row). NormalRows (OnlyFirstHolds c.deref.result.now v) c.in_ok-rows.rows) (c.deref-2.ensures.value ∙ c.other.view_is)
     (rows_alike (ItemsHold c.in_ok-items.items.items) (OnlyFirstHolds c.deref.result.now c.deref-2.result.now)
     (λ x y h. (same x y).0 ((left x y).0 h)) (λ x y h. (left x y).1 ((same x y).1 h)) c.in_ok-rows.rows c.in_ok-rows.ensures))
+
+pub returns-then-eq : goal.returns-then-eq
+returns-then-eq c =
+    let same = (slice_eq-Decides row_decides c.self.inside.rows.items c.other.inside.rows.items c.eq.result c.eq.ensures).0 c.if-eq.true in
+    subst (λ (v : List Row). NormalRows (OnlyFirstHolds c.args.self.now c.args.other.now) v) (sym c.empty.ensures)
+    (none_left c.args.self.now c.args.other.now (sym c.self.view_is ∙ same ∙ c.other.view_is))
