@@ -1,8 +1,12 @@
 pub mod Marked
 pub mod Points
-pub mod Turning
-pub mod Itself
+pub mod Sharing
+pub mod Joining
+pub mod Merging
+pub mod Cutting
 pub mod Starting
 pub mod Meanings
 pub mod Finding
+pub mod Listed
 pub mod Existing
+pub mod Keeping

@@ -1,119 +1,163 @@
--- Marks that are listed object by object.
-use Rattle.std.proofs.Common.{◌≡◌, ◌↔◌, inl, inr, ⊎_elim, ℕ, ◌+◌, ◌<◌, ◌≤◌, ℤ, List, [], ◌∷◌, ◌++◌, length, slice_index_or, take, refl, sym, ◌∙◌, ap, subst, arith}
-use Rattle.std.proofs.lemmas.List.{take_more, take_all, map-append, length-map, get_or-map}
+-- What marks say of single points, and marks that are listed object by object.
+use Rattle.std.proofs.Common.{◌≡◌, ◌⊎◌, inl, inr, ⊎_elim, ℕ, ◌+◌, ◌<◌, ◌≤◌, ℤ, List, [], ◌∷◌, ◌++◌, length, slice_index_or, take, refl, sym, ◌∙◌, ap, subst, arith}
+use Rattle.std.proofs.lemmas.Int.{ints}
+use Rattle.std.proofs.lemmas.List.{take_more, take_all}
 use Rattle.itpg_base.specs.declared.object_number.ObjNo.{ObjNo}
-use Rattle.itpg_base.specs.Spans.{Span, Covers, IsCoalesced}
+use Rattle.itpg_base.specs.Spans.{Span, Within as IsInside}
 use Rattle.itpg_base.specs.Points.{Point}
+use Rattle.itpg_base.specs.Lists.{Among}
+use Rattle.itpg_base.proofs.Lists.{among_append, append_first, append_second, ordered_at}
 use Rattle.interval_set.specs.Runs.{AreRuns}
 use Rattle.zone_core.specs.Zone.{Within, moment_reach}
-use Rattle.itpg_base.specs.Lists.{Among, Ordered}
-use Rattle.itpg_base.proofs.Lists.{among_append, append_first, append_second, ordered_either}
+use Rattle.relation_rows.specs.declared.times.OneRow.{OneRow}
 use Rattle.relation_rows.specs.Relations.{Rise, IsOneOf}
-use Rattle.condition_eval.specs.declared.marks.Marked.{Marked}
-use Rattle.condition_eval.specs.Marking.{objects_of, InMark, IsMarked, AreMarks, IsMarks}
+use Rattle.relation_rows.specs.Resting.{AreNearTimes}
+use Rattle.relation_rows.specs.Times.{TimesHold, IsOneTime, OnlyFirstHas, AreTimes}
+use Rattle.relation_rows.proofs.Runs.{times_alike}
+use Rattle.relation_rows.proofs.TimeLaws.{rows_of, of_rows, covers_rows, covers_among, spans_of, rows_ordered}
+use Rattle.relation_rows.proofs.TimesMinus.{append_times, at_first, at_last}
+use Rattle.condition_eval.specs.Marking.{IsMarked, ArePoints, AreMarks}
+use Rattle.condition_eval.specs.Combined.{IsUnmarked}
+use Rattle.condition_eval.specs.Walking.{HasRuns, over_spans}
 
 -- the object at the moment
 abbrev pub point : ObjNo → ℤ → Point
 point o t = record { object = o.0; moment = t }
 
--- the object with these moments
-abbrev pub mark : ObjNo → List Span → Marked
-mark o moments = record { object = o; moments = moments }
+module _ (objects : List ObjNo) (Holds : Point → Type 0) (marks : List OneRow) (m : AreMarks objects Holds marks) where
+  pub marked : (x : Point) → IsOneOf objects x.object → Holds x → IsMarked marks x
+  marked x o h = m.whole x.object x.moment (o, h)
 
-pub object_among : (marks : List Marked) (m : Marked) → Among marks m → Among (objects_of marks) m.object
-object_among [] m a = absurd a
-object_among (k ∷ ks) m (inl e) = inl (ap (λ (v : Marked). v.object) e)
-object_among (k ∷ ks) m (inr a) = inr (object_among ks m a)
+  pub marked_one : (x : Point) → IsMarked marks x → IsOneOf objects x.object
+  marked_one x k = (m.only x.object x.moment k).0
 
-pub mark_among : (marks : List Marked) (o : ObjNo) → Among (objects_of marks) o → (m : Marked) × Among marks m × (m.object ≡ o)
-mark_among [] o a = absurd a
-mark_among (k ∷ ks) o (inl e) = (k, inl refl, e)
-mark_among (k ∷ ks) o (inr a) = let w = mark_among ks o a in (w.0, inr w.1, w.2)
+  pub marked_holds : (x : Point) → IsMarked marks x → Holds x
+  marked_holds x k = (m.only x.object x.moment k).1
 
--- a marked point is of one of the objects
-pub marked_one : (objects : List ObjNo) (marks : List Marked) → objects_of marks ≡ objects → (x : Point) → IsMarked marks x → IsOneOf objects x.object
-marked_one objects marks e x k = let i = k.2 in (k.0.object, subst (λ (v : List ObjNo). Among v k.0.object) e (object_among marks k.0 k.1), i.object)
+-- marks of points near zero are near zero, and the other way round
+pub near_marks : (Holds : Point → Type 0) (marks : List OneRow) → ((x : Point) → Holds x → Within moment_reach x.moment) → ArePoints Holds marks → AreNearTimes marks
+near_marks Holds marks near m r a =
+    let span = m.spans r a in (
+      near (record { object = r.object.0; moment = r.span.from }) (m.only r.object.0 r.span.from (r, a, at_first r span)),
+      near (record { object = r.object.0; moment = r.span.to }) (m.only r.object.0 r.span.to (r, a, at_last r span)),
+    )
 
-pub marks_rise : (marks : List Marked) → Rise (objects_of marks) → Ordered (λ (a b : Marked). a.object.0 < b.object.0) marks
-marks_rise [] o = tt
-marks_rise (m ∷ ms) o = (λ k a. o.0 k.object (object_among ms k a), marks_rise ms o.1)
+module _ (objects : List ObjNo) (Holds : Point → Type 0) (marks : List OneRow) where
+  pub near_of : ((x : Point) → Holds x → Within moment_reach x.moment) → AreMarks objects Holds marks → AreNearTimes marks
+  near_of near m = near_marks (λ x. IsOneOf objects x.object × Holds x) marks (λ x h. near x h.1) m
 
--- where the objects rise, a mark has exactly the moments at which its object is marked
-pub own_moments : (marks : List Marked) → Rise (objects_of marks) → (m : Marked) → Among marks m → (t : ℤ) → Covers m.moments t ↔ IsMarked marks (point m.object t)
-own_moments marks rise m among t = (
-  λ c. (m, among, record { object = refl; moment = c }),
-  λ k.
-      let i = k.2 in
-      let number = i.object in
-      ⊎_elim
-      (λ (e : k.0 ≡ m). subst (λ (v : Marked). Covers v.moments t) e i.moment)
-      (λ apart. absurd (⊎_elim (λ lt. omega arith) (λ lt. omega arith) apart))
-      (ordered_either (λ (a b : Marked). a.object.0 < b.object.0) marks (marks_rise marks rise) k.0 m k.1 among),
-)
+  pub marks_order : AreMarks objects Holds marks → IsOneTime marks
+  marks_order m = record { spans = m.spans; order = m.order }
 
--- no object, and no mark
-pub no_marks : (Holds : Point → Type 0) (marks : List Marked) → marks ≡ [] → AreMarks [] Holds marks
-no_marks Holds marks e = subst (λ (v : List Marked). AreMarks [] Holds v) (sym e) (record { these = refl; whole = λ x o h. absurd o.1; only = λ x k. absurd k.1; coalesced = λ m a. absurd a })
+pub mark_near : (marks : List OneRow) → AreNearTimes marks → (x : Point) → IsMarked marks x → Within moment_reach x.moment
+mark_near marks near x k =
+    let n = near k.0 k.1 in
+    let first = n.0 in
+    let last = n.1 in
+    let low = first.above in
+    let high = last.below in
+    let i = k.2 in
+    let w = i.moment in
+    let begun = w.begun in
+    let going = w.going in
+    record { above = omega (arith, ints); below = omega (arith, ints) }
 
-module _ (Holds : Point → Type 0) where
-  module _ (objects : List ObjNo) (marks : List Marked) (o : ObjNo) (moments : List Span) (runs : AreRuns (λ t. Holds (point o t)) moments) (m : AreMarks objects Holds marks) where
-    -- one more object with its moments
-    one_more : AreMarks (objects ++ o ∷ []) Holds (marks ++ mark o moments ∷ [])
-    one_more = record {
-      these = map-append (λ (v : Marked). v.object) marks (mark o moments ∷ []) ∙ ap (λ (v : List ObjNo). v ++ o ∷ []) m.these;
-      whole = λ x one h. ⊎_elim
-          (λ a. let w = m.whole x (one.0, a, one.2) h in (w.0, append_first marks (mark o moments ∷ []) w.0 w.1, w.2))
-          (λ a. ⊎_elim
-          (λ (e : o ≡ one.0).
-          let number : o.0 ≡ x.object = ap (λ (v : ObjNo). v.0) e ∙ one.2 in (
-            mark o moments,
-            append_second marks (mark o moments ∷ []) (mark o moments) (inl refl),
-            record { object = number; moment = runs.whole x.moment (subst (λ (v : ℕ). Holds (record { object = v; moment = x.moment })) (sym number) h) },
-          ))
-          (λ j. absurd j) a)
-          (among_append objects (o ∷ []) one.0 one.1);
-      only = λ x k. ⊎_elim
-          (λ a. m.only x (k.0, a, k.2))
-          (λ a. ⊎_elim
-          (λ (e : mark o moments ≡ k.0).
-          let i : InMark (mark o moments) x = subst (λ (v : Marked). InMark v x) (sym e) k.2 in
-          let here : Holds (point o x.moment) = runs.only x.moment i.moment in
-          subst (λ (v : ℕ). Holds (record { object = v; moment = x.moment })) i.object here)
-          (λ j. absurd j) a)
-          (among_append marks (mark o moments ∷ []) k.0 k.1);
-      coalesced = λ k a. ⊎_elim
-          (λ b. m.coalesced k b)
-          (λ b. ⊎_elim (λ (e : mark o moments ≡ k). subst (λ (v : Marked). IsCoalesced v.moments) e runs.coalesced) (λ j. absurd j) b)
-          (among_append marks (mark o moments ∷ []) k a);
-    }
+pub near_within : (horizon : Span) → Within moment_reach horizon.from → Within moment_reach horizon.to → (x : Point) → IsInside x.moment horizon → Within moment_reach x.moment
+near_within horizon from to x w =
+    let begun = w.begun in
+    let going = w.going in
+    let low = from.above in
+    let high = to.below in
+    record { above = omega (arith, ints); below = omega (arith, ints) }
 
-  -- the next of the objects with its moments
-  pub next_object : (objects : List ObjNo) (i : ℕ) (d : ObjNo) → i < length objects → (marks next : List Marked) (moments : List Span) → next ≡ marks ++ mark (slice_index_or objects i d) moments ∷ []
-      → AreRuns (λ t. Holds (point (slice_index_or objects i d) t)) moments → AreMarks (take i objects) Holds marks → AreMarks (take (i + 1) objects) Holds next
-  next_object objects i d lt marks next moments e runs m =
-      subst (λ (v : List Marked). AreMarks (take (i + 1) objects) Holds v) (sym e)
-      (subst (λ (v : List ObjNo). AreMarks v Holds (marks ++ mark (slice_index_or objects i d) moments ∷ [])) (sym (take_more objects i d lt)) (one_more (take i objects) marks (slice_index_or objects i d) moments runs m))
+-- ---- the points that aren't marked
 
-  pub all_objects : (objects : List ObjNo) (i : ℕ) (marks : List Marked) → length objects ≤ i → AreMarks (take i objects) Holds marks → AreMarks objects Holds marks
-  all_objects objects i marks le = subst (λ (v : List ObjNo). AreMarks v Holds marks) (take_all i objects le)
+-- the objects over the horizon without the marks
+pub turned_marks : (objects : List ObjNo) (horizon : Span) (own all first marks : List OneRow) → AreTimes (λ o t. IsOneOf objects o × IsInside t horizon) all → first ≡ all → AreTimes (OnlyFirstHas first own) marks
+    → AreMarks objects (IsUnmarked horizon own) marks
+turned_marks objects horizon own all first marks are e rest =
+    times_alike (OnlyFirstHas all own) (λ o t. IsOneOf objects o × IsUnmarked horizon own (record { object = o; moment = t }))
+    (λ o t h. let k = are.only o t h.0 in (k.0, (k.1, h.1)))
+    (λ o t h. let k = h.1 in (are.whole o t (h.0, k.0), k.1))
+    marks (subst (λ (v : List OneRow). AreTimes (OnlyFirstHas v own) marks) e rest)
 
-  -- the same where the objects are those of other marks
-  pub next_mark : (marks : List Marked) (i : ℕ) (r : Marked) → i < length marks → r ≡ slice_index_or marks i r → (done next : List Marked) (moments : List Span) → next ≡ done ++ mark r.object moments ∷ []
-      → AreRuns (λ t. Holds (point r.object t)) moments → AreMarks (take i (objects_of marks)) Holds done → AreMarks (take (i + 1) (objects_of marks)) Holds next
-  next_mark marks i r lt read done next moments e runs m =
-      let o : r.object ≡ slice_index_or (objects_of marks) i r.object = ap (λ (v : Marked). v.object) read ∙ sym (get_or-map (λ (v : Marked). v.object) marks i r r.object lt) in
-      next_object (objects_of marks) i r.object (let len = length-map marks (λ (v : Marked). v.object) in omega arith) done next moments
-      (subst (λ (v : ObjNo). next ≡ done ++ mark v moments ∷ []) o e)
-      (subst (λ (v : ObjNo). AreRuns (λ t. Holds (point v t)) moments) o runs) m
+-- ---- the object over spans
 
-  pub all_marks : (marks : List Marked) (i : ℕ) (done : List Marked) → length marks ≤ i → AreMarks (take i (objects_of marks)) Holds done → AreMarks (objects_of marks) Holds done
-  all_marks marks i done le = all_objects (objects_of marks) i done (let len = length-map marks (λ (v : Marked). v.object) in omega arith)
+over_is : (o : ObjNo) (spans : List Span) → over_spans o spans ≡ rows_of o.0 spans
+over_is o [] = refl
+over_is o (s ∷ ss) = ap (λ (v : List OneRow). record { object = o; span = s } ∷ v) (over_is o ss)
 
--- before the first object
-pub no_objects : (Holds : Point → Type 0) (objects : List ObjNo) (marks : List Marked) → marks ≡ [] → AreMarks (take 0 objects) Holds marks
-no_objects Holds [] marks e = no_marks Holds marks e
-no_objects Holds (o ∷ os) marks e = no_marks Holds marks e
+pub over_times : (o : ObjNo) (S : ℤ → Type 0) (spans : List Span) → AreRuns S spans → AreTimes (λ p t. (o.0 ≡ p) × S t) (over_spans o spans)
+over_times o S spans runs = subst (λ (v : List OneRow). AreTimes (λ p t. (o.0 ≡ p) × S t) v) (sym (over_is o spans)) (record {
+  whole = λ p t h. subst (λ (v : ℕ). TimesHold (rows_of o.0 spans) v t) h.0 (covers_rows o.0 spans t (runs.whole t h.1));
+  only = λ p t h.
+      let w = of_rows o.0 spans h.0 h.1 in
+      let i = h.2 in
+      (sym w.0 ∙ i.object, runs.only t (covers_among spans (h.0).span t w.1 i.moment));
+  spans = λ r a. spans_of spans runs.coalesced r.span (of_rows o.0 spans r a).1;
+  order = rows_ordered o.0 spans runs.coalesced;
+})
 
--- marks of rising objects near zero are a value of the type
-pub are_marks : (objects : List ObjNo) (Holds : Point → Type 0) (marks : List Marked) → Rise objects → ((x : Point) → Holds x → Within moment_reach x.moment) → AreMarks objects Holds marks → IsMarks marks
-are_marks objects Holds marks rise near m = record { rise = subst (λ (v : List ObjNo). Rise v) (sym m.these) rise; near = λ x k. near x (m.only x k) }
+-- ---- object by object
+
+module _ (Holds : Point → Type 0) (objects : List ObjNo) where
+  pub no_objects : (marks : List OneRow) → marks ≡ [] → AreMarks (take 0 objects) Holds marks
+  no_objects marks e = subst (λ (v : List OneRow). AreMarks (take 0 objects) Holds v) (sym e)
+      (record { whole = λ o t h. absurd (none objects h.0.0 h.0.1); only = λ o t h. absurd h.1; spans = λ r a. absurd a; order = tt })
+    where
+      none : (xs : List ObjNo) (x : ObjNo) → Among (take 0 xs) x → ⊥
+      none [] x a = a
+      none (y ∷ ys) x a = a
+
+  module _ (rise : Rise objects) (i : ℕ) (d : ObjNo) (lt : i < length objects) (marks next : List OneRow) where
+    abbrev one : ObjNo
+    one = slice_index_or objects i d
+
+    more : take (i + 1) objects ≡ take i objects ++ one ∷ []
+    more = take_more objects i d lt
+
+    split : (o : ℕ) → IsOneOf (take (i + 1) objects) o → IsOneOf (take i objects) o ⊎ (one.0 ≡ o)
+    split o h = ⊎_elim
+        (λ a. inl (h.0, a, h.2))
+        (λ a. ⊎_elim (λ (e : one ≡ h.0). inr (ap (λ (v : ObjNo). v.0) e ∙ h.2)) (λ b. absurd b) a)
+        (among_append (take i objects) (one ∷ []) h.0 (subst (λ (v : List ObjNo). Among v h.0) more h.1))
+
+    earlier : (o : ℕ) → IsOneOf (take i objects) o → IsOneOf (take (i + 1) objects) o
+    earlier o h = (h.0, subst (λ (v : List ObjNo). Among v h.0) (sym more) (append_first (take i objects) (one ∷ []) h.0 h.1), h.2)
+
+    this : (o : ℕ) → one.0 ≡ o → IsOneOf (take (i + 1) objects) o
+    this o e = (one, subst (λ (v : List ObjNo). Among v one) (sym more) (append_second (take i objects) (one ∷ []) one (inl refl)), e)
+
+    before : (o : ℕ) → IsOneOf (take i objects) o → o < one.0
+    before o h =
+        let lt' = ordered_at (λ (o p : ObjNo). o.0 < p.0) objects i d rise lt h.0 h.1 in
+        let e = h.2 in
+        omega (arith, lt', e)
+
+    -- the next of the objects over its moments
+    pub next_object : HasRuns (slice_index_or objects i d) (λ t. Holds (point (slice_index_or objects i d) t)) marks next → AreMarks (take i objects) Holds marks → AreMarks (take (i + 1) objects) Holds next
+    next_object added m =
+        let pieces = over_spans one added.spans in
+        let times = over_times one (λ t. Holds (point one t)) added.spans added.runs in
+        subst (λ (v : List OneRow). AreMarks (take (i + 1) objects) Holds v) (sym added.added)
+        (append_times (λ o t. IsOneOf (take i objects) o × Holds (record { object = o; moment = t })) (λ o t. (one.0 ≡ o) × Holds (point one t))
+        (λ o t. IsOneOf (take (i + 1) objects) o × Holds (record { object = o; moment = t })) marks pieces m times
+        (λ r s a b.
+        let h = m.only r.object.0 r.span.from (r, a, at_first r (m.spans r a)) in
+        let k = times.only s.object.0 s.span.from (s, b, at_first s (times.spans s b)) in
+        let l = before r.object.0 h.0 in
+        let e = k.0 in
+        inl (omega (arith, l, e)))
+        (λ o t. (
+          λ h. ⊎_elim
+              (λ k. inl (k, h.1))
+              (λ (e : one.0 ≡ o). inr (e, subst (λ (v : ℕ). Holds (record { object = v; moment = t })) (sym e) h.1))
+              (split o h.0),
+          λ h. ⊎_elim
+              (λ k. (earlier o k.0, k.1))
+              (λ (k : (one.0 ≡ o) × Holds (point one t)). (this o k.0, subst (λ (v : ℕ). Holds (record { object = v; moment = t })) k.0 k.1))
+              h,
+        )))
+
+  pub all_objects : (i : ℕ) (marks : List OneRow) → length objects ≤ i → AreMarks (take i objects) Holds marks → AreMarks objects Holds marks
+  all_objects i marks le = subst (λ (v : List ObjNo). AreMarks v Holds marks) (take_all i objects le)

@@ -2,4 +2,5 @@ pub mod Marking
 pub mod Tested
 pub mod Combined
 pub mod Within
-pub mod Parts
+pub mod Walking
+pub mod Filtered

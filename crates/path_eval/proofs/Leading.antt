@@ -5,7 +5,7 @@ use Rattle.itpg_base.specs.declared.object_number.ObjNo.{ObjNo}
 use Rattle.itpg_base.specs.Graphs.{Graph, Object, Ends, Good, ObjectIs, HasEnd, Stands}
 use Rattle.itpg_base.specs.Points.{Point}
 use Rattle.itpg_base.proofs.Objects.{there, here, same_some}
-use Rattle.itpg_graph.specs.Edges.{HasNumber}
+use Rattle.condition_eval.proofs.Listed.{number_among, among_number}
 use Rattle.itpg_graph.specs.GraphParts.{StandingAreNumbers}
 use Rattle.itpg_graph.specs.Kinds.{ends_of}
 use Rattle.zone_core.specs.declared.Bounds.{Bounds}
@@ -17,17 +17,6 @@ use Rattle.path_eval.specs.Axes.{Joins, far_end, LeadsToEdge, StepTo, StepToOne,
 
 number_ext : (o p : ObjNo) → o.0 ≡ p.0 → o ≡ p
 number_ext o p e = ap (λ (n : ℕ). let v : ObjNo = record { 0 = n } in v) e
-
--- a number of the list stands in it
-number_among : (xs : List ObjNo) (k : ℕ) → HasNumber xs k → (x : ObjNo) × Among xs x × (x.0 ≡ k)
-number_among [] k h = absurd h
-number_among (x ∷ xs) k (inl e) = (x, inl refl, e)
-number_among (x ∷ xs) k (inr h) = let w = number_among xs k h in (w.0, inr w.1, w.2)
-
-among_number : (xs : List ObjNo) (x : ObjNo) → Among xs x → HasNumber xs x.0
-among_number [] x a = absurd a
-among_number (y ∷ ys) x (inl e) = inl (ap (λ (v : ObjNo). v.0) e)
-among_number (y ∷ ys) x (inr a) = inr (among_number ys x a)
 
 module _ (g : Graph) where
   -- the object of an edge's fact stands at its place with its ends

@@ -1,6 +1,7 @@
 pub mod Adding
 pub mod Answers
 pub mod Between
+pub mod Wider
 pub mod WithinBoth
 pub mod Finite
 pub mod Fitting

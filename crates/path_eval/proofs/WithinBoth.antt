@@ -8,6 +8,7 @@ use Rattle.itpg_base.specs.Points.{Point, IsAt}
 use Rattle.itpg_base.specs.Lists.{Among}
 use Rattle.itpg_base.proofs.Lists.{among_append, append_first, append_second, append_ordered, ordered_at, among_at}
 use Rattle.relation_rows.specs.declared.rows.Row.{Row}
+use Rattle.relation_rows.specs.declared.times.OneRow.{OneRow}
 use Rattle.relation_rows.specs.declared.rows.RelFault.{RelFault}
 use Rattle.relation_rows.specs.Rows.{NormalRows}
 use Rattle.relation_rows.specs.Answers.{Gives}
@@ -21,10 +22,10 @@ use Rattle.label_scope.specs.declared.scope.Scope.TheVariants.{All}
 use Rattle.label_scope.specs.Scopes.{IsWithin}
 use Rattle.label_scope.specs.Narrowing.{Cut}
 use Rattle.label_scope.proofs.Within.{within_all}
-use Rattle.condition_eval.specs.declared.marks.Marked.{Marked}
 use Rattle.condition_eval.specs.Combined.{MarkedToItself}
 use Rattle.condition_eval.specs.Marking.{AreMarks}
 use Rattle.condition_eval.specs.Tested.{HoldsAt, StartsAt, Stand, HasHorizon}
+use Rattle.condition_eval.specs.Filtered.{AreThoseWith}
 use Rattle.condition_eval.specs.Within.{AreWithin}
 use Rattle.condition_eval.proofs.Meanings.{condition_holds, test_leads}
 use Rattle.condition_eval.proofs.Points.{in_horizon}
@@ -32,7 +33,7 @@ use Rattle.path_eval.specs.WithinBoth.{RiseWithin, AreWithinBoth, AreThoseWithin
 use Rattle.path_eval.specs.Powers.{SameWithinBoth}
 
 -- where the rows of a path from a scope start marks its condition, on objects of the scope
-pub condition_within : (g : Graph) (a : Scope) (objects : List ObjNo) → RiseWithin a g objects → (p : PathTerm) (rows : List Row) (marks : List Marked) → NormalRows (Cut g p a All) rows
+pub condition_within : (g : Graph) (a : Scope) (objects : List ObjNo) → RiseWithin a g objects → (p : PathTerm) (rows : List Row) (marks : List OneRow) → NormalRows (Cut g p a All) rows
     → AreMarks objects (StartsAt rows g) marks → AreMarks objects (HoldsAt (Condition p) g) marks
 condition_within g a objects are p rows marks normal =
     condition_holds g objects p rows marks
@@ -43,7 +44,7 @@ condition_within g a objects are p rows marks normal =
 
 module _ (g : Graph) (a b : Scope) (objects : List ObjNo) (are : AreWithinBoth a b g objects) where
   -- the relation of the marks is the test, as a path, between both scopes
-  pub test_within_both : (c : TestTerm) (marks : List Marked) → AreMarks objects (HoldsAt c g) marks → (x y : Point) → MarkedToItself marks x y ↔ Cut g (OfTest c) a b x y
+  pub test_within_both : (c : TestTerm) (marks : List OneRow) → AreMarks objects (HoldsAt c g) marks → (x y : Point) → MarkedToItself marks x y ↔ Cut g (OfTest c) a b x y
   test_within_both c marks is x y = (
     λ h.
         let k = (test_leads g objects c marks is x y).0 h in
@@ -124,3 +125,11 @@ both_of a b g objects given kept are e those =
       second = λ o h. subst (IsWithin b g) h.2 (t.within h.0 h.1);
       whole = λ o stands s u. let k = are.whole o stands s in (k.0, t.whole k.0 k.1 (subst (IsWithin b g) (sym k.2) u), k.2);
     }
+
+-- those of the objects of which a test holds are within the scope too
+pub kept_within : (c : TestTerm) (a : Scope) (g : Graph) (objects those : List ObjNo) → AreThoseWith c g objects those → RiseWithin a g objects → RiseWithin a g those
+kept_within c a g objects those kept are = record {
+  rise = kept.rise;
+  stand = λ o h. are.stand o (h.0, kept.there h.0 h.1, h.2);
+  within = λ o h. are.within o (h.0, kept.there h.0 h.1, h.2);
+}

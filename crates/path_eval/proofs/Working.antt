@@ -1,11 +1,11 @@
 -- What is worked out, from what its parts are.
 use Rattle.std.proofs.Common.{◌≡◌, ◌≤◌, ℕ, List, [], ◌∷◌, ◌++◌, length, inl, inr, ⊎_elim, Option, Result, Ok, Err, refl, sym, subst}
 use Rattle.itpg_base.specs.declared.object_number.ObjNo.{ObjNo}
-use Rattle.itpg_base.specs.Spans.{Span}
 use Rattle.itpg_base.specs.Graphs.{Graph, Good}
 use Rattle.itpg_base.specs.Lists.{Among}
 use Rattle.itpg_base.proofs.Lists.{append_second}
 use Rattle.relation_rows.specs.declared.rows.Row.{Row}
+use Rattle.relation_rows.specs.declared.times.OneRow.{OneRow}
 use Rattle.relation_rows.specs.declared.rows.RelFault.{RelFault}
 use Rattle.relation_rows.specs.declared.rows.RelFault.TheVariants.{Memory, Wide}
 use Rattle.relation_rows.specs.Rows.{NormalRows}
@@ -13,16 +13,14 @@ use Rattle.relation_rows.specs.Answers.{Gives}
 use Rattle.relation_rows.specs.Relations.{HasMiddlePoint, EitherHolds}
 use Rattle.relation_rows.proofs.Alike.{rows_alike}
 use Rattle.relation_rows.proofs.Listed.{rows_unique}
-use Rattle.path_ast.specs.Terms.{PathTerm, OfTest, Forward, Backward, Next, Previous, Sequence, Choice, Repetition, TestTerm, Conjunction, Disjunction, Negation}
+use Rattle.path_ast.specs.Terms.{PathTerm, OfTest, Forward, Backward, Next, Previous, Sequence, Choice, Repetition, TestTerm}
 use Rattle.label_scope.specs.declared.scope.Scope.{Scope}
 use Rattle.label_scope.specs.Narrowing.{Cut, narrowed}
 use Rattle.label_scope.specs.Members.{worked, worked_conditions, middle, passed, member, axis_members, test_members, sequence_members, choice_members, repeated_members, members_between}
 use Rattle.label_scope.proofs.Within.{narrowed_cut, widened_cut}
-use Rattle.condition_eval.specs.declared.marks.Marked.{Marked}
-use Rattle.condition_eval.specs.Combined.{BothMark, EitherMarks, IsUnmarked, MarkedToItself}
-use Rattle.condition_eval.specs.Marking.{AreMarks, objects_of}
-use Rattle.condition_eval.specs.Tested.{HoldsAt, Stand, HasHorizon}
-use Rattle.condition_eval.proofs.Meanings.{negated, both_hold, either_holds}
+use Rattle.condition_eval.specs.Combined.{MarkedToItself}
+use Rattle.condition_eval.specs.Marking.{AreMarks}
+use Rattle.condition_eval.specs.Tested.{HoldsAt}
 use Rattle.path_eval.specs.Evaluated.{AllFit}
 use Rattle.path_eval.specs.WithinBoth.{AreWithinBoth}
 use Rattle.path_eval.specs.Powers.{GivesMember, repetition_member, repetition_members}
@@ -67,7 +65,7 @@ module _ (g : Graph) (limit : ℕ) (good : Good g) where
   pub axis_out : (p : PathTerm) (a b : Scope) (result : Result (List Row) RelFault) → Gives result (Cut g p a b) limit → WorksOutAs result (Cut g p a b) g limit (axis_members p a b)
   axis_out p a b = works_out g limit (member p a b) [] (Cut g p a b) (λ x y c. c) (λ x y c. c) (none_fit g limit)
 
-  pub test_out : (c : TestTerm) (a b : Scope) (objects : List ObjNo) (are : AreWithinBoth a b g objects) (marks : List Marked) → AreMarks objects (HoldsAt c g) marks → AllFit g limit (worked_conditions c a)
+  pub test_out : (c : TestTerm) (a b : Scope) (objects : List ObjNo) (are : AreWithinBoth a b g objects) (marks : List OneRow) → AreMarks objects (HoldsAt c g) marks → AllFit g limit (worked_conditions c a)
       → (result : Result (List Row) RelFault) → Gives result (MarkedToItself marks) limit → WorksOutAs result (Cut g (OfTest c) a b) g limit (test_members c a b)
   test_out c a b objects are marks is fit =
       let same = test_within_both g a b objects are c marks is in
@@ -109,16 +107,3 @@ module _ (g : Graph) (limit : ℕ) (good : Good g) where
   choice_out p q a b left right first second =
       works_out g limit (member (Choice p q) a b) (worked p a b ++ worked q a b) (EitherHolds left right) (choice_from g good p q a b left right first.0 second.0) (from_choice g good p q a b left right first.0 second.0)
       (fit_both g limit (worked p a b) (worked q a b) first.1 second.1)
-
-module _ (g : Graph) (objects : List ObjNo) where
-  pub both_marked : (c d : TestTerm) (own also marks : List Marked) → AreMarks objects (HoldsAt c g) own → AreMarks objects (HoldsAt d g) also
-      → AreMarks (objects_of own) (BothMark own also) marks → AreMarks objects (HoldsAt (Conjunction c d) g) marks
-  both_marked c d own also marks is and h = both_hold g objects c d own also marks is and (subst (λ (v : List ObjNo). AreMarks v (BothMark own also) marks) is.these h)
-
-  pub either_marked : (c d : TestTerm) (own also marks : List Marked) → AreMarks objects (HoldsAt c g) own → AreMarks objects (HoldsAt d g) also
-      → AreMarks (objects_of own) (EitherMarks own also) marks → AreMarks objects (HoldsAt (Disjunction c d) g) marks
-  either_marked c d own also marks is and h = either_holds g objects c d own also marks is and (subst (λ (v : List ObjNo). AreMarks v (EitherMarks own also) marks) is.these h)
-
-  pub negation_marked : (c : TestTerm) (horizon : Span) → HasHorizon g horizon → Stand g objects → (own marks : List Marked) → AreMarks objects (HoldsAt c g) own
-      → AreMarks (objects_of own) (IsUnmarked horizon own) marks → AreMarks objects (HoldsAt (Negation c) g) marks
-  negation_marked c horizon begun stand own marks is h = negated g objects c horizon own marks begun stand is (subst (λ (v : List ObjNo). AreMarks v (IsUnmarked horizon own) marks) is.these h)

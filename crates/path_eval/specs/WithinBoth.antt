@@ -3,9 +3,10 @@ use Rattle.std.specs.Prelude.{ℕ, List}
 use Rattle.itpg_base.specs.declared.object_number.ObjNo.{ObjNo}
 use Rattle.itpg_base.specs.Graphs.{Graph, Stands}
 use Rattle.itpg_base.specs.Lists.{Among}
+use Rattle.itpg_base.specs.Words.{Word}
 use Rattle.relation_rows.specs.Relations.{Rise, IsOneOf}
 use Rattle.label_scope.specs.declared.scope.Scope.{Scope}
-use Rattle.label_scope.specs.Scopes.{IsWithin}
+use Rattle.label_scope.specs.Scopes.{Has, IsWithin}
 use Rattle.condition_eval.specs.Tested.{Stand}
 
 -- the objects rise, stand, and are within the scope; others may be too
@@ -26,3 +27,7 @@ pub record AreThoseWithin (scope : Scope) (g : Graph) (objects kept : List ObjNo
   pub there : (o : ObjNo) → Among kept o → Among objects o
   pub within : (o : ObjNo) → Among kept o → IsWithin scope g o.0
   pub whole : (o : ObjNo) → Among objects o → IsWithin scope g o.0 → Among kept o
+
+-- each set of labels that the second scope has, the first has too
+abbrev pub IsWider : Scope → Scope → Type 0
+IsWider a b = (labels : List Word) → Has b labels → Has a labels

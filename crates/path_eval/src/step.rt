@@ -1,13 +1,15 @@
 //! The relation of a plan node, from those of its children.
-ghost use Rattle.std.specs.Prelude.{◌≡◌, ◌<◌, ◌∷◌, length, slice_get, Some, IfOk, IsSomeAnd};
+ghost use Rattle.std.specs.Prelude.{◌≡◌, ◌<◌, ◌∷◌, length, slice_get, List, Some, IfOk, IfSome, IsSomeAnd};
 ghost use Rattle.itpg_base.specs.Graphs.{Good};
 ghost use Rattle.path_ast.specs.Terms.{OfTest, Repetition};
 ghost use Rattle.path_ast.specs.Sizes.{AreInRange};
 ghost use Rattle.label_scope.specs.Members.{worked_conditions, test_members, repeated_members, passed};
 ghost use Rattle.condition_eval.specs.Marking.{AreMarks};
-ghost use Rattle.condition_eval.specs.Tested.{HoldsAt};
+ghost use Rattle.relation_rows.specs.Relations.{Rise};
+ghost use Rattle.condition_eval.specs.Filtered.{AreThoseWith};
+ghost use Rattle.condition_eval.specs.Tested.{HoldsAt, Stand};
 ghost use Rattle.plan_cache.specs.Operations.{part_term, part_children};
-ghost use Rattle.plan_cache.specs.Nodes.{conditions, narrowed_member, path_at, test_read_back};
+ghost use Rattle.plan_cache.specs.Nodes.{PlanNode, conditions, narrowed_member, path_at, test_read_back};
 ghost use Rattle.path_eval.specs.Made.{HasParts, AreMade, IsMade};
 ghost use Rattle.path_eval.specs.WithinBoth.{RiseWithin};
 ghost use Rattle.path_eval.specs.Working.{WorksOut, WorksOutMember};
@@ -17,7 +19,7 @@ use crate::basis::Ground;
 use crate::made::Made;
 use crate::powers::Powers;
 use crate::within_both::objects_within_both;
-use condition_eval::{Marks, leaf_marks, starts_of};
+use condition_eval::{Marks, leaf_marks, objects_with, starts_of};
 use itpg_base::ObjNo;
 use label_scope::Scope;
 use plan_cache::{PlanNo, PlanOp, PlanTest};
@@ -138,6 +140,9 @@ fn marks_of(
             starts_of(ground.alloc, ground.graph, objects, leading)
         }
         PlanTest::And(one, other) => {
+            if let Some(kept) = kept_by(ground, one, objects)? {
+                return marks_of(ground, made, other, scope, &kept);
+            }
             let own = marks_of(ground, made, one, scope, objects)?;
             let also = marks_of(ground, made, other, scope, objects)?;
             own.and(&also)
@@ -149,7 +154,23 @@ fn marks_of(
         }
         PlanTest::Not(negated) => {
             let own = marks_of(ground, made, negated, scope, objects)?;
-            own.not(ground.horizon)
+            own.not(objects, ground.horizon)
         }
+    }
+}
+
+// Those of the objects of which the test holds at each moment, where it asks for the object alone.
+fn kept_by(
+    ground: &Ground<'_>,
+    test: &PlanTest,
+    objects: &[ObjNo],
+) -> Result<Option<Vec<ObjNo>>, AllocError>
+    requires rise { Rise objects.now }
+    requires stand { Stand ground.now.graph.now objects.now }
+    ensures { IfOk result (λ kept. IfSome kept (λ those. (nodes : List PlanNode) → AreThoseWith (test_read_back nodes (part_term test.now)) ground.now.graph.now objects.now those.items)) }
+{
+    match test {
+        PlanTest::Leaf(leaf) => objects_with(ground.alloc, ground.graph, objects, leaf),
+        _ => Ok(None),
     }
 }
