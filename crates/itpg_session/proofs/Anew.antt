@@ -1,67 +1,110 @@
--- A table of plans that is made anew has the nodes of the watches' queries, and no others.
-use Rattle.std.proofs.Common.{◌≡◌, inl, inr, ◌⊎◌, ℕ, zero, suc, ◌+◌, ◌<◌, ◌≤◌, List, [], ◌∷◌, ◌++◌, length, sym, subst, arith}
-use Rattle.std.specs.Prelude.{slice_get, IsSomeAnd}
-use Rattle.itpg_base.specs.Walks.{IsWalk}
-use Rattle.path_ast.specs.Terms.{PathTerm, QueryTerm}
+-- A table of plans that is made anew has the nodes of the watches' queries, and no others; and what was kept of them.
+use Rattle.std.proofs.Common.{◌≡◌, inl, inr, ℕ, zero, suc, ◌+◌, ◌*◌, ◌<◌, ◌≤◌, List, [], ◌∷◌, ◌++◌, length, map, Some, refl, ◌∙◌, ap, subst, arith}
+use Rattle.std.specs.Prelude.{slice_get}
+use Rattle.itpg_base.specs.Lists.{Among}
+use Rattle.path_ast.specs.Terms.{PathTerm, QueryTerm, query_term}
 use Rattle.path_ast.specs.Sizes.{path_size}
+use Rattle.path_ast.specs.declared.ast.Query.{Query}
+use Rattle.path_ast.specs.declared.counts.TheConstants.{MAX_TERMS}
 use Rattle.label_scope.specs.declared.scope.Scope.TheVariants.{All}
-use Rattle.plan_cache.specs.Nodes.{PlanNode, Table, IsNodeOf, narrowed_member}
+use Rattle.label_scope.specs.Members.{Member}
+use Rattle.relation_rows.specs.declared.rows.Row.{Row}
+use Rattle.plan_cache.specs.declared.operations.PlanNo.{PlanNo}
+use Rattle.plan_cache.specs.Nodes.{PlanNode, Kept, Table, IsNodeOf, AreShared, narrowed_member}
 use Rattle.plan_cache.specs.declared.nodes.TheConstants.{MAX_NODES}
-use Rattle.plan_cache.specs.Growing.{Grows, IsChild, IsUnder, AddsUnder}
-use Rattle.standing_queries.specs.Watches.{Watch}
+use Rattle.plan_cache.specs.Growing.{Grows, AddsUnder}
+use Rattle.plan_cache.specs.KeptRows.{AddsFree}
+use Rattle.plan_cache.specs.Refilled.{terms_of, numbers_of, HasNode, KeepsShared}
+use Rattle.plan_cache.proofs.Adding.{before, under_stays}
+use Rattle.plan_cache.proofs.Parts.{walk_has_node}
+use Rattle.standing_queries.specs.Watches.{Watch, MayBeWatched, most_watches}
 use Rattle.itpg_session.specs.PlainWatches.{PlainWatch, plain, all_plain}
 use Rattle.itpg_session.specs.Keeping.{AddsPath, IsWatchRoot, AreOfWatches, IsMadeAnew}
-use Rattle.itpg_session.proofs.Plain.{plain_among, standing_at}
-use Rattle.itpg_session.proofs.Planned.{node_grown}
+use Rattle.itpg_session.specs.Planning.{ArePlansOf, HasWatches}
+use Rattle.itpg_session.proofs.Planned.{node_grown, kept_before}
 
 -- ---- what is under a node stays under it in a table that grows
-
-child_stays : (nodes more : List PlanNode) (x y : ℕ) → IsChild nodes x y → IsChild (nodes ++ more) x y
-child_stays [] more x y h = absurd h
-child_stays (n ∷ nodes) more zero y h = h
-child_stays (n ∷ nodes) more (suc x) y h = child_stays nodes more x y h
-
-walk_stays : (nodes more : List PlanNode) (x : ℕ) (zs : List ℕ) (y : ℕ) → IsWalk (IsChild nodes) x zs y → IsWalk (IsChild (nodes ++ more)) x zs y
-walk_stays nodes more x [] y w = w
-walk_stays nodes more x (z ∷ zs) y w = (child_stays nodes more x z w.0, walk_stays nodes more z zs y w.1)
-
-under_stays : (most : ℕ) (old new : List PlanNode) → Grows most old new → (roots : List ℕ) (k : ℕ) → IsUnder old roots k → IsUnder new roots k
-under_stays most old new grows roots k h = subst (λ (nodes : List PlanNode). IsUnder nodes roots k) (sym grows.is) (h.0, h.1, (h.2.0, walk_stays old grows.more h.0 h.2.0 k h.2.1))
 
 root_stays : (most : ℕ) (old new : List PlanNode) → Grows most old new → (ws : List PlainWatch) (root : ℕ) → IsWatchRoot old ws root → IsWatchRoot new ws root
 root_stays most old new grows ws root (w, among, node) = (w, among, node_grown most old new grows root (narrowed_member w.query.path All All) node)
 
-old_or_new : (m k : ℕ) → (k < m) ⊎ (m ≤ k)
-old_or_new zero k = inr (omega arith)
-old_or_new (suc m) zero = inl (omega arith)
-old_or_new (suc m) (suc k) = elim (old_or_new m k) [ inl h ↦ inl (omega arith) | inr h ↦ inr (omega arith) ]
+-- ---- the watches' queries, and their nodes
 
--- ---- the queries of the watches are interned one after another
+-- the number of a watch's node is that of the node of a watch's path
+root_among : (nodes : List PlanNode) (ws : List Watch) (numbers : List PlanNo) → ArePlansOf nodes ws numbers → (root : ℕ) → Among (numbers_of numbers) root → IsWatchRoot nodes (all_plain ws) root
+root_among nodes [] [] are root a = absurd a
+root_among nodes [] (number ∷ numbers) are root a = absurd are
+root_among nodes (w ∷ ws) [] are root a = absurd a
+root_among nodes (w ∷ ws) (number ∷ numbers) are root (inl e) = (plain w, inl refl, subst (λ (k : ℕ). IsNodeOf nodes k (narrowed_member w.query.path All All)) e are.0)
+root_among nodes (w ∷ ws) (number ∷ numbers) are root (inr a) = (let r = root_among nodes ws numbers are.1 root a in (r.0, inr r.1, r.2))
 
-pub none_of_watches : (ws : List PlainWatch) (nodes : List PlanNode) → nodes ≡ [] → AreOfWatches ws nodes
-none_of_watches ws nodes e = subst (AreOfWatches ws) (sym e) (λ k below. absurd (omega (arith, below)))
+-- each node is of a watch's query
+pub of_watches : (nodes : List PlanNode) (ws : List Watch) (numbers : List PlanNo) → ArePlansOf nodes ws numbers → AddsUnder [] nodes (numbers_of numbers) → AreOfWatches (all_plain ws) nodes
+of_watches nodes ws numbers are only = λ k below. (let u = only k (omega arith) below in (u.0, root_among nodes ws numbers are u.0 u.1, (u.0, inl refl, u.2)))
 
--- the node of the query that is read at a place is that of the watch there
-root_at : (nodes : List PlanNode) (ws : List Watch) (i : ℕ) (q : QueryTerm) (number : ℕ) → IsSomeAnd (slice_get ws i) (λ w. w.query ≡ q) → IsNodeOf nodes number (narrowed_member q.path All All) → IsWatchRoot nodes (all_plain ws) number
-root_at nodes ws i q number at node =
-    let w = standing_at (λ w. w.query ≡ q) ws i at in
-    (plain w.0, plain_among ws w.0 w.1, subst (λ (r : QueryTerm). IsNodeOf nodes number (narrowed_member r.path All All)) (sym w.3) node)
+-- and each watch's query has its nodes
+root_of : (nodes : List PlanNode) (ws : List Watch) (numbers : List PlanNo) → ArePlansOf nodes ws numbers → (w : PlainWatch) → Among (all_plain ws) w
+    → HasNode nodes (narrowed_member w.query.path All All)
+root_of nodes [] [] are w a = absurd a
+root_of nodes [] (number ∷ numbers) are w a = absurd a
+root_of nodes (v ∷ ws) [] are w a = absurd are
+root_of nodes (v ∷ ws) (number ∷ numbers) are w (inl e) = subst (λ (x : PlainWatch). HasNode nodes (narrowed_member x.query.path All All)) e (number.0, are.0)
+root_of nodes (v ∷ ws) (number ∷ numbers) are w (inr a) = root_of nodes ws numbers are.1 w a
 
-pub of_one_more : (most : ℕ) (old new : List PlanNode) (ws : List Watch) (i : ℕ) (q : QueryTerm) (number : ℕ) → Grows most old new → AreOfWatches (all_plain ws) old
-    → IsSomeAnd (slice_get ws i) (λ w. w.query ≡ q) → IsNodeOf new number (narrowed_member q.path All All) → AddsUnder old new (number ∷ []) → AreOfWatches (all_plain ws) new
-of_one_more most old new ws i q number grows of at node only = λ k below. elim (old_or_new (length old) k) [
-  | inl before ↦ (let r = of k before in (r.0, root_stays most old new grows (all_plain ws) r.0 r.1, under_stays most old new grows (r.0 ∷ []) k r.2))
-  | inr from ↦ (number, root_at new ws i q number at node, only k from below)
-]
+pub has_watches : (nodes : List PlanNode) → AreShared nodes → (ws : List Watch) (numbers : List PlanNo) → ArePlansOf nodes ws numbers → HasWatches nodes (all_plain ws)
+has_watches nodes shared ws numbers are = λ m h. walk_has_node nodes shared (narrowed_member h.0.query.path All All) h.2.0 m (root_of nodes ws numbers are h.0 h.1) h.2.1
+
+-- ---- the queries are few
+
+pub in_range_of : (queries : List Query) → ((q : Query) → Among queries q → MayBeWatched (query_term q)) → (q : QueryTerm) → Among (map query_term queries) q → MayBeWatched q
+in_range_of [] each q a = absurd a
+in_range_of (x ∷ queries) each q (inl e) = subst MayBeWatched e (each x (inl refl))
+in_range_of (x ∷ queries) each q (inr a) = in_range_of queries (λ y b. each y (inr b)) q a
+
+terms_few : (queries : List QueryTerm) → ((q : QueryTerm) → Among queries q → MayBeWatched q) → terms_of queries ≤ length queries * MAX_TERMS
+terms_few [] each = omega arith
+terms_few (q ∷ queries) each = let own = (each q (inl refl)).terms in let rest = terms_few queries (λ r a. each r (inr a)) in omega (arith, own, rest)
+
+as_many_queries : (ws : List Watch) → length (map (λ w. w.query) ws) ≡ length ws
+as_many_queries [] = refl
+as_many_queries (w ∷ ws) = ap suc (as_many_queries ws)
+
+-- the queries of at most 32 watches leave room for one more
+pub room_for_all : (queries : List Query) (ws : List Watch) → map query_term queries ≡ map (λ w. w.query) ws → ((q : Query) → Among queries q → MayBeWatched (query_term q))
+    → length ws ≤ most_watches → terms_of (map query_term queries) + MAX_TERMS ≤ MAX_NODES
+room_for_all queries ws same each few =
+    let terms = terms_few (map query_term queries) (in_range_of queries each) in
+    let many : length (map query_term queries) ≡ length ws = ap length same ∙ as_many_queries ws in
+    omega (arith, terms, many, few)
 
 -- ---- and then the path of a question
 
-pub of_all : (p : PathTerm) (ws : List PlainWatch) (old mid new : Table) → MAX_NODES < length old.nodes + path_size p → AreOfWatches ws mid.nodes → AddsPath p mid new → IsMadeAnew p ws old new
-of_all p ws old mid new short of adds = record {
+-- a node that stands among the first
+node_before : (nodes more : List PlanNode) (k : ℕ) (m : Member) → k < length nodes → IsNodeOf (nodes ++ more) k m → IsNodeOf nodes k m
+node_before [] more k m low h = absurd (omega (arith, low))
+node_before (n ∷ nodes) more zero m low h = h
+node_before (n ∷ nodes) more (suc k) m low h = node_before nodes more k m (omega (arith, low)) h
+
+kept_within : (kept : List Kept) (k : ℕ) (rows : List Row) → slice_get kept k ≡ Some (Some rows) → k < length kept
+kept_within [] k rows e = cc
+kept_within (x ∷ kept) zero rows e = omega arith
+kept_within (x ∷ kept) (suc k) rows e = let r = kept_within kept k rows e in omega (arith, r)
+
+pub of_all : (p : PathTerm) (ws : List PlainWatch) (old mid new : Table) → MAX_NODES < length old.nodes + path_size p → AreOfWatches ws mid.nodes → HasWatches mid.nodes ws
+    → KeepsShared old mid → length mid.kept ≡ length mid.nodes → AddsPath p mid new → AddsFree mid.kept new.kept → IsMadeAnew p ws old new
+of_all p ws old mid new short of has shared each adds free = record {
   short = short;
-  under = λ k below. elim (old_or_new (length mid.nodes) k) [
-    | inl before ↦ (let r = of k before in
+  under = λ k below. elim (before (length mid.nodes) k) [
+    | inl low ↦ (let r = of k low in
         (r.0, inr (root_stays (path_size p) mid.nodes new.nodes adds.grows ws r.0 r.1), under_stays (path_size p) mid.nodes new.nodes adds.grows (r.0 ∷ []) k r.2))
     | inr from ↦ (let r = adds.under k from below in (r.0, inl r.1, r.2))
   ];
+  stays = λ m rows of_watch was. (
+      let kept = (shared m rows).1 (was, has m of_watch) in
+      (kept.0, node_grown (path_size p) mid.nodes new.nodes adds.grows kept.0 m kept.1, adds.stays kept.0 rows kept.2));
+  only = λ m rows kept. inl (
+      let there = kept_before mid.kept new.kept free kept.0 rows kept.2 in
+      let low = kept_within mid.kept kept.0 rows there in
+      let node = node_before mid.nodes adds.grows.more kept.0 m (omega (arith, low, each)) (subst (λ (nodes : List PlanNode). IsNodeOf nodes kept.0 m) adds.grows.is kept.1) in
+      ((shared m rows).0 (kept.0, node, there)).0);
 }

@@ -6,7 +6,7 @@ use Rattle.itpg_base.specs.Words.{Word}
 use Rattle.itpg_base.specs.Decided.{Decided}
 use Rattle.itpg_base.specs.Graphs.{Graph, Begun}
 use Rattle.itpg_base.specs.declared.rule_code.RuleCode.{RuleCode}
-use Rattle.itpg_base.specs.declared.rule_code.RuleCode.TheVariants.{NoGraph, Again, Taken, Unknown, Kind, Backwards, Horizon, Ends, Absent, Held, Incident, Full, GraphName}
+use Rattle.itpg_base.specs.declared.rule_code.RuleCode.TheVariants.{NoGraph, Again, Taken, Unknown, Kind, Backwards, Horizon, Ends, Absent, Held, Incident, Full, GraphName, Narrow}
 use Rattle.itpg_base.proofs.Objects.{word_same, word_refl}
 use Rattle.itpg_base.proofs.Searches.{at_most}
 use Rattle.itpg_edit.specs.Rules.{FirstOf, NoneOf}
@@ -73,6 +73,7 @@ decide_watch g ws name q Ends = inr (λ no. no)
 decide_watch g ws name q Absent = inr (λ no. no)
 decide_watch g ws name q Held = inr (λ no. no)
 decide_watch g ws name q Incident = inr (λ no. no)
+decide_watch g ws name q Narrow = inr (λ no. no)
 
 pub decide_named : (g : Graph) (ws : List PlainWatch) (name : Word) (rule : RuleCode) → Decided (NameBreaks g ws name rule)
 decide_named g ws name NoGraph = decide_begun g.begun

@@ -6,7 +6,7 @@ use Rattle.itpg_base.specs.declared.touch.Touch.{Touch}
 use Rattle.itpg_base.specs.declared.touch.Touch.TheVariants as touched
 use Rattle.itpg_base.proofs.Objects.{there, here, same_some}
 use Rattle.itpg_edit.specs.declared.edit.Edit.{Edit}
-use Rattle.itpg_edit.specs.declared.edit.Edit.TheVariants.{Begin, AddNode, AddEdge, Live, Gone, Put, Clear, Remove}
+use Rattle.itpg_edit.specs.declared.edit.Edit.TheVariants.{Begin, Extend, AddNode, AddEdge, Live, Gone, Put, Clear, Remove}
 use Rattle.itpg_edit.specs.Next.{Next, WithLabels, TouchOf}
 
 module _ (g : Graph) (id : Word) (by : List Word → Touch) where
@@ -25,6 +25,7 @@ module _ (g : Graph) (id : Word) (by : List Word → Touch) where
 
 pub one_touch : (g : Graph) (edit : Edit) → Good g → (x y : Touch) → TouchOf g edit x → TouchOf g edit y → x ≡ y
 one_touch g (Begin name lo hi) good x y a b = a ∙ sym b
+one_touch g (Extend lo hi) good x y a b = a ∙ sym b
 one_touch g (AddNode id labels) good x y a b = a ∙ sym b
 one_touch g (AddEdge id labels source target) good x y a b = a ∙ sym b
 one_touch g (Live id from to) good x y a b = one_labelled g id (λ labels. touched.Live labels) good x y a b
@@ -35,6 +36,7 @@ one_touch g (Remove id) good x y a b = one_labelled g id (λ labels. touched.Sha
 
 pub some_touch : (g new : Graph) (edit : Edit) → Next g edit new → (touch : Touch) × TouchOf g edit touch
 some_touch g new (Begin name lo hi) n = (touched.All, refl)
+some_touch g new (Extend lo hi) n = (touched.All, refl)
 some_touch g new (AddNode id labels) n = (touched.Shape labels, refl)
 some_touch g new (AddEdge id labels source target) n = (touched.Shape labels, refl)
 some_touch g new (Live id from to) n = some_labelled g id (λ labels. touched.Live labels) n.0 n.1

@@ -1,14 +1,16 @@
 -- Nodes that are added behind others, and tables that are made anew.
-use Rattle.std.proofs.Common.{◌≡◌, inl, inr, ℕ, zero, suc, ◌+◌, ◌<◌, ◌≤◌, List, [], ◌∷◌, ◌++◌, length, take, get_or, replicate, Some, None, refl, sym, ◌∙◌, ap, subst, arith}
+use Rattle.std.proofs.Common.{◌≡◌, inl, inr, ℕ, zero, suc, ◌+◌, ◌<◌, ◌≤◌, List, [], ◌∷◌, ◌++◌, length, map, take, get_or, replicate, Option, Some, None, refl, sym, ◌∙◌, ap, subst, arith}
 use Rattle.std.proofs.lemmas.List.{length-append}
 use Rattle.std.specs.Prelude.{slice_get, IsSomeAnd}
 use Rattle.itpg_base.specs.Graphs.{Graph}
+use Rattle.itpg_base.proofs.Objects.{there, here}
 use Rattle.path_ast.specs.Terms.{QueryTerm}
 use Rattle.label_scope.specs.declared.scope.Scope.TheVariants.{All}
 use Rattle.label_scope.specs.Members.{Member}
 use Rattle.relation_rows.specs.declared.rows.Row.{Row}
 use Rattle.plan_cache.specs.declared.operations.PlanNo.{PlanNo}
-use Rattle.plan_cache.specs.Nodes.{PlanNode, Kept, Table, IsNodeOf, narrowed_member}
+use Rattle.plan_cache.specs.Nodes.{PlanNode, Kept, Table, IsNodeOf, AreNodesOf, narrowed_member}
+use Rattle.plan_cache.specs.Refilled.{members_asked, numbers_of, KeepsShared}
 use Rattle.plan_cache.specs.Growing.{Grows}
 use Rattle.plan_cache.specs.KeptRows.{AddsFree}
 use Rattle.path_eval.specs.Evaluated.{IsRight}
@@ -16,7 +18,7 @@ use Rattle.standing_queries.specs.Watches.{Watch, replanned}
 use Rattle.itpg_session.specs.Machine.{Standing}
 use Rattle.itpg_session.specs.Steps.{IsAlike}
 use Rattle.itpg_session.specs.Keeping.{IsTableRight, IsWatchRight, AreWatchesRight, IsKeptRight, AreReplanned}
-use Rattle.itpg_session.specs.Planning.{ArePlansOf, with_plans, KeepsNothing}
+use Rattle.itpg_session.specs.Planning.{ArePlansOf, with_plans}
 use Rattle.itpg_session.proofs.Plain.{replanned_same, replanned_again}
 
 -- ---- a table that grows
@@ -44,12 +46,6 @@ kept_first (o ∷ old) more (suc k) rows e = kept_first old more k rows e
 pub kept_before : (old new : List Kept) → AddsFree old new → (k : ℕ) (rows : List Row) → slice_get new k ≡ Some (Some rows) → slice_get old k ≡ Some (Some rows)
 kept_before old new free k rows e = kept_first old free.0 k rows (subst (λ (kept : List Kept). slice_get kept k ≡ Some (Some rows)) free.1 e)
 
-pub nothing_grown : (old new : List Kept) → AddsFree old new → KeepsNothing old → KeepsNothing new
-nothing_grown old new free none = λ k rows e. none k rows (kept_before old new free k rows e)
-
-pub nothing_at_first : (kept : List Kept) → kept ≡ [] → KeepsNothing kept
-nothing_at_first kept e = λ k rows h. let at : slice_get (let none : List Kept = [] in none) k ≡ Some (Some rows) = subst (λ (xs : List Kept). slice_get xs k ≡ Some (Some rows)) e h in cc
-
 module _ (g : Graph) (limit : ℕ) where
   pub table_grown : (most : ℕ) (old new : Table) → Grows most old.nodes new.nodes → AddsFree old.kept new.kept → IsTableRight g limit old → IsTableRight g limit new
   table_grown most old new grows free right = λ k rows e.
@@ -69,40 +65,22 @@ module _ (g : Graph) (limit : ℕ) where
 
 -- ---- the nodes of the watches
 
-pub plans_more : (nodes : List PlanNode) (ws : List Watch) (i : ℕ) (numbers : List PlanNo) (number : PlanNo) → ArePlansOf nodes (take i ws) numbers
-    → IsSomeAnd (slice_get ws i) (λ w. IsNodeOf nodes number.0 (narrowed_member w.query.path All All)) → ArePlansOf nodes (take (suc i) ws) (numbers ++ number ∷ [])
-plans_more nodes [] i numbers number are h = absurd h
-plans_more nodes (w ∷ ws) zero [] number are h = (h, tt)
-plans_more nodes (w ∷ ws) zero (n ∷ numbers) number are h = absurd are
-plans_more nodes (w ∷ ws) (suc i) [] number are h = absurd are
-plans_more nodes (w ∷ ws) (suc i) (n ∷ numbers) number are h = (are.0, plans_more nodes ws i numbers number are.1 h)
-
-pub plans_grown : (most : ℕ) (old new : List PlanNode) → Grows most old new → (ws : List Watch) (numbers : List PlanNo) → ArePlansOf old ws numbers → ArePlansOf new ws numbers
-plans_grown most old new grows [] [] are = tt
-plans_grown most old new grows [] (number ∷ numbers) are = absurd are
-plans_grown most old new grows (w ∷ ws) [] are = absurd are
-plans_grown most old new grows (w ∷ ws) (number ∷ numbers) are = (node_grown most old new grows number.0 (narrowed_member w.query.path All All) are.0, plans_grown most old new grows ws numbers are.1)
-
--- the node of the query that is read at a place is that of the watch there
-pub read_node : (nodes : List PlanNode) (ws : List Watch) (i : ℕ) (q : QueryTerm) (number : PlanNo) → IsSomeAnd (slice_get ws i) (λ w. w.query ≡ q) → IsNodeOf nodes number.0 (narrowed_member q.path All All)
-    → IsSomeAnd (slice_get ws i) (λ w. IsNodeOf nodes number.0 (narrowed_member w.query.path All All))
-read_node nodes [] i q number h is = absurd h
-read_node nodes (w ∷ ws) zero q number h is = subst (λ (r : QueryTerm). IsNodeOf nodes number.0 (narrowed_member r.path All All)) (sym h) is
-read_node nodes (w ∷ ws) (suc i) q number h is = read_node nodes ws i q number h is
+-- the nodes of the queries are those of the watches
+pub plans_of : (nodes : List PlanNode) (queries : List QueryTerm) (ws : List Watch) (numbers : List PlanNo) → queries ≡ map (λ w. w.query) ws
+    → AreNodesOf nodes (numbers_of numbers) (members_asked queries) → ArePlansOf nodes ws numbers
+plans_of nodes queries ws numbers same are = each ws numbers (subst (λ (qs : List QueryTerm). AreNodesOf nodes (numbers_of numbers) (members_asked qs)) same are)
+  where
+    each : (ws : List Watch) (numbers : List PlanNo) → AreNodesOf nodes (numbers_of numbers) (members_asked (map (λ w. w.query) ws)) → ArePlansOf nodes ws numbers
+    each [] [] are = tt
+    each [] (number ∷ numbers) are = are
+    each (w ∷ ws) [] are = are
+    each (w ∷ ws) (number ∷ numbers) are = (are.0, each ws numbers are.1)
 
 pub plans_length : (nodes : List PlanNode) (ws : List Watch) (numbers : List PlanNo) → ArePlansOf nodes ws numbers → length numbers ≡ length ws
 plans_length nodes [] [] are = refl
 plans_length nodes [] (number ∷ numbers) are = absurd are
 plans_length nodes (w ∷ ws) [] are = absurd are
 plans_length nodes (w ∷ ws) (number ∷ numbers) are = ap suc (plans_length nodes ws numbers are.1)
-
--- one node more, while the table grows
-pub plans_step : (most : ℕ) (old new : List PlanNode) (ws : List Watch) (i : ℕ) (q : QueryTerm) (items more : List PlanNo) (number : PlanNo) → Grows most old new → ArePlansOf old (take i ws) items
-    → IsSomeAnd (slice_get ws i) (λ w. w.query ≡ q) → IsNodeOf new number.0 (narrowed_member q.path All All) → more ≡ items ++ number ∷ [] → ArePlansOf new (take (i + 1) ws) more
-plans_step most old new ws i q items more number grows are at node is =
-    let next : suc i ≡ i + 1 = omega arith in
-    let longer = plans_more new ws i items number (plans_grown most old new grows (take i ws) items are) (read_node new ws i q number at node) in
-    subst (λ (numbers : List PlanNo). ArePlansOf new (take (i + 1) ws) numbers) (sym is) (subst (λ (k : ℕ). ArePlansOf new (take k ws) (items ++ number ∷ [])) next longer)
 
 -- ---- new numbers for the watches
 
@@ -138,10 +116,31 @@ module _ (g : Graph) (limit : ℕ) (before nodes : List PlanNode) where
       subst (IsWatchRight g limit nodes) e (record { planned = are.0; footed = r.footed; declared = r.declared; answered = r.answered })
   with_plans_right (w ∷ ws) (number ∷ numbers) right are v (inr a) = with_plans_right ws numbers (λ u b. right u (inr b)) are.1 v a
 
--- what stands in a table that was made anew
-pub made_anew : (g : Graph) (limit : ℕ) (old new : Table) (ws : List Watch) (numbers : List PlanNo) → KeepsNothing new.kept → ArePlansOf new.nodes ws numbers → IsKeptRight g limit old ws → IsKeptRight g limit new (with_plans numbers ws)
-made_anew g limit old new ws numbers none are right = record {
-  table_right = λ k rows e. absurd (none k rows e);
+-- what stands in a table that was made anew: what is kept in it was kept before, of the same member
+pub table_anew : (g : Graph) (limit : ℕ) (old new : Table) → KeepsShared old new → length new.kept ≡ length new.nodes → IsTableRight g limit old → IsTableRight g limit new
+table_anew g limit old new shared each right = λ k rows e.
+    let n = some_at new.nodes k (let low = within new.kept k (Some rows) e in omega (arith, each, low)) in
+    let was = ((shared n.0.member rows).0 (k, here new.nodes k (λ v. v.member ≡ n.0.member) n.0 n.1 refl, e)).0 in
+    let m = there old.nodes was.0 (λ v. v.member ≡ n.0.member) was.1 in
+    here new.nodes k (λ v. IsRight g limit v.member rows) n.0 n.1 (moved rows (slice_get old.nodes was.0) m.0 n.0 m.1 m.2 (right was.0 rows was.2))
+  where
+    moved : (rows : List Row) (o : Option PlanNode) (m n : PlanNode) → o ≡ Some m → m.member ≡ n.member → IsSomeAnd o (λ v. IsRight g limit v.member rows) → IsRight g limit n.member rows
+    moved rows o m n at same right = subst (λ (v : Member). IsRight g limit v rows) same (subst (λ (x : Option PlanNode). IsSomeAnd x (λ v. IsRight g limit v.member rows)) at right)
+
+    within : (kept : List Kept) (k : ℕ) (x : Kept) → slice_get kept k ≡ Some x → k < length kept
+    within [] k x e = cc
+    within (y ∷ kept) zero x e = omega arith
+    within (y ∷ kept) (suc k) x e = let r = within kept k x e in omega (arith, r)
+
+    some_at : (nodes : List PlanNode) (k : ℕ) → k < length nodes → (n : PlanNode) × (slice_get nodes k ≡ Some n)
+    some_at [] k l = absurd (omega (arith, l))
+    some_at (n ∷ nodes) zero l = (n, refl)
+    some_at (n ∷ nodes) (suc k) l = some_at nodes k (omega (arith, l))
+
+pub made_anew : (g : Graph) (limit : ℕ) (old new : Table) (ws : List Watch) (numbers : List PlanNo) → KeepsShared old new → length new.kept ≡ length new.nodes
+    → ArePlansOf new.nodes ws numbers → IsKeptRight g limit old ws → IsKeptRight g limit new (with_plans numbers ws)
+made_anew g limit old new ws numbers shared each are right = record {
+  table_right = table_anew g limit old new shared each right.table_right;
   watches_right = with_plans_right g limit old.nodes new.nodes ws numbers right.watches_right are;
 }
 

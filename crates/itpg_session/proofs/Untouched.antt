@@ -19,7 +19,7 @@ use Rattle.label_scope.specs.Agreeing.{StandsOnEither, Agree}
 use Rattle.label_scope.proofs.ByProperty.{some_has}
 use Rattle.label_scope.proofs.Inside.{IsInside}
 use Rattle.itpg_edit.specs.declared.edit.Edit.{Edit}
-use Rattle.itpg_edit.specs.declared.edit.Edit.TheVariants.{Begin, AddNode, AddEdge, Live, Gone, Put, Clear, Remove}
+use Rattle.itpg_edit.specs.declared.edit.Edit.TheVariants.{Begin, Extend, AddNode, AddEdge, Live, Gone, Put, Clear, Remove}
 use Rattle.itpg_edit.specs.Facts.{span_of}
 use Rattle.itpg_edit.specs.Next.{Next, WithLabels, TouchOf}
 use Rattle.itpg_session.proofs.SparedObjects.{IsSpared, agree_pushed, other_same, KeepsOutline, shape_same, spared_same, kept_same, agree_without}
@@ -98,6 +98,7 @@ put_same g o s prop new properties are name other t value = (
 
 pub untouched : (g new : Graph) (edit : Edit) (touch : Touch) (f : Footprint) → IsInside f (Has f.shape) → Good g → Next g edit new → TouchOf g edit touch → (Meets f touch → ⊥) → Agree g new f
 untouched g new (Begin name lo hi) touch f inside good next touches unmet = absurd (unmet (subst (Meets f) (sym touches) tt))
+untouched g new (Extend lo hi) touch f inside good next touches unmet = absurd (unmet (subst (Meets f) (sym touches) tt))
 untouched g new (AddNode id labels) touch f inside good next touches unmet =
     subst (λ (h : Graph). Agree g h f) (sym next) (agree_pushed g id labels None f (λ has. unmet (subst (Meets f) (sym touches) has)))
 untouched g new (AddEdge id labels source target) touch f inside good next touches unmet =

@@ -3,15 +3,19 @@ use Rattle.std.specs.Prelude.{◌≡◌, ℕ, ◌+◌, ◌<◌, ◌≤◌, ◌�
 use Rattle.std.specs.List.{AllZip}
 use Rattle.itpg_base.specs.Graphs.{Graph}
 use Rattle.itpg_base.specs.Lists.{Among}
+use Rattle.itpg_base.specs.Walks.{IsWalk}
 use Rattle.path_ast.specs.Terms.{PathTerm, QueryTerm}
 use Rattle.path_ast.specs.Sizes.{path_size}
 use Rattle.match_parser.specs.Reading.{Reads}
 use Rattle.label_scope.specs.declared.scope.Scope.TheVariants.{All}
 use Rattle.label_scope.specs.Footprints.{footprint}
-use Rattle.plan_cache.specs.Nodes.{Table, PlanNode, IsNodeOf, narrowed_member}
+use Rattle.label_scope.specs.Members.{Member}
+use Rattle.relation_rows.specs.declared.rows.Row.{Row}
+use Rattle.plan_cache.specs.Nodes.{Table, PlanNode, IsNodeOf, narrowed_member, parts_of}
 use Rattle.plan_cache.specs.declared.nodes.TheConstants.{MAX_NODES}
 use Rattle.plan_cache.specs.Growing.{Grows, IsUnder}
 use Rattle.plan_cache.specs.KeptRows.{AllKept, Stays}
+use Rattle.plan_cache.specs.Refilled.{KeepsOf}
 use Rattle.path_eval.specs.Evaluated.{IsRight}
 use Rattle.path_eval.specs.Keeping.{KeptOrFull}
 use Rattle.relation_rows.specs.Answered.{Answered}
@@ -71,11 +75,22 @@ IsRootOf nodes p watches root = IsNodeOf nodes root (narrowed_member p All All) 
 abbrev pub AreOfWatches : List PlainWatch → List PlanNode → Type 0
 AreOfWatches watches nodes = (k : ℕ) → k < length nodes → (root : ℕ) × IsWatchRoot nodes watches root × IsUnder nodes (root ∷ []) k
 
+-- the member is that of the path of a watch's query, between all objects, or it is a part of that, or a part of a part, and so on
+abbrev pub IsOfWatch : List PlainWatch → Member → Type 0
+IsOfWatch watches m = (w : PlainWatch) × Among watches w × ((zs : List Member) × IsWalk (λ x y. Among (parts_of x) y) (narrowed_member w.query.path All All) zs m)
+
+-- the member's node is under that of the path between all objects
+abbrev pub IsOfPath : List PlanNode → PathTerm → Member → Type 0
+IsOfPath nodes p m = (k : ℕ) × IsNodeOf nodes k m × ((root : ℕ) × IsNodeOf nodes root (narrowed_member p All All) × IsUnder nodes (root ∷ []) k)
+
 -- the table was made anew, since there may be no room for as many nodes as the path has terms: each of its nodes is under that of the
--- path, or of the path of a watch's query
+-- path, or of the path of a watch's query. What was kept of a watch's members is kept still; and what is kept was kept before, or its
+-- node is one of the path's
 pub record IsMadeAnew (p : PathTerm) (watches : List PlainWatch) (old new : Table) : Type 0 where
   pub short : MAX_NODES < length old.nodes + path_size p
   pub under : (k : ℕ) → k < length new.nodes → (root : ℕ) × IsRootOf new.nodes p watches root × IsUnder new.nodes (root ∷ []) k
+  pub stays : (m : Member) (rows : List Row) → IsOfWatch watches m → KeepsOf old m rows → KeepsOf new m rows
+  pub only : (m : Member) (rows : List Row) → KeepsOf new m rows → KeepsOf old m rows ⊎ IsOfPath new.nodes p m
 
 -- the nodes of the path are added, or the table was made anew
 abbrev pub AddsOrRenews : PathTerm → List PlainWatch → Table → Table → Type 0

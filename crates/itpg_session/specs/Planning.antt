@@ -1,10 +1,13 @@
 -- For the crate's own functions: the nodes of the watches' queries.
-use Rattle.std.specs.Prelude.{◌≡◌, ℕ, List, [], ◌∷◌, slice_get, Some}
+use Rattle.std.specs.Prelude.{List, [], ◌∷◌}
 use Rattle.label_scope.specs.declared.scope.Scope.TheVariants.{All}
-use Rattle.relation_rows.specs.declared.rows.Row.{Row}
+use Rattle.label_scope.specs.Members.{Member}
 use Rattle.plan_cache.specs.declared.operations.PlanNo.{PlanNo}
-use Rattle.plan_cache.specs.Nodes.{PlanNode, Kept, IsNodeOf, narrowed_member}
+use Rattle.plan_cache.specs.Nodes.{PlanNode, IsNodeOf, narrowed_member}
+use Rattle.plan_cache.specs.Refilled.{HasNode}
 use Rattle.standing_queries.specs.Watches.{Watch}
+use Rattle.itpg_session.specs.PlainWatches.{PlainWatch}
+use Rattle.itpg_session.specs.Keeping.{IsOfWatch}
 
 -- in order, these are the numbers of the nodes of the watches' paths between all objects
 abbrev pub ArePlansOf : List PlanNode → List Watch → List PlanNo → Type 0
@@ -19,6 +22,6 @@ with_plans [] watches = watches
 with_plans (number ∷ numbers) [] = []
 with_plans (number ∷ numbers) (w ∷ watches) = record w { plan = number.0 } ∷ with_plans numbers watches
 
--- at no place a relation is kept
-abbrev pub KeepsNothing : List Kept → Type 0
-KeepsNothing kept = (k : ℕ) (rows : List Row) → slice_get kept k ≡ Some (Some rows) → ⊥
+-- each member of a watch's query has a node
+abbrev pub HasWatches : List PlanNode → List PlainWatch → Type 0
+HasWatches nodes watches = (m : Member) → IsOfWatch watches m → HasNode nodes m

@@ -4,6 +4,7 @@ ghost use Rattle.path_ast.specs.Terms.{query_term, path_term};
 ghost use Rattle.label_scope.specs.declared.scope.Scope.TheVariants.{All};
 ghost use Rattle.plan_cache.specs.Nodes.{IsNodeOf, narrowed_member};
 ghost use Rattle.relation_rows.specs.Answered.{answered};
+ghost use Rattle.path_eval.specs.Keeping.{KeepsOnlyReached};
 ghost use Rattle.itpg_session.specs.Questions.{IsTooWide, HasAnswer};
 ghost use Rattle.itpg_session.specs.Keeping.{IsTableRight, IsWorked, KeepsPath};
 
@@ -32,6 +33,7 @@ pub(crate) fn find(
     ensures wide { IsErrOf result EvalFault.Wide → IsTooWide graph.now max_rows (query_term query.now) }
     ensures still_right { IsTableRight graph.now max_rows plans.new }
     ensures worked { IsWorked plans.old plans.new }
+    ensures only { KeepsOnlyReached plans.old no.0 plans.new.kept }
     ensures keeps { IfOk result (λ _. KeepsPath graph.now (path_term query.now.path) plans.new) }
 {
     let relation = relation(alloc, graph, plans, no, max_rows)?;

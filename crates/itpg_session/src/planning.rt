@@ -1,21 +1,22 @@
 //! The plan nodes of queries, and a table of plans that is made anew where there may be no room for one more.
-ghost use Rattle.std.specs.Prelude.{◌≡◌, ◌+◌, ◌≤◌, [], length, IfOk, OnOk, OnErr};
+ghost use Rattle.std.specs.Prelude.{◌≡◌, ◌+◌, ◌≤◌, length, IfOk, OnOk, OnErr};
 ghost use Rattle.path_ast.specs.Terms.{path_term};
 ghost use Rattle.path_ast.specs.Sizes.{path_size, IsPathInRange};
 ghost use Rattle.path_ast.specs.declared.counts.TheConstants.{MAX_TERMS};
 ghost use Rattle.label_scope.specs.declared.scope.Scope.TheVariants.{All};
 ghost use Rattle.plan_cache.specs.Nodes.{IsNodeOf, narrowed_member};
+ghost use Rattle.plan_cache.specs.KeptRows.{AddsFree};
+ghost use Rattle.plan_cache.specs.Refilled.{KeepsShared};
 ghost use Rattle.plan_cache.specs.declared.nodes.TheConstants.{MAX_NODES as most_nodes};
-ghost use Rattle.itpg_session.specs.PlainWatches.{all_plain};
 ghost use Rattle.itpg_session.specs.Steps.{IsAlike};
 ghost use Rattle.itpg_session.specs.Keeping.{AddsPath, AddsOrRenews, AreOfWatches};
-ghost use Rattle.itpg_session.specs.Planning.{ArePlansOf, with_plans, KeepsNothing};
+ghost use Rattle.itpg_session.specs.Planning.{with_plans, HasWatches};
 
 use crate::session::Session;
 use path_ast::{Query, terms};
-use plan_cache::{MAX_NODES, PlanNo, Plans};
+use plan_cache::{MAX_NODES, PlanNo, law_of_shared_nodes};
 use standing_queries::Watches;
-use std::alloc::{AllocError, Global};
+use std::alloc::AllocError;
 
 impl Session {
     /// The node of the query's path between all objects. If there may be no room for it, the table of plans is made anew.
@@ -39,44 +40,28 @@ impl Session {
         ensures node { IfOk result (λ no. IsNodeOf self.new.table.nodes no.0 (narrowed_member (path_term query.now.path) All All)) }
         ensures alike { IsAlike self.old self.new }
         ensures adds { AddsPath (path_term query.now.path) self.old.table self.new.table }
+        ensures free { AddsFree self.old.table.kept self.new.table.kept }
     {
         self.plans.intern(query)
     }
 
-    // Makes the table of plans anew, of the watches' queries alone. No relation is kept in it.
+    // Makes the table of plans anew, of the watches' queries alone. What is kept of their paths and of their parts stays.
     fn renew(&mut self) -> Result<(), AllocError>
         ensures room { OnOk result (length self.new.table.nodes + MAX_TERMS ≤ most_nodes) }
         ensures anew { OnOk result (AreOfWatches self.old.machine.watches self.new.table.nodes) }
+        ensures each { OnOk result (length self.new.table.kept ≡ length self.new.table.nodes) }
+        ensures has { OnOk result (HasWatches self.new.table.nodes self.old.machine.watches) }
+        ensures kept { OnOk result (KeepsShared self.old.table self.new.table) }
         ensures same { OnErr result (self.new.table ≡ self.old.table) }
         ensures alike { IsAlike self.old self.new }
     {
-        let mut plans = Plans::new(self.alloc);
-        let numbers = intern_all(self.alloc, &mut plans, &self.watches)?;
+        // There are few enough of them.
+        let _few = self.watches.len();
+        let numbers = self.plans.refill(self.watches.queries())?;
+        law_of_shared_nodes(&self.plans);
         replan(&mut self.watches, &numbers);
-        self.plans = plans;
         Ok(())
     }
-}
-
-// The nodes of the watches' queries in a table that has no other.
-fn intern_all(
-    alloc: Global,
-    plans: &mut Plans,
-    watches: &Watches,
-) -> Result<Vec<PlanNo>, AllocError>
-    requires none { plans.old.nodes ≡ [] }
-    requires free { plans.old.kept ≡ [] }
-    ensures plans { IfOk result (λ numbers. ArePlansOf plans.new.nodes watches.now numbers.items) }
-    ensures room { OnOk result (length plans.new.nodes + MAX_TERMS ≤ most_nodes) }
-    ensures anew { OnOk result (AreOfWatches (all_plain watches.now) plans.new.nodes) }
-    ensures free { OnOk result (KeepsNothing plans.new.kept) }
-{
-    let mut numbers = Vec::new(alloc);
-    for place in 0..watches.len() {
-        let no = plans.intern(watches.query(place))?;
-        numbers.push(no)?;
-    }
-    Ok(numbers)
 }
 
 // Has each watch stand for the node at its place in the list.

@@ -184,7 +184,7 @@ impl Session {
     /// # Errors
     ///
     /// `Memory` if memory runs out: never for a blank line, a comment, a line that has a fault of its own, an edit that is
-    /// refused, `graph`, `drop`, `unwatch`, a `show` or a `tick` that is refused, or a `show` of a fresh watch. `Write` if the sink
+    /// refused, `graph`, `extend`, `drop`, `unwatch`, a `show` or a `tick` that is refused, or a `show` of a fresh watch. `Write` if the sink
     /// failed. After either, relations that were worked out may be kept, and query plans may be added.
     pub fn step<K: Sink>(&mut self, no: u64, line: &[u8], out: &mut K) -> Result<Seen, StepFault>
         ensures stepped { IfOk result (λ seen. Stepped K.Sink out.old out.new (Replies self.old.limit self.old.machine line.now) no self.old self.new seen) }

@@ -12,19 +12,19 @@ use Rattle.plan_cache.specs.Growing.{Grows, IsChild, IsUnder, AddsUnder}
 pub adds_nothing : (nodes : List PlanNode) (roots : List ℕ) → AddsUnder nodes nodes roots
 adds_nothing nodes roots = λ k l m. absurd (let none : ⊥ = omega arith in none)
 
-child_stays : (nodes more : List PlanNode) (x y : ℕ) → IsChild nodes x y → IsChild (nodes ++ more) x y
+pub child_stays : (nodes more : List PlanNode) (x y : ℕ) → IsChild nodes x y → IsChild (nodes ++ more) x y
 child_stays [] more x y h = absurd h
 child_stays (n ∷ nodes) more zero y h = h
 child_stays (n ∷ nodes) more (suc x) y h = child_stays nodes more x y h
 
-walk_stays : (nodes more : List PlanNode) (x : ℕ) (zs : List ℕ) (y : ℕ) → IsWalk (IsChild nodes) x zs y → IsWalk (IsChild (nodes ++ more)) x zs y
+pub walk_stays : (nodes more : List PlanNode) (x : ℕ) (zs : List ℕ) (y : ℕ) → IsWalk (IsChild nodes) x zs y → IsWalk (IsChild (nodes ++ more)) x zs y
 walk_stays nodes more x [] y w = w
 walk_stays nodes more x (z ∷ zs) y w = (child_stays nodes more x z w.0, walk_stays nodes more z zs y w.1)
 
-under_stays : (n : ℕ) (old new : List PlanNode) → Grows n old new → (roots : List ℕ) (k : ℕ) → IsUnder old roots k → IsUnder new roots k
+pub under_stays : (n : ℕ) (old new : List PlanNode) → Grows n old new → (roots : List ℕ) (k : ℕ) → IsUnder old roots k → IsUnder new roots k
 under_stays n old new g roots k h = subst (λ (v : List PlanNode). IsUnder v roots k) (sym g.is) (h.0, h.1, (h.2.0, walk_stays old g.more h.0 h.2.0 k h.2.1))
 
-before : (m k : ℕ) → (k < m) ⊎ (m ≤ k)
+pub before : (m k : ℕ) → (k < m) ⊎ (m ≤ k)
 before zero k = inr (omega arith)
 before (suc m) zero = inl (omega arith)
 before (suc m) (suc k) = elim (before m k) [ inl h ↦ inl (omega arith) | inr h ↦ inr (omega arith) ]

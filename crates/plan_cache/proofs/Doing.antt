@@ -46,7 +46,7 @@ condition_does new p a x h =
     let by = path_of_node new x (narrowed_member p a All) h in
     record { test = (let same : test_read_back new (Leads x) ≡ Condition p = cc in same); children = (h, tt) }
 
-both_nodes : (nodes : List PlanNode) (ks ls : List ℕ) (ms ns : List Member) → AreNodesOf nodes ks ms → AreNodesOf nodes ls ns → AreNodesOf nodes (ks ++ ls) (ms ++ ns)
+pub both_nodes : (nodes : List PlanNode) (ks ls : List ℕ) (ms ns : List Member) → AreNodesOf nodes ks ms → AreNodesOf nodes ls ns → AreNodesOf nodes (ks ++ ls) (ms ++ ns)
 both_nodes nodes [] ls [] ns h k = k
 both_nodes nodes [] ls (m ∷ ms) ns h k = absurd h
 both_nodes nodes (x ∷ ks) ls [] ns h k = absurd h

@@ -24,7 +24,7 @@ feet_there nodes [] (m ∷ ms) h = h
 feet_there nodes (k ∷ ks) [] h = h
 feet_there nodes (k ∷ ks) (m ∷ ms) h = (foot_there nodes k m h.0, feet_there nodes ks ms h.1)
 
-some_node : (nodes : List PlanNode) (i : ℕ) → i < length nodes → (n : PlanNode) × (slice_get nodes i ≡ Some n)
+pub some_node : (nodes : List PlanNode) (i : ℕ) → i < length nodes → (n : PlanNode) × (slice_get nodes i ≡ Some n)
 some_node [] i l = absurd (let none : ⊥ = omega arith in none)
 some_node (n ∷ nodes) zero l = (n, refl)
 some_node (n ∷ nodes) (suc i) l = some_node nodes i (omega arith)

@@ -9,7 +9,7 @@ use Rattle.label_scope.specs.Touching.{Meets}
 use Rattle.plan_cache.specs.Nodes.{Kept}
 use Rattle.plan_cache.specs.declared.shelf.TheConstants.{MAX_KEPT_ROWS}
 use Rattle.plan_cache.specs.KeptRows.{rows_in, rows_kept, ForgetsAt, Forgets}
-use Rattle.plan_cache.specs.Shelves.{Shelved, ForgetsFirst, IsShelf, IsForgetting, LosesAt}
+use Rattle.plan_cache.specs.Shelves.{Shelved, ForgetsFirst, IsShelf, IsForgetting, LosesAt, relations_in, relations_kept}
 
 module _ (touch : Touch) where
   -- once all places are done, it forgets at each
@@ -77,27 +77,76 @@ length_set [] i x = refl
 length_set (k ∷ kept) zero x = refl
 length_set (k ∷ kept) (suc i) x = ap suc (length_set kept i x)
 
+-- the same of relations
+pub relations_less : (kept : List Kept) (i : ℕ) (k : Kept) → slice_get kept i ≡ Some k → relations_kept (slice_set kept i None) + relations_in k ≡ relations_kept kept
+relations_less [] i k e = cc
+relations_less (j ∷ kept) zero k e = let is : relations_in j ≡ relations_in k = cc in omega arith
+relations_less (j ∷ kept) (suc i) k e = let r = relations_less kept i k e in omega arith
+
+pub relations_more : (kept : List Kept) (i : ℕ) (rows : List Row) → slice_get kept i ≡ Some None → relations_kept (slice_set kept i (Some rows)) ≡ relations_kept kept + 1
+relations_more [] i rows e = cc
+relations_more (j ∷ kept) zero rows e = let none : j ≡ None = cc in let is : relations_in j ≡ 0 = ap relations_in none in omega arith
+relations_more (j ∷ kept) (suc i) rows e = let r = relations_more kept i rows e in omega arith
+
+relations_none : (kept : List Kept) → relations_kept (kept ++ None ∷ []) ≡ relations_kept kept
+relations_none [] = refl
+relations_none (k ∷ kept) = let r = relations_none kept in omega arith
+
+at_most_one : (k : Kept) → relations_in k ≤ 1
+at_most_one None = omega arith
+at_most_one (Some rows) = omega arith
+
+-- at most one relation is kept at a place
+few_relations : (kept : List Kept) → relations_kept kept ≤ length kept
+few_relations [] = omega arith
+few_relations (k ∷ kept) = let r = few_relations kept in let one = at_most_one k in omega arith
+
+-- so there are fewer where a place is free
+pub fewer_relations : (kept : List Kept) (i : ℕ) → slice_get kept i ≡ Some None → relations_kept kept < length kept
+fewer_relations [] i e = cc
+fewer_relations (j ∷ kept) zero e = let none : j ≡ None = cc in let is : relations_in j ≡ 0 = ap relations_in none in let r = few_relations kept in omega arith
+fewer_relations (j ∷ kept) (suc i) e = let r = fewer_relations kept i e in let one = at_most_one j in omega arith
+
+pub relations_there : (kept : List Kept) (place : ℕ) (was : Kept) → slice_get kept place ≡ Some was → relations_in was ≤ relations_kept kept
+relations_there kept place was e = let m = relations_less kept place was e in omega arith
+
+none_here : (k : Kept) → relations_in k ≡ 0 → k ≡ None
+none_here None e = refl
+none_here (Some rows) e = absurd (let none : ⊥ = omega arith in none)
+
+-- where no relation is kept, there is nothing to forget
+pub forgets_nothing : (touch : Touch) (feet : List Footprint) (kept : List Kept) → length kept ≡ length feet → relations_kept kept ≡ 0 → Forgets touch feet kept kept
+forgets_nothing touch [] [] l e = tt
+forgets_nothing touch [] (k ∷ kept) l e = absurd (let none : ⊥ = omega arith in none)
+forgets_nothing touch (f ∷ feet) [] l e = absurd (let none : ⊥ = omega arith in none)
+forgets_nothing touch (f ∷ feet) (k ∷ kept) l e =
+    (record { gone = λ _. none_here k (omega arith); stays = λ _. refl }, forgets_nothing touch feet kept (omega arith) (omega arith))
+
 -- a place more, at which nothing is kept
-pub shelf_more : (feet : List Footprint) (kept : List Kept) (rows : ℕ) (f : Footprint) → IsShelf feet kept rows → IsShelf (feet ++ f ∷ []) (kept ++ None ∷ []) rows
-shelf_more feet kept rows f s = record {
+pub shelf_more : (feet : List Footprint) (kept : List Kept) (rows count : ℕ) (f : Footprint) → IsShelf feet kept rows count → IsShelf (feet ++ f ∷ []) (kept ++ None ∷ []) rows count
+shelf_more feet kept rows count f s = record {
   each = let l = length-append feet (f ∷ []) in let k = length-append kept (None ∷ []) in let e = s.each in omega arith;
   counted = s.counted ∙ sym (rows_none kept);
+  many = s.many ∙ sym (relations_none kept);
   few = s.few;
 }
 
 -- a relation more
-pub shelf_keeps : (feet : List Footprint) (kept : List Kept) (rows place : ℕ) (relation : List Row) → IsShelf feet kept rows → slice_get kept place ≡ Some None → rows + length relation ≤ MAX_KEPT_ROWS → IsShelf feet (slice_set kept place (Some relation)) (rows + length relation)
-shelf_keeps feet kept rows place relation s e l = record {
+pub shelf_keeps : (feet : List Footprint) (kept : List Kept) (rows count place : ℕ) (relation : List Row) → IsShelf feet kept rows count → slice_get kept place ≡ Some None → rows + length relation ≤ MAX_KEPT_ROWS
+    → IsShelf feet (slice_set kept place (Some relation)) (rows + length relation) (count + 1)
+shelf_keeps feet kept rows count place relation s e l = record {
   each = length_set kept place (Some relation) ∙ s.each;
   counted = let c = s.counted in let m = rows_more kept place relation e in omega arith;
+  many = let c = s.many in let m = relations_more kept place relation e in omega arith;
   few = l;
 }
 
 -- a relation less
-pub shelf_drops : (feet : List Footprint) (kept : List Kept) (rows place : ℕ) (was : Kept) → IsShelf feet kept rows → slice_get kept place ≡ Some was → IsShelf feet (slice_set kept place None) (rows - rows_in was)
-shelf_drops feet kept rows place was s e = record {
+pub shelf_drops : (feet : List Footprint) (kept : List Kept) (rows count place : ℕ) (was : Kept) → IsShelf feet kept rows count → slice_get kept place ≡ Some was → IsShelf feet (slice_set kept place None) (rows - rows_in was) (count - relations_in was)
+shelf_drops feet kept rows count place was s e = record {
   each = length_set kept place None ∙ s.each;
   counted = let c = s.counted in let m = rows_less kept place was e in omega arith;
+  many = let c = s.many in let m = relations_less kept place was e in omega arith;
   few = let f = s.few in omega arith;
 }
 

@@ -4,7 +4,7 @@ use Rattle.std.proofs.lemmas.List.{append_assoc, length-append}
 use Rattle.label_scope.specs.declared.footprint.Footprint.{Footprint}
 use Rattle.plan_cache.specs.Nodes.{Kept}
 use Rattle.plan_cache.specs.KeptRows.{rows_kept, AddsFree}
-use Rattle.plan_cache.specs.Shelves.{IsShelf}
+use Rattle.plan_cache.specs.Shelves.{IsShelf, relations_kept}
 
 append_none : (xs : List Kept) → xs ≡ xs ++ []
 append_none [] = refl
@@ -27,6 +27,11 @@ rows_free (k ∷ old) n = let r = rows_free old n in omega arith
 
 pub rows_stay : (old new : List Kept) → AddsFree old new → rows_kept new ≡ rows_kept old
 rows_stay old new h = ap rows_kept h.1 ∙ rows_free old h.0
+
+relations_free : (old : List Kept) (n : ℕ) → relations_kept (old ++ replicate n None) ≡ relations_kept old
+relations_free [] zero = refl
+relations_free [] (suc n) = let r = relations_free [] n in omega arith
+relations_free (k ∷ old) n = let r = relations_free old n in omega arith
 
 -- the first so many, each seen by itself
 pub map_take : {X Y : Type 0} (f : X → Y) (n : ℕ) (xs : List X) → map f (take n xs) ≡ take n (map f xs)
@@ -59,9 +64,10 @@ same_length (suc n) [] (k ∷ kept) e = absurd (let none : ⊥ = omega arith in 
 same_length (suc n) (f ∷ feet) [] e = absurd (let none : ⊥ = omega arith in none)
 same_length (suc n) (f ∷ feet) (k ∷ kept) e = ap suc (same_length n feet kept (omega arith))
 
-pub shelf_cut : (feet : List Footprint) (kept : List Kept) (rows n : ℕ) → IsShelf feet kept rows → AddsFree (take n kept) kept → IsShelf (take n feet) (take n kept) rows
-shelf_cut feet kept rows n s h = record {
+pub shelf_cut : (feet : List Footprint) (kept : List Kept) (rows count n : ℕ) → IsShelf feet kept rows count → AddsFree (take n kept) kept → IsShelf (take n feet) (take n kept) rows count
+shelf_cut feet kept rows count n s h = record {
   each = same_length n feet kept s.each;
   counted = s.counted ∙ rows_stay (take n kept) kept h;
+  many = s.many ∙ ap relations_kept h.1 ∙ relations_free (take n kept) h.0;
   few = s.few;
 }

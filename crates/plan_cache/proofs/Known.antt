@@ -16,14 +16,14 @@ number_below [] k m h = absurd h
 number_below (n ∷ nodes) zero m h = omega arith
 number_below (n ∷ nodes) (suc k) m h = let l = number_below nodes k m h in omega arith
 
-first_below : (nodes : List PlanNode) (x k : ℕ) (m : Member) → IsNodeOf (take x nodes) k m → k < x
+pub first_below : (nodes : List PlanNode) (x k : ℕ) (m : Member) → IsNodeOf (take x nodes) k m → k < x
 first_below [] zero k m h = absurd h
 first_below [] (suc x) k m h = absurd h
 first_below (n ∷ nodes) zero k m h = absurd h
 first_below (n ∷ nodes) (suc x) zero m h = omega arith
 first_below (n ∷ nodes) (suc x) (suc k) m h = let l = first_below nodes x k m h in omega arith
 
-all_below : (nodes : List PlanNode) (x : ℕ) (ks : List ℕ) (ms : List Member) → AreNodesOf (take x nodes) ks ms → (y : ℕ) → Among ks y → y < x
+pub all_below : (nodes : List PlanNode) (x : ℕ) (ks : List ℕ) (ms : List Member) → AreNodesOf (take x nodes) ks ms → (y : ℕ) → Among ks y → y < x
 all_below nodes x [] ms h y i = absurd i
 all_below nodes x (k ∷ ks) [] h y i = absurd h
 all_below nodes x (k ∷ ks) (m ∷ ms) h y (inl e) = subst (λ (v : ℕ). v < x) e (first_below nodes x k m h.0)

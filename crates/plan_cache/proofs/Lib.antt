@@ -7,9 +7,15 @@ mod AlikeLeaves
 mod AlikeOperations
 mod AlikeKeys
 mod Placing
-mod Adding
+pub mod Adding
 mod Footing
 mod Forgetting
 pub mod Edited
 mod Known
 mod Free
+mod Sought
+mod Renumbered
+mod Former
+mod Moved
+mod Refilled
+pub mod Parts

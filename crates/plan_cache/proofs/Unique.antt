@@ -58,12 +58,12 @@ take_more [] (suc i) (suc b) l = ([], refl)
 take_more (x ∷ xs) (suc i) zero l = absurd (let none : ⊥ = omega arith in none)
 take_more (x ∷ xs) (suc i) (suc b) l = let r = take_more xs i b (omega arith) in (r.0, ap (λ v. x ∷ v) r.1)
 
-some_key : (keys : List PlanKey) (i : ℕ) → i < length keys → (k : PlanKey) × (slice_get keys i ≡ Some k)
+pub some_key : (keys : List PlanKey) (i : ℕ) → i < length keys → (k : PlanKey) × (slice_get keys i ≡ Some k)
 some_key [] i l = absurd (let none : ⊥ = omega arith in none)
 some_key (k ∷ keys) zero l = (k, refl)
 some_key (k ∷ keys) (suc i) l = some_key keys i (omega arith)
 
-within : (xs : List PlanNode) (i : ℕ) (x : PlanNode) → slice_get xs i ≡ Some x → i < length xs
+pub within : (xs : List PlanNode) (i : ℕ) (x : PlanNode) → slice_get xs i ≡ Some x → i < length xs
 within [] i x e = cc
 within (y ∷ xs) zero x e = omega arith
 within (y ∷ xs) (suc i) x e = let r = within xs i x e in omega arith

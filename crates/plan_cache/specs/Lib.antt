@@ -5,3 +5,5 @@ pub mod Stored
 pub mod Footprints
 pub mod KeptRows
 pub mod Shelves
+pub mod Refilled
+pub mod Former

@@ -1,5 +1,5 @@
 -- For the crate's own functions: the places of a shelf.
-use Rattle.std.specs.Prelude.{◌≡◌, ℕ, zero, suc, ◌≤◌, ◌⊎◌, Bool, true, false, List, [], ◌∷◌, length, Option, Some, None}
+use Rattle.std.specs.Prelude.{◌≡◌, ℕ, zero, suc, ◌+◌, ◌≤◌, ◌⊎◌, Bool, true, false, List, [], ◌∷◌, length, Option, Some, None}
 use Rattle.itpg_base.specs.declared.touch.Touch.{Touch}
 use Rattle.label_scope.specs.declared.footprint.Footprint.{Footprint}
 use Rattle.label_scope.specs.Touching.{Meets}
@@ -28,10 +28,20 @@ ForgetsFirst (suc n) touch (f ∷ feet) [] new = ⊥
 ForgetsFirst (suc n) touch (f ∷ feet) (o ∷ old) [] = ⊥
 ForgetsFirst (suc n) touch (f ∷ feet) (o ∷ old) (k ∷ new) = ForgetsAt touch f o k × ForgetsFirst n touch feet old new
 
--- as many relations as footprints, few enough rows, and these are counted
-pub record IsShelf (feet : List Footprint) (kept : List Kept) (rows : ℕ) : Type 0 where
+-- how many relations are kept at one place, and at all of them
+abbrev pub relations_in : Kept → ℕ
+relations_in None = 0
+relations_in (Some rows) = 1
+
+abbrev pub relations_kept : List Kept → ℕ
+relations_kept [] = 0
+relations_kept (k ∷ rest) = relations_in k + relations_kept rest
+
+-- a place for each footprint, few enough rows; these and the relations are counted
+pub record IsShelf (feet : List Footprint) (kept : List Kept) (rows count : ℕ) : Type 0 where
   pub each : length kept ≡ length feet
   pub counted : rows ≡ rows_kept kept
+  pub many : count ≡ relations_kept kept
   pub few : rows ≤ MAX_KEPT_ROWS
 
 -- at the first places, so many, the touch is forgotten, and the rest is as it was

@@ -1,5 +1,5 @@
-//! Laws of the table. Each is the contract of a function that does nothing.
-ghost use Rattle.std.specs.Prelude.{◌≡◌, ◌<◌, ◌↔◌, ℕ, List, ◌∷◌, [], Some, slice_get};
+//! Laws of the table. Each is the contract of a function that changes nothing.
+ghost use Rattle.std.specs.Prelude.{◌≡◌, ◌<◌, ◌↔◌, ℕ, List, ◌∷◌, [], Some, length, slice_get};
 ghost use Rattle.label_scope.specs.Members.{Member};
 ghost use Rattle.itpg_base.specs.declared.touch.Touch.{Touch};
 ghost use Rattle.label_scope.specs.Touching.{Meets};
@@ -9,10 +9,20 @@ ghost use Rattle.plan_cache.specs.Footprints.{footprint_of, footprints_of};
 ghost use Rattle.plan_cache.specs.KeptRows.{Forgets};
 ghost use Rattle.plan_cache.specs.Growing.{Grows, IsChild, AddsUnder};
 
+use crate::plans::Plans;
+
 /// A table in which nodes are shared leads from each node to lower numbers alone.
 pub fn law_of_lower_children()
     ensures { (nodes : List PlanNode) (x y : ℕ) → AreShared nodes → IsChild nodes x y → y < x }
 {}
+
+/// The nodes of a table are shared, and there is a place for what is kept at each.
+pub fn law_of_shared_nodes(plans: &Plans)
+    ensures shared { AreShared plans.now.nodes }
+    ensures each { length plans.now.kept ≡ length plans.now.nodes }
+{
+    let _count = plans.len();
+}
 
 /// What `intern` ensures leaves a table as it was if the path has a node in it, and gives that node. So a query that is interned
 /// twice has one number, and the second time adds nothing.

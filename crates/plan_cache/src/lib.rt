@@ -12,9 +12,11 @@ mod laws;
 mod nodes;
 mod operations;
 mod plans;
+mod refilling;
+mod renumbering;
 mod shelf;
 
-pub use laws::{law_of_forgetting, law_of_known_paths, law_of_lower_children};
+pub use laws::{law_of_forgetting, law_of_known_paths, law_of_lower_children, law_of_shared_nodes};
 pub use nodes::MAX_NODES;
 pub use operations::{PlanNo, PlanOp, PlanTest};
 pub use plans::Plans;

@@ -1,9 +1,10 @@
 //! The nodes, each once, in order of first sight.
-ghost use Rattle.std.specs.Prelude.{◌≡◌, ◌<◌, ◌≤◌, ℕ, [], Some, length, option_map, take, slice_get, IfOk, OnErr, IsSomeAnd};
+ghost use Rattle.std.specs.Prelude.{◌≡◌, ◌<◌, ◌≤◌, ℕ, [], Some, length, option_map, take, slice_get, IfOk, IfSome, IsNone, OnErr, IsSomeAnd};
 ghost use Rattle.plan_cache.specs.Operations.{op_term};
 ghost use Rattle.plan_cache.specs.Nodes.{PlanNode, IsOperation, IsWalkScope, AreShared};
 ghost use Rattle.plan_cache.specs.Stored.{node_of, MayFollow};
 ghost use Rattle.plan_cache.specs.Growing.{Grows};
+ghost use Rattle.plan_cache.specs.Former.{IsMadeBy};
 
 use crate::key::PlanKey;
 use crate::operations::{PlanNo, PlanOp};
@@ -80,6 +81,17 @@ impl Nodes {
         ensures { IsSomeAnd (slice_get self.now no.0) (λ n. IsWalkScope n.member (option_map (λ r. r.now) result)) }
     {
         self.keys[no.0 as usize].walk.as_ref()
+    }
+
+    /// The node of this key; `None` exactly if there is none.
+    pub(crate) fn find(&self, key: &PlanKey) -> Option<PlanNo>
+        ensures some { IfSome result (λ no. IsSomeAnd (slice_get self.now no.0) (λ n. IsMadeBy self.now n key.now)) }
+        ensures none { IsNone result → (k : ℕ) (n : PlanNode) → slice_get self.now k ≡ Some n → ¬ IsMadeBy self.now n key.now }
+    {
+        match self.keys.get_index_of(key) {
+            Some(index) => Some(PlanNo(index as u32)),
+            None => None,
+        }
     }
 
     pub(crate) fn alloc(&self) -> Global {

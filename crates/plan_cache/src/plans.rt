@@ -37,8 +37,8 @@ use std::rc::Rc;
 /// list of the nodes, and for each the rows that are kept.
 #[derive(Drop)]
 pub struct Plans {
-    nodes: Nodes,
-    shelf: Shelf,
+    pub(crate) nodes: Nodes,
+    pub(crate) shelf: Shelf,
 }
 
 impl Model for Plans {

@@ -2,7 +2,7 @@
 ghost use Rattle.std.specs.Prelude.{◌≡◌, ◌+◌, ◌<◌, ◌≤◌, ◌↔◌, [], ◌∷◌, ◌++◌, Some, None, option_map};
 ghost use Rattle.std.specs.Prelude.{length, take, slice_get, slice_set, IfErr, OnOk, OnErr, IsOk, IsSomeAnd};
 ghost use Rattle.plan_cache.specs.KeptRows.{rows_in, rows_kept, AddsFree, Forgets};
-ghost use Rattle.plan_cache.specs.Shelves.{LosesAt};
+ghost use Rattle.plan_cache.specs.Shelves.{LosesAt, relations_in};
 
 use itpg_base::Touch;
 use label_scope::{Footprint, meets};
@@ -26,6 +26,7 @@ pub(crate) struct Shelf {
     feet: Vec<Footprint>,
     kept: Vec<Option<Rc<Relation>>>,
     rows: u64,
+    count: usize,
 }
 
 impl Model for Shelf {
@@ -36,7 +37,7 @@ impl Model for Shelf {
 
     ghost view = { λ s. record { feet = s.feet.items; kept = map (option_map (λ r. r.value)) s.kept.items } };
 
-    ghost invariant = { λ s. IsShelf s.feet.items (map (option_map (λ r. r.value)) s.kept.items) s.rows };
+    ghost invariant = { λ s. IsShelf s.feet.items (map (option_map (λ r. r.value)) s.kept.items) s.rows s.count };
 }
 
 impl Shelf {
@@ -49,6 +50,7 @@ impl Shelf {
             feet: Vec::new(alloc),
             kept: Vec::new(alloc),
             rows: 0,
+            count: 0,
         }
     }
 
@@ -77,6 +79,13 @@ impl Shelf {
         self.rows
     }
 
+    /// That no more rows are kept, as the contract of a function that does nothing.
+    pub(crate) fn law_of_room(&self)
+        ensures { rows_kept self.now.kept ≤ MAX_KEPT_ROWS }
+    {
+        let _ = &self.rows;
+    }
+
     /// What is kept at a place; `None` exactly if nothing is.
     pub(crate) fn kept(&self, place: usize) -> Option<&Rc<Relation>>
         requires { place < length self.now.kept }
@@ -98,12 +107,15 @@ impl Shelf {
         ensures same { OnErr result (self.new ≡ self.old) }
         ensures back { IfErr result (λ back. back ≡ relation) }
     {
-        let count = relation.row_count();
-        if count > MAX_KEPT_ROWS - self.rows {
+        // At a place at most one relation is kept.
+        let _places = self.kept.len();
+        let rows = relation.row_count();
+        if rows > MAX_KEPT_ROWS - self.rows {
             return Err(relation);
         }
         self.kept[place] = Some(relation);
-        self.rows += count;
+        self.rows += rows;
+        self.count += 1;
         Ok(())
     }
 
@@ -112,6 +124,9 @@ impl Shelf {
         ensures feet { self.new.feet ≡ self.old.feet }
         ensures kept { Forgets touch.now self.old.feet self.old.kept self.new.kept }
     {
+        if self.count == 0 {
+            return;
+        }
         for place in 0..self.len() {
             if self.loses(place, touch) {
                 self.clear(place);
@@ -159,8 +174,20 @@ impl Shelf {
         ensures feet { self.new.feet ≡ self.old.feet }
         ensures kept { self.new.kept ≡ slice_set self.old.kept place None }
     {
-        self.rows -= rows_of(&self.kept[place]);
-        self.kept[place] = None;
+        let _cleared = self.take_out(place);
+    }
+
+    /// Takes away what is kept at the place, and gives it; `None` exactly if nothing is.
+    pub(crate) fn take_out(&mut self, place: usize) -> Option<Rc<Relation>>
+        requires { place < length self.old.kept }
+        ensures taken { Some (option_map (λ r. r.value) result) ≡ slice_get self.old.kept place }
+        ensures feet { self.new.feet ≡ self.old.feet }
+        ensures kept { self.new.kept ≡ slice_set self.old.kept place None }
+    {
+        let taken = self.kept[place].take();
+        self.rows -= rows_of(&taken);
+        self.count -= count_of(&taken);
+        taken
     }
 }
 
@@ -170,6 +197,16 @@ fn rows_of(kept: &Option<Rc<Relation>>) -> u64
 {
     match kept {
         Some(relation) => relation.row_count(),
+        None => 0,
+    }
+}
+
+// How many relations are kept there.
+fn count_of(kept: &Option<Rc<Relation>>) -> usize
+    ensures { result ≡ relations_in (option_map (λ r. r.value) kept.now) }
+{
+    match kept {
+        Some(_) => 1,
         None => 0,
     }
 }
