@@ -25,6 +25,8 @@ BOUND = 10**12
 ALL = None  # the scope of all objects; another scope is a set of labels
 
 sys.setrecursionlimit(20_000)
+if hasattr(sys, "set_int_max_str_digits"):
+    sys.set_int_max_str_digits(0)  # a line may have a number of 65,000 digits
 
 
 class Fault(Exception):
@@ -286,6 +288,7 @@ def value_runs(values):
 class Graph:
     def __init__(self):
         self.name, self.horizon, self.objects = None, None, []
+        self.numbers = {}  # of the name of each standing object its number
 
     def moments(self):
         low, high = self.horizon
@@ -297,7 +300,11 @@ class Graph:
         return [o for o, it in enumerate(self.objects) if it.stands]
 
     def find(self, name):
-        return next((o for o in self.standing() if self.objects[o].name == name), None)
+        return self.numbers.get(name)
+
+    def add(self, name, *rest):
+        self.numbers[name] = len(self.objects)
+        self.objects.append(Object(name, *rest))
 
     def known(self, name):
         number = self.find(name)
@@ -320,10 +327,15 @@ class Graph:
         refuse("backwards", low > high)
         self.name, self.horizon = name, (low, high)
 
+    def extend(self, low, high):
+        refuse("backwards", low > high)
+        refuse("narrow", low > self.horizon[0] or high < self.horizon[1])
+        self.horizon = low, high
+
     def node(self, name, label):
         refuse("taken", self.find(name) is not None)
         refuse("full", len(self.objects) >= 200_000)
-        self.objects.append(Object(name, label))
+        self.add(name, label)
 
     def edge(self, name, label, source, target):
         refuse("taken", self.find(name) is not None)
@@ -331,7 +343,7 @@ class Graph:
         refuse("unknown", None in ends)
         refuse("kind", any(self.objects[end].ends for end in ends))
         refuse("full", len(self.objects) >= 200_000)
-        self.objects.append(Object(name, label, ends))
+        self.add(name, label, ends)
 
     def live(self, name, low, high):
         it = self.known(name)
@@ -370,6 +382,7 @@ class Graph:
         it = self.known(name)
         refuse("incident", not it.ends and bool(self.edges_at(it)))
         it.stands, it.lives, it.values = False, set(), {}
+        del self.numbers[name]
 
 
 # What a path means: for each point the points that it leads to, as a number with a bit for each
@@ -382,7 +395,7 @@ class Meaning:
         self.points = {self.bit(o, t): (o, t) for o in self.numbers for t in self.moments}
 
     def bit(self, o, t):
-        """The bit of an object at a moment, which stays the same whatever is declared and dropped."""
+        """The bit of an object at a moment, which stays the same until the horizon grows."""
         return o * self.width + t - self.moments[0]
 
     def point(self, x):
@@ -668,7 +681,7 @@ def members(path, a, b):
 # Lines and replies
 
 FORMS = {
-    "graph": "nii", "node": "nn", "edge": "nnnn", "live": "nii", "gone": "nii", "set": "nnqii", "unset": "nnii", "drop": "n",
+    "graph": "nii", "extend": "ii", "node": "nn", "edge": "nnnn", "live": "nii", "gone": "nii", "set": "nnqii", "unset": "nnii", "drop": "n",
     "ask": None, "watch": "n", "show": "n", "unwatch": "n", "tick": "",
 }
 KINDS = {"word": "n", "number": "i", "quoted": "q"}
@@ -717,6 +730,8 @@ class Machine:
             return []
         if command == "tick":
             return [text for watch in self.watches for text in self.tick(watch)]
+        if command == "extend":
+            return self.extend(*values)
         getattr(self.graph, command)(*values)
         return []
 
@@ -739,6 +754,16 @@ class Machine:
         refuse("taken", any(watch.name == name for watch in self.watches))
         refuse("full", len(self.watches) >= 32)
         self.watches.append(Watch(name, query))
+        return []
+
+    def extend(self, low, high):
+        """Widens the horizon. The bits of the points change, so the bases get the new ones."""
+        before = Meaning(self.graph) if self.watches else None
+        self.graph.extend(low, high)
+        after = Meaning(self.graph) if self.watches else None
+        for watch in self.watches:
+            moved = {x: after.bit(*before.point(x)) for ends in ([*watch.base], *map(bits, watch.base.values())) for x in ends}
+            watch.base = {moved[x]: sum(1 << moved[y] for y in bits(ends)) for x, ends in watch.base.items()}
         return []
 
     def answer(self, number, query):
@@ -819,6 +844,18 @@ def stale_copies(folder):
     return [path.name for path in examples if path.read_bytes() != (folder / path.name).read_bytes()]
 
 
+def script_of(path):
+    """The script that the file has, or the one that its rows make (`src/made.rt` says how)."""
+    if path.suffix != ".made":
+        return path.read_bytes()
+    made = []
+    for row in path.read_text().splitlines():
+        kind, count, first, step, text = row.split(" ", 4)
+        numbers = (int(first) + i * int(step) for i in range(int(count)))
+        made += [text.replace("%", str(number)) + "\n" * (kind == "lines") for number in numbers]
+    return "".join(made).encode()
+
+
 def number_in(path, otherwise):
     return int(path.read_text()) if path.exists() else otherwise
 
@@ -844,7 +881,7 @@ def run_with(path):
         return b"", 2
     limit, trial = options
     if trial is None:
-        return run(path.read_bytes(), number_in(path.with_suffix(".limit"), limit))
+        return run(script_of(path), number_in(path.with_suffix(".limit"), limit))
     if limit == 100_000:
         return trial_model.summary(trial), 0
     raise TooLong
@@ -852,7 +889,7 @@ def run_with(path):
 
 def try_all(folder):
     same = differing = untried = 0
-    for path in sorted(folder.glob("*.itpg")):
+    for path in sorted([*folder.glob("*.itpg"), *folder.glob("*.made")]):
         wanted = path.with_suffix(".out").read_bytes(), number_in(path.with_suffix(".status"), 0)
         try:
             got = run_with(path)
@@ -875,7 +912,7 @@ def try_all(folder):
 def main():
     if len(sys.argv) == 1:
         return try_all(pathlib.Path(__file__).resolve().parent)
-    output, status = run(pathlib.Path(sys.argv[1]).read_bytes(), int(sys.argv[2]) if len(sys.argv) > 2 else 100_000)
+    output, status = run(script_of(pathlib.Path(sys.argv[1])), int(sys.argv[2]) if len(sys.argv) > 2 else 100_000)
     sys.stdout.buffer.write(output)
     return status
 

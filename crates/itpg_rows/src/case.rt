@@ -1,4 +1,5 @@
 //! One script with what it must write.
+use crate::made::make;
 use crate::runs::{sink_for, step_lines};
 use anyhow::{Context, Result, bail};
 use itpg_base::{Limits, MemSource};
@@ -48,7 +49,7 @@ impl fmt::Display for Difference {
 impl Case {
     /// Reads the files of this name.
     pub fn read(rt: &HostRuntime, folder: &str, name: &str) -> Result<Case> {
-        let script = fs::read(rt, &format!(in rt.alloc(); "{folder}/{name}.itpg")?)?;
+        let script = read_script(rt, folder, name)?;
         let output = fs::read(rt, &format!(in rt.alloc(); "{folder}/{name}.out")?)?;
         let words = read_words(rt, &format!(in rt.alloc(); "{folder}/{name}.words")?)?;
         let limits = read_limits(rt, &format!(in rt.alloc(); "{folder}/{name}.limit")?)?;
@@ -105,6 +106,14 @@ fn way_of(words: Vec<String>, limits: Option<Limits>) -> Way {
     match limits {
         Some(limits) => Way::Stepped(limits),
         None => Way::Served(words),
+    }
+}
+
+// The script that the file has, or the one that the rows of a file make.
+fn read_script(rt: &HostRuntime, folder: &str, name: &str) -> Result<Vec<u8>> {
+    match read_optional(rt, &format!(in rt.alloc(); "{folder}/{name}.made")?)? {
+        Some(rows) => make(rt.alloc(), rows.as_str()),
+        None => Ok(fs::read(rt, &format!(in rt.alloc(); "{folder}/{name}.itpg")?)?),
     }
 }
 

@@ -1,13 +1,15 @@
 //! Runs scripts and prints each one whose output or status differs from what it must be.
 //!
-//! `NAME.itpg` is a script and `NAME.out` the bytes that it must write; `NAME.status` is the status as a number, 0 where it is
-//! missing. It goes through `serve` with the words of `NAME.words`, one a line; where there is a `NAME.limit`, it goes line by
+//! `NAME.itpg` is a script, or `NAME.made` makes it, and `NAME.out` has the bytes that it must write; `NAME.status` is the status as a
+//! number, 0 where it is missing. It goes through `serve` with the words of `NAME.words`, one a line; where there is a `NAME.limit`, it goes line by
 //! line through a session with this limit of rows. The folder is the first word of this program, or else the one that it is
-//! run in. Two scripts of comments, as long as a script may be and longer, are made here.
+//! run in. A script as long as it may be and one that is longer by a byte are made here. Then come the runs over devices that fail.
 #![tactic(auto)]
 
 mod case;
+mod devices;
 mod longest;
+mod made;
 mod runs;
 
 use anyhow::Result;
@@ -25,16 +27,16 @@ fn main(rt: HostRuntime) -> Result<()> {
             differing = differing.saturating_add(1);
         }
     }
-    for comments in &longest::SCRIPTS {
-        if let Some(difference) = comments.difference(rt.alloc())? {
-            let count = comments.count;
-            println!(rt; "{count} long comments: {difference}")?;
+    for pieces in &longest::SCRIPTS {
+        if let Some(difference) = pieces.difference(rt.alloc())? {
+            let times = pieces.times;
+            println!(rt; "{times} long pieces: {difference}")?;
             differing = differing.saturating_add(1);
         }
     }
     let count = names.len().saturating_add(longest::SCRIPTS.len());
     println!(rt; "{count} scripts, {differing} differ")?;
-    Ok(())
+    devices::compare_rows(&rt, folder.as_str())
 }
 
 /// The folder of the scripts.
@@ -50,10 +52,18 @@ fn script_names(rt: &HostRuntime, folder: &str) -> Result<Vec<String>> {
     let mut names = Vec::new(rt.alloc());
     for entry in fs::read_dir(rt, folder)? {
         let entry = entry?;
-        if let Some(name) = entry.file_name().strip_suffix(".itpg") {
+        if let Some(name) = script_name(entry.file_name()) {
             names.push(String::from_str(rt.alloc(), name)?)?;
         }
     }
     names.sort()?;
     Ok(names)
+}
+
+/// The name of the script that a file has or makes, if it does.
+fn script_name(file: &str) -> Option<&str> {
+    match file.strip_suffix(".itpg") {
+        Some(name) => Some(name),
+        None => file.strip_suffix(".made"),
+    }
 }

@@ -1,5 +1,5 @@
 //! Runs over devices in memory.
-use itpg_base::{Limits, MemSink};
+use itpg_base::{Limits, MemSink, Sink};
 use itpg_run::Status;
 use itpg_session::{Seen, Session, StepFault};
 use std::alloc::{AllocError, Global};
@@ -11,6 +11,39 @@ const SPARE_ROOM: usize = 65_536;
 pub fn sink_for(alloc: Global, length: usize) -> Result<MemSink, AllocError> {
     let room = length.saturating_add(SPARE_ROOM);
     Ok(MemSink::new(Vec::new(alloc), 0, vec![in alloc; 0; room]?))
+}
+
+/// A sink with as much room that takes so many bytes of this call's piece and fails.
+pub fn failing_sink(
+    alloc: Global,
+    length: usize,
+    call: u64,
+    take: usize,
+) -> Result<MemSink, AllocError> {
+    let room = length.saturating_add(SPARE_ROOM);
+    let fail = vec![in alloc; call]?;
+    Ok(MemSink::new(fail, take, vec![in alloc; 0; room]?))
+}
+
+/// Hands a line to a session over a sink that may fail, and if it does, once more over one that doesn't. Says whether it did.
+pub fn step_again(
+    session: &mut Session,
+    number: u64,
+    line: &[u8],
+    failing: &mut MemSink,
+    sink: &mut MemSink,
+) -> Result<bool, StepFault> {
+    match session.step(number, line, failing) {
+        Ok(_) => {
+            sink.write(failing.held())?;
+            Ok(false)
+        }
+        Err(StepFault::Write) => {
+            session.step(number, line, sink)?;
+            Ok(true)
+        }
+        Err(StepFault::Memory) => Err(StepFault::Memory),
+    }
 }
 
 /// Hands the lines of a script to a session, and says how that ended, as `serve` would.

@@ -6,6 +6,8 @@ mod of_band_normal;
 #[cfg(test)]
 mod of_itpg_run;
 #[cfg(test)]
+mod of_itpg_session;
+#[cfg(test)]
 mod of_label_scope;
 #[cfg(test)]
 mod of_plan_cache;
