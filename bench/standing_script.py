@@ -1,11 +1,14 @@
 #!/usr/bin/env python3
 """Writes the graph of persons and rooms of `questions_script.py`, some watches over it, and perhaps ticks.
 
-    bench/standing_script.py PERSONS WATCHES TICKS script|output
+    bench/standing_script.py PERSONS WATCHES TICKS script|output [ROUNDS]
 
 writes the script, or what it must write. The watches have the two questions of `questions_script.py` in turn, so half of the
 answers are of two times and half of one. At the first tick all of them is gained. Before the second a meeting and a visit are
 reported late, so that each answer changes at some moments. Every line is accepted.
+
+With ROUNDS each watch asks for moments below a bound of its own, so no two have the same question. Behind the ticks come so many
+rounds: one edge that is reported late, a meeting or a visit by turns, and a tick.
 
 What was gained and lost is worked out by spans of moments, without itpg.
 """
@@ -13,7 +16,7 @@ import copy
 import sys
 
 sys.dont_write_bytecode = True
-from questions_script import ANSWERS, Contacts, QUESTIONS, row_texts  # noqa: E402
+from questions_script import ANSWERS, Contacts, LAST, QUESTIONS, row_texts  # noqa: E402
 
 
 def late_edges(graph):
@@ -26,21 +29,42 @@ def edge_lines(number, label, source, target, span):
     return [f"edge e{number} {label} n{source} n{target}", f"live e{number} {span[0]} {span[1]}"]
 
 
-def questions_of(watches):
-    """The name of each watch, and its question."""
+def round_edge(graph, number):
+    """The edge that is reported in a round."""
+    span = (100 + number, 199 + number)
+    if number % 2 == 0:
+        return "meets", number % graph.persons, (number + 1) % graph.persons, span
+    positive = [value for value in graph.values if value[1] == "test"]
+    person, _, _, span = positive[number % len(positive)]
+    return "visits", person, graph.persons + number % (graph.objects - graph.persons), span
+
+
+def questions_of(watches, bounded):
+    """The name of each watch, its question, and the moment below which it asks, if that is bounded."""
     names = list(QUESTIONS)
-    return [(f"w{i}", names[i % len(names)]) for i in range(watches)]
+    return [(f"w{i}", names[i % len(names)], LAST * (i + 1) // watches if bounded else None) for i in range(watches)]
 
 
-def lines(graph, watches, ticks):
+def text_of(question, bound):
+    text = QUESTIONS[question].removeprefix("ask ")
+    return text if bound is None else text.replace("}", f", time < {bound}}}")
+
+
+def edges_before(graph, ticks, rounds):
+    """For each tick the edges that are reported before it."""
+    late = [[], late_edges(graph)][:ticks]
+    return late + [[round_edge(graph, number)] for number in range(rounds)]
+
+
+def lines(graph, watches, ticks, rounds):
     yield from graph.lines()
-    for name, question in questions_of(watches):
-        yield f"watch {name} {QUESTIONS[question].removeprefix('ask ')}"
-    if ticks > 0:
-        yield "tick"
-    if ticks > 1:
-        for number, edge in enumerate(late_edges(graph), start=len(graph.edges)):
+    for name, question, bound in questions_of(watches, rounds > 0):
+        yield f"watch {name} {text_of(question, bound)}"
+    number = len(graph.edges)
+    for edges in edges_before(graph, ticks, rounds):
+        for edge in edges:
             yield from edge_lines(number, *edge)
+            number += 1
         yield "tick"
 
 
@@ -61,32 +85,34 @@ def rest(spans, others):
             yield first, last
 
 
-def ticked(graph, before):
-    """For each question the rows gained and the rows lost against the answers before, and the answers now."""
-    now = {question: answer(graph) for question, answer in ANSWERS.items()}
-    changes = {question: (list(row_texts(less(now[question], before[question]))),
-                          list(row_texts(less(before[question], now[question])))) for question in now}
-    return changes, now
+def clipped(answer, bound):
+    """The answer at the moments below the bound."""
+    if bound is None:
+        return answer
+    kept = {objects: [(first, min(last, bound - 1)) for first, last in spans if first < bound] for objects, spans in answer.items()}
+    return {objects: spans for objects, spans in kept.items() if spans}
 
 
-def output(graph, watches, ticks):
+def output(graph, watches, ticks, rounds):
     base = {question: {} for question in ANSWERS}
-    for tick in range(ticks):
-        if tick == 1:
-            graph = copy.copy(graph)
-            graph.edges = graph.edges + late_edges(graph)
-        changes, base = ticked(graph, base)
-        for name, question in questions_of(watches):
-            gained, lost = changes[question]
+    graph = copy.copy(graph)
+    for edges in edges_before(graph, ticks, rounds):
+        graph.edges = graph.edges + edges
+        now = {question: answer(graph) for question, answer in ANSWERS.items()}
+        for name, question, bound in questions_of(watches, rounds > 0):
+            gained = list(row_texts(clipped(less(now[question], base[question]), bound)))
+            lost = list(row_texts(clipped(less(base[question], now[question]), bound)))
             yield f"tick {name} gained {len(gained)} lost {len(lost)}"
             yield from ("+ " + row for row in gained)
             yield from ("- " + row for row in lost)
+        base = now
 
 
 def main():
     persons, watches, ticks = map(int, sys.argv[1:4])
+    rounds = int(sys.argv[5]) if len(sys.argv) > 5 else 0
     written = {"script": lines, "output": output}[sys.argv[4]]
-    sys.stdout.writelines(line + "\n" for line in written(Contacts(persons), watches, ticks))
+    sys.stdout.writelines(line + "\n" for line in written(Contacts(persons), watches, ticks, rounds))
 
 
 if __name__ == "__main__":

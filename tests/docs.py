@@ -32,7 +32,7 @@ import subprocess
 import sys
 
 TOP = pathlib.Path(__file__).resolve().parent.parent
-COMMANDS = {"graph", "node", "edge", "live", "gone", "set", "unset", "drop", "ask", "watch", "show", "unwatch", "tick"}
+COMMANDS = {"graph", "extend", "node", "edge", "live", "gone", "set", "unset", "drop", "ask", "watch", "show", "unwatch", "tick"}
 REPLY = re.compile(r"(line \d+ (rows \d+|wide|bad \w+|refused \w+)|tick (?!NAME\b)\w+ (gained \d+ lost \d+|wide)|ask \d (rows|wide)\b.*)$")
 CODE = re.compile(r"(bad|refused) [a-z]+$")
 CODES_IN_A_ROW = re.compile(r"`[^`]+`(?:, `[^`]+`)*")

@@ -19,7 +19,7 @@ import re
 import subprocess
 import sys
 
-LAST, SMALL_LIMITS = 7, [3, 6, 12, 20, 40]  # the horizon is 0..LAST
+LAST, SMALL_LIMITS = 7, [3, 6, 12, 20, 40]  # the horizon is 0..LAST at first
 NAMES = {"node": [f"n{i}" for i in range(6)], "edge": [f"e{i}" for i in range(5)], "watch": [f"w{i}" for i in range(6)]}
 
 # What a word in angles stands for. The forms after the bar may hold one another, down to a depth. Some labels are of nodes and edges.
@@ -34,7 +34,9 @@ FORMS = {
     "filter": ["", "", ":<node_label>", ":<node_label> {<test>}", " {<test>}"],
     "query": ["MATCH (x<filter>)", *["MATCH (x<filter>)-/<path>/-(y<filter>)"] * 3, "MATCH (x<filter>)-/<path>/-(<filter>)",
               "MATCH (<filter>)-/<path>/-(y<filter>)"],
-    "span": [f"0 {LAST}"] * 12 + [f"{low} {high}" for low in range(LAST + 1) for high in range(low, LAST + 1, 2)],
+    "span": [f"0 {LAST}"] * 12 + [f"{low} {high}" for low in range(LAST + 1) for high in range(low, LAST + 1, 2)]
+            + [f"-1 {LAST}", f"{LAST} {LAST + 2}"],
+    "early": ["0", "0", "-1", "-2"], "late": [str(LAST), str(LAST + 1), str(LAST + 2)],
     "moment": [str(t) for t in range(LAST + 1)], **NAMES,
 }
 # What follows the name of an edit of an object.
@@ -70,11 +72,13 @@ class Draw:
         return name
 
     def edits(self, *kinds):
-        kind = self.random.choice(kinds or ["node", "edge"] * 2 + ["live"] * 5 + ["gone"] * 5 + ["set"] * 6 + ["unset", "drop", "drop"])
+        kind = self.random.choice(kinds or ["node", "edge"] * 2 + ["live"] * 5 + ["gone"] * 5 + ["set"] * 6 + ["unset", "drop", "drop", "extend"])
         if kind in ("node", "edge"):
             ends = f" {self.stands('node')} {self.stands('node')}" * (kind == "edge")
             name = self.declared(kind)
             return [self.text(f"{kind} {name} <{kind}_label>{ends}"), self.text(f"live {name} <span>")]
+        if kind == "extend":
+            return [self.text("extend <early> <late>")]
         other = self.random.choice(["node", "edge", "edge"])
         name = self.dropped(other) if kind == "drop" else self.stands(other)
         return [self.text(f"{kind} {name}{MORE[kind]}")]
