@@ -1,13 +1,13 @@
 -- The lists of objects by label after each change.
-use Rattle.std.proofs.Common.{◌≡◌, ◌≢◌, ℕ, zero, suc, ◌<◌, List, [], ◌∷◌, ◌++◌, inl, inr, length, Option, Some, false, refl, sym, ap, ◌∙◌, subst, arith, slice_index_or}
+use Rattle.std.proofs.Common.{◌≡◌, ◌≢◌, ℕ, List, [], ◌∷◌, ◌++◌, inl, inr, length, Option, Some, false, sym, ap, ◌∙◌, subst, arith}
 use Rattle.std.specs.Prelude.{slice_get, slice_set, IsTrue, Contains}
 use Rattle.std.proofs.lemmas.Option.{slice_get_within}
-use Rattle.itpg_base.specs.Words.{Word, IsLabels}
+use Rattle.itpg_base.specs.Words.{Word}
 use Rattle.itpg_base.specs.Spans.{Span}
 use Rattle.itpg_base.specs.Graphs.{Graph, Object, Property}
 use Rattle.itpg_base.specs.declared.object_number.ObjNo.{ObjNo}
 use Rattle.itpg_base.proofs.Objects.{there, here, get_last, same_some}
-use Rattle.itpg_base.proofs.Searches.{same_word}
+use Rattle.itpg_base.proofs.Searches.{contains}
 use Rattle.itpg_graph.specs.Changes.{with_object, without, dropped}
 use Rattle.itpg_graph.specs.Edges.{HasNumber, AreNumbers}
 use Rattle.itpg_graph.specs.Links.{LosesIfRising}
@@ -22,54 +22,39 @@ use Rattle.itpg_graph.proofs.Linked.{numbers_alike, no_numbers}
 use Rattle.itpg_graph.proofs.Rising.{pushed_has, has_pushed, pushed_rising}
 use Rattle.itpg_graph.proofs.Views.{written, dropped_view}
 
--- a set of labels has one
-pub only_one : (labels : List Word) (first : Word) → IsLabels labels → slice_get labels 0 ≡ Some first → labels ≡ first ∷ []
-only_one [] first is e = let never : ⊥ = cc in absurd never
-only_one (a ∷ []) first is e = let h : Some a ≡ Some first = e in let same : a ≡ first = cc in ap (λ l. l ∷ []) same
-only_one (a ∷ b ∷ rest) first is e = let few = is.few in absurd (omega arith)
-
-one_has : (own label : Word) → own ≡ label → Contains (own ∷ []) label
-one_has own label e = (0, omega arith, e)
-
-one_is : (own label : Word) → Contains (own ∷ []) label → own ≡ label
-one_is own label h = at h.0 h.1 h.2
-  where
-    at : (k : ℕ) → k < 1 → slice_index_or (own ∷ []) k label ≡ label → own ≡ label
-    at zero lt e = e
-    at (suc k) lt e = absurd (omega arith)
-
 -- a graph without an object
 pub none_held : (g : Graph) (lists : Word → List ObjNo) → g.objects ≡ [] → ((label : Word) → lists label ≡ []) → AreHeld g lists
 none_held g lists none empty = record { each = λ label. subst (AreNumbers (StandsWith g label)) (sym (empty label)) (no_numbers (StandsWith g label) (λ k h. let t = there g.objects k _ h in let lt = slice_get_within g.objects k t.0 t.1 in let zero_long = ap length none in omega arith)) }
 
--- a new object, which has one label
-module _ (g : Graph) (x : Object) (own : Word) (is : x.labels ≡ own ∷ []) (stands : IsTrue x.standing) (number : ObjNo) (next : number.0 ≡ length g.objects) where
+-- a new object
+module _ (g : Graph) (x : Object) (stands : IsTrue x.standing) (number : ObjNo) (next : number.0 ≡ length g.objects) where
   abbrev now : Graph
   now = pushed g x
 
-  own_list : (list : List ObjNo) → AreNumbers (StandsWith g own) list → AreNumbers (StandsWith now own) (list ++ number ∷ [])
-  own_list list numbers = record {
+  own_list : (label : Word) → Contains x.labels label → (list : List ObjNo) → AreNumbers (StandsWith g label) list → AreNumbers (StandsWith now label) (list ++ number ∷ [])
+  own_list label has list numbers = record {
     whole = λ k h. elim (push_is g x _ k h) [
       | inl before ↦ pushed_has list number k (inl (numbers.whole k before))
       | inr new ↦ pushed_has list number k (inr (new.0 ∙ sym next))
     ];
     only = λ k h. elim (has_pushed list number k h) [
       | inl before ↦ push_keeps g x _ k (numbers.only k before)
-      | inr new ↦ subst (λ j. StandsWith now own j) (sym (new ∙ next)) (here (g.objects ++ x ∷ []) (length g.objects) _ x (get_last g.objects x) (stands, subst (λ labels. Contains labels own) (sym is) (one_has own own refl)))
+      | inr new ↦ subst (λ j. StandsWith now label j) (sym (new ∙ next)) (here (g.objects ++ x ∷ []) (length g.objects) _ x (get_last g.objects x) (stands, has))
     ];
     rising = pushed_rising list number numbers.rising (λ k h. let t = there g.objects k _ (numbers.only k h) in let lt = slice_get_within g.objects k t.0 t.1 in omega arith);
   }
 
-  other_list : (label : Word) → label ≢ own → (list : List ObjNo) → AreNumbers (StandsWith g label) list → AreNumbers (StandsWith now label) list
-  other_list label apart list = numbers_alike (StandsWith g label) (StandsWith now label) list
+  other_list : (label : Word) → (Contains x.labels label → ⊥) → (list : List ObjNo) → AreNumbers (StandsWith g label) list → AreNumbers (StandsWith now label) list
+  other_list label out list = numbers_alike (StandsWith g label) (StandsWith now label) list
       (λ k h. push_keeps g x _ k h)
-      (λ k h. elim (push_is g x _ k h) [ inl was ↦ was | inr new ↦ absurd (apart (sym (one_is own label (subst (λ labels. Contains labels label) is new.1.1)))) ])
+      (λ k h. elim (push_is g x _ k h) [ inl was ↦ was | inr new ↦ absurd (out new.1.1) ])
 
-  pub labels_push : (was lists : Word → List ObjNo) → AreHeld g was → lists own ≡ was own ++ number ∷ [] → ((label : Word) → label ≢ own → lists label ≡ was label) → AreHeld now lists
+  pub labels_push : (was lists : Word → List ObjNo) → AreHeld g was → ((label : Word) → Contains x.labels label → lists label ≡ was label ++ number ∷ [])
+      → ((label : Word) → (Contains x.labels label → ⊥) → lists label ≡ was label) → AreHeld now lists
   labels_push was lists held grown others = record {
-    each = λ label. elim (same_word label own) [
-      | inl same ↦ subst (λ l. AreNumbers (StandsWith now l) (lists l)) (sym same) (subst (AreNumbers (StandsWith now own)) (sym grown) (own_list (was own) (held.each own)))
-      | inr apart ↦ subst (AreNumbers (StandsWith now label)) (sym (others label apart)) (other_list label apart (was label) (held.each label))
+    each = λ label. elim (contains x.labels label) [
+      | inl has ↦ subst (AreNumbers (StandsWith now label)) (sym (grown label has)) (own_list label has (was label) (held.each label))
+      | inr out ↦ subst (AreNumbers (StandsWith now label)) (sym (others label out)) (other_list label out (was label) (held.each label))
     ];
   }
 
@@ -89,32 +74,33 @@ pub labels_written : (opened : Option Opened) (objects : List Stored) (o : ℕ) 
     → AreHeld (graph_of opened objects) lists → AreHeld (graph_of opened (slice_set objects o new)) lists
 labels_written opened objects o s new f lists at is shape held = subst (λ g. AreHeld g lists) (sym (written opened objects o s new f at is)) (labels_changed (graph_of opened objects) o f lists shape held)
 
--- an object with one label is dropped, and its number is taken out of the list of that label
-module _ (g : Graph) (o : ℕ) (x : Object) (at : slice_get g.objects o ≡ Some x) (own : Word) (is : x.labels ≡ own ∷ []) where
+-- an object is dropped, and its number is taken out of the list of each of its labels
+module _ (g : Graph) (o : ℕ) (x : Object) (at : slice_get g.objects o ≡ Some x) where
   still_has : (label : Word) (k : ℕ) → StandsWith (without g o) label k → (k ≢ o) × StandsWith g label k
   still_has label k h = elim (changed_is g o dropped _ k h) [ inl old ↦ old | inr new ↦ let s = there g.objects o _ new.1 in let never : ⊥ = cc (s.2.0) in absurd never ]
 
-  own_label : (label : Word) → StandsWith g label o → own ≡ label
-  own_label label h = let s = there g.objects o _ h in one_is own label (subst (λ labels. Contains labels label) (ap (λ y. y.labels) (same_some _ _ _ s.1 at) ∙ is) s.2.1)
+  own_label : (label : Word) → StandsWith g label o → Contains x.labels label
+  own_label label h = let s = there g.objects o _ h in subst (λ labels. Contains labels label) (ap (λ y. y.labels) (same_some _ _ _ s.1 at)) s.2.1
 
-  pub labels_dropped : (was lists : Word → List ObjNo) → AreHeld g was → LosesIfRising (was own) o (lists own) → ((label : Word) → label ≢ own → lists label ≡ was label) → AreHeld (without g o) lists
+  pub labels_dropped : (was lists : Word → List ObjNo) → AreHeld g was → ((label : Word) → Contains x.labels label → LosesIfRising (was label) o (lists label))
+      → ((label : Word) → (Contains x.labels label → ⊥) → lists label ≡ was label) → AreHeld (without g o) lists
   labels_dropped was lists held loses others = record {
-    each = λ label. elim (same_word label own) [
-      | inl same ↦
-          let numbers = held.each own in
-          subst (λ l. AreNumbers (StandsWith (without g o) l) (lists l)) (sym same) (numbers_alike (λ k. HasNumber (was own) k × (k ≢ o)) (StandsWith (without g o) own) (lists own)
+    each = λ label. elim (contains x.labels label) [
+      | inl has ↦
+          let numbers = held.each label in
+          numbers_alike (λ k. HasNumber (was label) k × (k ≢ o)) (StandsWith (without g o) label) (lists label)
           (λ k h. changed_other g o dropped _ k h.1 (numbers.only k h.0))
-          (λ k h. let old = still_has own k h in (numbers.whole k old.1, old.0))
-          (loses numbers.rising))
-      | inr apart ↦ subst (AreNumbers (StandsWith (without g o) label)) (sym (others label apart)) (numbers_alike (StandsWith g label) (StandsWith (without g o) label) (was label)
-          (λ k h. changed_other g o dropped _ k (λ same. apart (sym (own_label label (subst (StandsWith g label) same h)))) h)
+          (λ k h. let old = still_has label k h in (numbers.whole k old.1, old.0))
+          (loses label has numbers.rising)
+      | inr out ↦ subst (AreNumbers (StandsWith (without g o) label)) (sym (others label out)) (numbers_alike (StandsWith g label) (StandsWith (without g o) label) (was label)
+          (λ k h. changed_other g o dropped _ k (λ same. out (own_label label (subst (StandsWith g label) same h))) h)
           (λ k h. (still_has label k h).1)
           (held.each label))
     ];
   }
 
-pub gone_labels : (opened : Option Opened) (objects : List Stored) (o : ℕ) (s : Stored) → slice_get objects o ≡ Some s → (live : List Span) (properties : List Property) → live ≡ [] → properties ≡ [] → (own : Word) → s.labels ≡ own ∷ [] → (was lists : Word → List ObjNo)
-    → AreHeld (graph_of opened objects) was → LosesIfRising (was own) o (lists own) → ((label : Word) → label ≢ own → lists label ≡ was label)
+pub gone_labels : (opened : Option Opened) (objects : List Stored) (o : ℕ) (s : Stored) → slice_get objects o ≡ Some s → (live : List Span) (properties : List Property) → live ≡ [] → properties ≡ [] → (was lists : Word → List ObjNo)
+    → AreHeld (graph_of opened objects) was → ((label : Word) → Contains s.labels label → LosesIfRising (was label) o (lists label)) → ((label : Word) → (Contains s.labels label → ⊥) → lists label ≡ was label)
     → AreHeld (graph_of opened (slice_set objects o (record s { standing = false; live = live; properties = properties }))) lists
-gone_labels opened objects o s at live properties nowhere nothing own is was lists held loses others =
-    subst (λ g. AreHeld g lists) (sym (dropped_view opened objects o s at live properties nowhere nothing)) (labels_dropped (graph_of opened objects) o (object_of s) (at_mapped object_of objects o s at) own is was lists held loses others)
+gone_labels opened objects o s at live properties nowhere nothing was lists held loses others =
+    subst (λ g. AreHeld g lists) (sym (dropped_view opened objects o s at live properties nowhere nothing)) (labels_dropped (graph_of opened objects) o (object_of s) (at_mapped object_of objects o s at) was lists held loses others)

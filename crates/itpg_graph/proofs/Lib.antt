@@ -4,6 +4,7 @@ pub mod Families
 pub mod Goodness
 pub mod GraphParts
 pub mod Kept
+pub mod LabelLists
 pub mod Labels
 pub mod Linked
 pub mod Lists

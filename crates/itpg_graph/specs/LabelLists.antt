@@ -1,5 +1,5 @@
 -- The lists of objects by label that the store keeps.
-use Rattle.std.specs.Prelude.{◌≡◌, ◌<◌, List, [], Option, Some, None, IsSomeAnd, nat_eq, vec_len, vec_capacity}
+use Rattle.std.specs.Prelude.{◌≡◌, ◌<◌, List, [], Option, Some, None, IsSomeAnd, nat_eq, Contains, vec_len, vec_capacity}
 use Rattle.std.specs.Cmp.Lexicographic.{pointwise}
 use Rattle.std.specs.declared.alloc.Global.{Global}
 use Rattle.std.specs.declared.vec.Vec.{Vec}
@@ -31,6 +31,10 @@ HasNone l label = kept_for l label ≡ None
 -- one more object with the label needs no memory
 abbrev pub HasRoomWith : ByLabel → Word → Type 0
 HasRoomWith l label = IsSomeAnd (kept_for l label) (λ list. vec_len list < vec_capacity list)
+
+-- one more object with these labels needs no memory
+abbrev pub HasRoomFor : ByLabel → List Word → Type 0
+HasRoomFor l labels = (label : Word) → Contains labels label → HasRoomWith l label
 
 -- what is kept for each label is exactly the standing objects with it
 pub record AreHeld (g : Graph) (lists : Word → List ObjNo) : Type 0 where

@@ -1,7 +1,7 @@
 //! The objects with each label.
-ghost use Rattle.std.specs.Prelude.{◌≡◌, ◌≢◌, ◌∷◌, ◌++◌, [], OnOk};
+ghost use Rattle.std.specs.Prelude.{◌≡◌, ◌≢◌, ◌∷◌, ◌++◌, [], Contains, OnOk};
 ghost use Rattle.itpg_base.specs.Words.{Word};
-ghost use Rattle.itpg_graph.specs.LabelLists.{held, HasNone, HasRoomWith};
+ghost use Rattle.itpg_graph.specs.LabelLists.{held, kept_for, HasNone, HasRoomWith, HasRoomFor};
 ghost use Rattle.itpg_graph.specs.Links.{LosesIfRising};
 
 use crate::links::take_out;
@@ -36,9 +36,21 @@ impl ByLabel {
         }
     }
 
-    /// Makes room for one more object with the label.
-    pub(crate) fn reserve(&mut self, alloc: Global, label: &Name) -> Result<(), AllocError>
+    /// Makes room for one more object with these labels.
+    pub(crate) fn reserve(&mut self, alloc: Global, labels: &LabelSet) -> Result<(), AllocError>
+        ensures same { (label : Word) → held self.new label ≡ held self.old label }
+        ensures room { OnOk result (HasRoomFor self.new labels.now) }
+    {
+        for place in 0..labels.len() {
+            self.reserve_with(alloc, &labels.get(place).unwrap())?;
+        }
+        Ok(())
+    }
+
+    // Makes room for one more object with the label.
+    fn reserve_with(&mut self, alloc: Global, label: &Name) -> Result<(), AllocError>
         ensures same { (other : Word) → held self.new other ≡ held self.old other }
+        ensures others { (other : Word) → other ≢ label.now → kept_for self.new other ≡ kept_for self.old other }
         ensures room { OnOk result (HasRoomWith self.new label.now) }
     {
         if let Some(list) = self.lists.get_mut(label) {
@@ -51,6 +63,7 @@ impl ByLabel {
     fn add(&mut self, alloc: Global, label: Name) -> Result<(), AllocError>
         requires { HasNone self.old label }
         ensures same { (other : Word) → held self.new other ≡ held self.old other }
+        ensures others { (other : Word) → other ≢ label → kept_for self.new other ≡ kept_for self.old other }
         ensures room { OnOk result (HasRoomWith self.new label) }
     {
         let mut list = Vec::new(alloc);
@@ -59,19 +72,40 @@ impl ByLabel {
         Ok(())
     }
 
-    /// Adds an object with the label, whose number is the greatest.
-    pub(crate) fn push(&mut self, label: &Name, number: ObjNo)
+    /// Adds an object with these labels, whose number is the greatest.
+    pub(crate) fn push(&mut self, labels: &LabelSet, number: ObjNo)
+        requires { HasRoomFor self.old labels.now }
+        ensures own { (label : Word) → Contains labels.now label → held self.new label ≡ held self.old label ++ number ∷ [] }
+        ensures others { (label : Word) → (Contains labels.now label → ⊥) → held self.new label ≡ held self.old label }
+    {
+        for place in 0..labels.len() {
+            self.push_with(&labels.get(place).unwrap(), number);
+        }
+    }
+
+    // Adds an object with the label.
+    fn push_with(&mut self, label: &Name, number: ObjNo)
         requires { HasRoomWith self.old label.now }
         ensures own { held self.new label.now ≡ held self.old label.now ++ number ∷ [] }
-        ensures others { (other : Word) → other ≢ label.now → held self.new other ≡ held self.old other }
+        ensures others { (other : Word) → other ≢ label.now → kept_for self.new other ≡ kept_for self.old other }
     {
         if let Some(list) = self.lists.get_mut(label) {
             list.push_reserved(number);
         }
     }
 
-    /// Takes an object with the label away.
-    pub(crate) fn remove(&mut self, label: &Name, number: ObjNo)
+    /// Takes an object with these labels away. It takes no memory.
+    pub(crate) fn remove(&mut self, labels: &LabelSet, number: ObjNo)
+        ensures own { (label : Word) → Contains labels.now label → LosesIfRising (held self.old label) number.0 (held self.new label) }
+        ensures others { (label : Word) → (Contains labels.now label → ⊥) → held self.new label ≡ held self.old label }
+    {
+        for place in 0..labels.len() {
+            self.remove_with(&labels.get(place).unwrap(), number);
+        }
+    }
+
+    // Takes an object with the label away.
+    fn remove_with(&mut self, label: &Name, number: ObjNo)
         ensures own { LosesIfRising (held self.old label.now) number.0 (held self.new label.now) }
         ensures others { (other : Word) → other ≢ label.now → held self.new other ≡ held self.old other }
     {
@@ -79,12 +113,4 @@ impl ByLabel {
             take_out(list, number);
         }
     }
-}
-
-// The label of an object, which has one.
-pub(crate) fn only_label(labels: &LabelSet) -> Name
-    ensures { labels.now ≡ result ∷ [] }
-{
-    prove!(labels.len() == 1);
-    labels.get(0).unwrap()
 }

@@ -5,7 +5,6 @@ ghost use Rattle.itpg_base.specs.Graphs.{Named, Stands, Exists, HasEnd, InHorizo
 ghost use Rattle.itpg_graph.specs.Families.{FitCut, FitPut, FitClear, HasPlace};
 ghost use Rattle.itpg_graph.specs.Changes.{begun_as, widened, with_node, with_edge, without, JoinsLive, FitFamily, CutsLive, PutsValue, ClearsValue};
 
-use crate::by_label::only_label;
 use crate::graph::Graph;
 use crate::numbers::list;
 use crate::properties::Properties;
@@ -56,13 +55,13 @@ impl Graph {
         self.out.reserve()?;
         self.into.reserve()?;
         let alloc = *self.objects.allocator();
-        let label = only_label(&labels);
-        self.by_label.reserve(alloc, &label)?;
+        let shared = self.sets.shared(alloc, &labels)?;
+        self.by_label.reserve(alloc, &labels)?;
         list(&mut self.numbers, name, number.0)?;
         self.out.push();
         self.into.push();
-        self.by_label.push(&label, number);
-        let node = Stored::new(alloc, name, labels, None);
+        self.by_label.push(&labels, number);
+        let node = Stored::new(alloc, name, shared, None);
         self.objects.push_reserved(node);
         Ok(number)
     }
@@ -90,14 +89,14 @@ impl Graph {
         self.out.reserve_at(source)?;
         self.into.reserve_at(target)?;
         let alloc = *self.objects.allocator();
-        let label = only_label(&labels);
-        self.by_label.reserve(alloc, &label)?;
+        let shared = self.sets.shared(alloc, &labels)?;
+        self.by_label.reserve(alloc, &labels)?;
         list(&mut self.numbers, name, number.0)?;
         self.out.push_at(source, number);
         self.into.push_at(target, number);
-        self.by_label.push(&label, number);
+        self.by_label.push(&labels, number);
         let ends = Some((source, target));
-        let edge = Stored::new(alloc, name, labels, ends);
+        let edge = Stored::new(alloc, name, shared, ends);
         self.objects.push_reserved(edge);
         Ok(number)
     }
@@ -182,11 +181,10 @@ impl Graph {
         let alloc = *self.objects.allocator();
         let object = &mut self.objects[o.0 as usize];
         let ends = object.ends;
-        let label = only_label(&object.labels);
         object.standing = false;
         object.live = IntervalSet::new(alloc);
         object.properties = Properties::new(alloc);
-        self.by_label.remove(&label, o);
+        self.by_label.remove(object.labels.set(), o);
         if let Some((source, target)) = ends {
             self.out.remove(source, o);
             self.into.remove(target, o);

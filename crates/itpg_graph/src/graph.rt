@@ -11,6 +11,7 @@ ghost use Rattle.itpg_graph.specs.WithLabel.{StandsWith};
 use crate::by_label::ByLabel;
 use crate::links::Links;
 use crate::numbers::number_of;
+use crate::shared_labels::LabelSets;
 use crate::stored::{Opened, Stored};
 use indexmap::IndexMap;
 use interval_set::{IntervalSet, Span, ValuedSet};
@@ -38,6 +39,7 @@ pub struct Graph {
     pub(crate) out: Links,
     pub(crate) into: Links,
     pub(crate) by_label: ByLabel,
+    pub(crate) sets: LabelSets,
 }
 
 impl Model for Graph {
@@ -67,6 +69,7 @@ impl Graph {
             out: Links::new(alloc),
             into: Links::new(alloc),
             by_label: ByLabel::new(alloc),
+            sets: LabelSets::new(alloc),
         }
     }
 
@@ -165,7 +168,7 @@ impl Graph {
         requires { Stands self.now o.0 }
         ensures { ObjectIs self.now o.0 (λ x. result.now ≡ x.labels) }
     {
-        &self.objects[o.0 as usize].labels
+        self.objects[o.0 as usize].labels.set()
     }
 
     // Whether the object has the label.

@@ -13,6 +13,7 @@ mod links;
 mod numbers;
 mod part;
 mod properties;
+mod shared_labels;
 mod stored;
 
 pub use graph::{Graph, Kind};

@@ -5,8 +5,9 @@ ghost use Rattle.itpg_graph.specs.Kinds.{ends_of};
 ghost use Rattle.itpg_graph.specs.Stores.{object_of};
 
 use crate::properties::Properties;
+use crate::shared_labels::SharedLabels;
 use interval_set::{IntervalSet, Span};
-use itpg_base::{LabelSet, Name, ObjNo};
+use itpg_base::{Name, ObjNo};
 use std::alloc::Global;
 
 /// The name and the horizon of a graph that is begun.
@@ -20,7 +21,7 @@ pub(crate) struct Opened {
 #[derive(Drop)]
 pub(crate) struct Stored {
     pub(crate) name: Name,
-    pub(crate) labels: LabelSet,
+    pub(crate) labels: SharedLabels,
     /// Of an edge, its source and its target.
     pub(crate) ends: Option<(ObjNo, ObjNo)>,
     pub(crate) standing: bool,
@@ -33,7 +34,7 @@ impl Stored {
     pub(crate) fn new(
         alloc: Global,
         name: Name,
-        labels: LabelSet,
+        labels: SharedLabels,
         ends: Option<(ObjNo, ObjNo)>,
     ) -> Stored
         ensures { object_of result ≡ new_object name labels (ends_of ends) }

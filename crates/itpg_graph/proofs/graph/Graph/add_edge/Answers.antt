@@ -1,6 +1,6 @@
 use Rattle.std.proofs.Common.{◌≡◌, ◌∷◌, ◌++◌, [], ℕ, Some, refl, List, length, map, ap, ◌∙◌, ◌<◌, sym, subst, rules}
 use Rattle.std.proofs.lemmas.List.{length-map}
-use Rattle.itpg_base.specs.Graphs.{Graph, Named}
+use Rattle.itpg_base.specs.Graphs.{Graph, Ends, Named}
 use Rattle.itpg_base.specs.declared.object_number.ObjNo.{ObjNo}
 use Rattle.itpg_graph.specs.Links.{links_of}
 use Rattle.itpg_graph.specs.Stores.{object_of, graph_of, IsStore, listed}
@@ -9,7 +9,7 @@ use Rattle.itpg_graph.specs.Kinds.{IsNode}
 use Rattle.itpg_graph.specs.Changes.{with_edge, new_object}
 use Rattle.itpg_graph.specs.LabelLists.{held, AreHeld}
 use Rattle.itpg_graph.proofs.Goodness.{pushed}
-use Rattle.itpg_graph.proofs.Labels.{labels_push}
+use Rattle.itpg_graph.proofs.Labels.{labels_push, labels_same}
 use Rattle.itpg_graph.proofs.Views.{edge_store, added}
 use Rattle.itpg_graph.proofs.graph.Graph.add_edge.Goals as goal
 
@@ -35,15 +35,27 @@ invariant_of-self-2 c =
     let store = edge_store g c.args.name c.args.labels c.self.inside.numbers c.list.new.numbers out into c.self.invariant.store c.len.ensures.set
     (subst (λ g. (o : ℕ) → Named g o c.args.name → ⊥) is c.requires.free) (subst (λ g. length g.objects < 200000) is c.requires.room) table c.in_ok-list.ensures.others
     c.args.source c.args.target number next (subst (λ g. IsNode g c.args.source.0) is c.requires.source) (subst (λ g. IsNode g c.args.target.0) is c.requires.target) in
-    let own = c.only_label-label.result in
+    let ends : Ends = record { source = c.args.source.0; target = c.args.target.0 } in
     let was = held c.self.inside.by_label in
     let lists = held c.push.new.self in
-    let grown : lists own ≡ was own ++ number ∷ [] = c.push.ensures.own ∙ ap (λ l. l ++ number ∷ []) (c.reserve-2.ensures.same own) in
-    let labels = labels_push g (new_object c.args.name c.args.labels (Some (record { source = c.args.source.0; target = c.args.target.0 }))) own c.only_label-label.ensures refl number next was lists c.self.invariant.labels grown (λ label apart. c.push.ensures.others label apart ∙ c.reserve-2.ensures.same label) in
-    let view : graph_of c.self.inside.opened c.push_reserved.new.self.items ≡ pushed g (new_object c.args.name c.args.labels (Some (record { source = c.args.source.0; target = c.args.target.0 }))) = ap (graph_of c.self.inside.opened) items ∙ added c.self.inside.opened old edge ∙ ap (pushed g) c.new-edge.ensures in
+    let labels = labels_push g (new_object c.args.name c.args.labels (Some ends)) refl number next was lists c.self.invariant.labels
+    (λ label has. c.push.ensures.own label has ∙ ap (λ l. l ++ number ∷ []) (c.reserve-2.ensures.same label)) (λ label out. c.push.ensures.others label out ∙ c.reserve-2.ensures.same label) in
+    let view : graph_of c.self.inside.opened c.push_reserved.new.self.items ≡ pushed g (new_object c.args.name c.args.labels (Some (record { source = c.args.source.0; target = c.args.target.0 }))) = ap (graph_of c.self.inside.opened) items ∙ added c.self.inside.opened old edge ∙ ap (pushed g) (c.new-edge.ensures ∙ ap (λ ls. new_object c.args.name ls (Some ends)) c.in_ok-shared.ensures) in
     record {
       store = subst (λ h. IsStore h c.list.new.numbers (links_of c.push_at.new.self) (links_of c.push_at-2.new.self)) (sym view)
           (subst (λ ls. IsStore now c.list.new.numbers ls (links_of c.push_at-2.new.self)) (sym more_out)
           (subst (λ ls. IsStore now c.list.new.numbers now_out ls) (sym more_into) store));
       labels = subst (λ h. AreHeld h lists) (sym view) labels;
+    }
+
+pub invariant_of-self-in_err-reserve-2 : goal.invariant_of-self-in_err-reserve-2
+invariant_of-self-in_err-reserve-2 c =
+    let g : Graph = graph_of c.self.inside.opened c.self.inside.objects.items in
+    let out = links_of c.self.inside.out in
+    let view : graph_of c.self.inside.opened c.reserve.new.self.items ≡ g = ap (graph_of c.self.inside.opened) c.reserve.ensures.items in
+    record {
+      store = subst (λ h. IsStore h c.self.inside.numbers (links_of c.reserve_at.new.self) (links_of c.reserve_at-2.new.self)) (sym view)
+          (subst (λ ls. IsStore g c.self.inside.numbers ls (links_of c.reserve_at-2.new.self)) (sym c.reserve_at.ensures.same)
+          (subst (λ ls. IsStore g c.self.inside.numbers out ls) (sym c.reserve_at-2.ensures.same) c.self.invariant.store));
+      labels = subst (λ h. AreHeld h (held c.reserve-2.new.self)) (sym view) (labels_same g (held c.self.inside.by_label) (held c.reserve-2.new.self) c.self.invariant.labels c.reserve-2.ensures.same);
     }

@@ -1,5 +1,5 @@
 use Rattle.std.proofs.Common.{◌≡◌, ◌∙◌, [], ℕ, Some, ap, length, refl, sym, subst}
-use Rattle.std.specs.Prelude.{slice_get}
+use Rattle.std.specs.Prelude.{slice_get, Contains}
 use Rattle.std.proofs.lemmas.Option.{slice_get_read}
 use Rattle.itpg_base.specs.Graphs.{Stands, HasEnd}
 use Rattle.itpg_graph.specs.Changes.{without}
@@ -42,7 +42,7 @@ invariant_of-self c =
     let free = subst (λ g. (e : ℕ) → HasEnd g e o → ⊥) is c.requires.free in
     record {
       store = dropped_edge c.self.inside.opened items o s at c.new.result c.new-2.result c.new.ensures c.new-2.ensures c.self.inside.numbers (links_of c.self.inside.out) (links_of c.self.inside.into) c.self.invariant.store c.in-Some.source c.in-Some.target c.in-Some.is stands free (links_of c.remove-in-Some.new.self) (links_of c.remove-in-Some-2.new.self) c.remove-in-Some.ensures c.remove-in-Some-2.ensures;
-      labels = gone_labels c.self.inside.opened items o s at c.new.result c.new-2.result c.new.ensures c.new-2.ensures c.only_label-label.result c.only_label-label.ensures (held c.self.inside.by_label) (held c.remove.new.self) c.self.invariant.labels c.remove.ensures.own c.remove.ensures.others;
+      labels = gone_labels c.self.inside.opened items o s at c.new.result c.new-2.result c.new.ensures c.new-2.ensures (held c.self.inside.by_label) (held c.remove.new.self) c.self.invariant.labels (λ label has. c.remove.ensures.own label (subst (λ labels. Contains labels label) (sym c.set.ensures) has)) (λ label out. c.remove.ensures.others label (λ has. out (subst (λ labels. Contains labels label) c.set.ensures has)));
     }
 
 pub invariant_of-self-in_default : goal.invariant_of-self-in_default
@@ -56,7 +56,7 @@ invariant_of-self-in_default c =
     let free = subst (λ g. (e : ℕ) → HasEnd g e o → ⊥) is c.requires.free in
     record {
       store = dropped_node c.self.inside.opened items o s at c.new.result c.new-2.result c.new.ensures c.new-2.ensures c.self.inside.numbers (links_of c.self.inside.out) (links_of c.self.inside.into) c.self.invariant.store free c.in_default.is;
-      labels = gone_labels c.self.inside.opened items o s at c.new.result c.new-2.result c.new.ensures c.new-2.ensures c.only_label-label.result c.only_label-label.ensures (held c.self.inside.by_label) (held c.remove.new.self) c.self.invariant.labels c.remove.ensures.own c.remove.ensures.others;
+      labels = gone_labels c.self.inside.opened items o s at c.new.result c.new-2.result c.new.ensures c.new-2.ensures (held c.self.inside.by_label) (held c.remove.new.self) c.self.invariant.labels (λ label has. c.remove.ensures.own label (subst (λ labels. Contains labels label) (sym c.set.ensures) has)) (λ label out. c.remove.ensures.others label (λ has. out (subst (λ labels. Contains labels label) c.set.ensures has)));
     }
 
 pub returns-in-Some : goal.returns-in-Some
