@@ -3,10 +3,10 @@ use Rattle.std.proofs.Common.{refl}
 use Rattle.label_scope.specs.FootprintTables.{AreAsked, asked_by_axes, asked_by_tests, asked_by_parts, asked_by_questions}
 
 pub of_axes : AreAsked asked_by_axes
-of_axes = (refl, (refl, (refl, (refl, (refl, (refl, tt))))))
+of_axes = (refl, (refl, (refl, (refl, (refl, (refl, (refl, tt)))))))
 
 pub of_tests : AreAsked asked_by_tests
-of_tests = (refl, (refl, (refl, (refl, (refl, (refl, (refl, (refl, (refl, (refl, (refl, (refl, (refl, (refl, tt))))))))))))))
+of_tests = (refl, (refl, (refl, (refl, (refl, (refl, (refl, (refl, (refl, (refl, (refl, (refl, (refl, (refl, (refl, tt)))))))))))))))
 
 pub of_parts : AreAsked asked_by_parts
 of_parts = (refl, (refl, (refl, (refl, (refl, (refl, (refl, (refl, (refl, (refl, tt))))))))))

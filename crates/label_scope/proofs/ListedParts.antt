@@ -21,7 +21,7 @@ pub repetitions_scoped : AreScoped scoped_repetitions
 repetitions_scoped = ((refl, refl, refl), ((refl, refl, refl), ((refl, refl, refl), ((refl, refl, refl), ((refl, refl, refl), ((refl, refl, refl), ((refl, refl, refl), tt)))))))
 
 pub paths_narrowed : AreNarrowed narrowed_paths
-paths_narrowed = (refl, refl, (refl, refl, (refl, refl, (refl, refl, (refl, refl, (refl, refl, (refl, refl, (refl, refl, (refl, refl, (refl, refl, tt))))))))))
+paths_narrowed = (refl, refl, (refl, refl, (refl, refl, (refl, refl, (refl, refl, (refl, refl, (refl, refl, (refl, refl, (refl, refl, (refl, refl, (refl, refl, tt)))))))))))
 
 pub second_narrows : worked through_a_meeting All All ≡ through_a_meeting_members
 second_narrows = refl

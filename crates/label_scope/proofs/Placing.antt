@@ -1,5 +1,5 @@
 -- Labels at their places in rising lists.
-use Rattle.std.proofs.Common.{◌≡◌, ℕ, zero, suc, List, [], ◌∷◌, ◌++◌, Bool, true, false, ◌⊎◌, filter, take, drop, inl, inr, refl, sym, ap, subst, ◌∙◌, cond, length, ◌<◌, ◌+◌, get_or, arith}
+use Rattle.std.proofs.Common.{◌≡◌, ℕ, zero, suc, List, [], ◌∷◌, ◌++◌, ◌⊎◌, take, drop, inl, inr, refl, sym, ap, subst, ◌∙◌, length, ◌<◌, get_or, arith}
 use Rattle.std.specs.Prelude.{Contains, insert}
 use Rattle.std.specs.Ordering.{nat_cmp, ordering_reverse}
 use Rattle.std.specs.Cmp.Lexicographic.{slice_cmp, nat_list_cmp_total}
@@ -7,10 +7,8 @@ use Rattle.std.specs.FinMap.{slice_cmp-IsAntisymmetric, nat_cmp-IsAntisymmetric}
 use Rattle.std.specs.declared.cmp.Ordering.{Ordering}
 use Rattle.std.specs.declared.cmp.Ordering.TheVariants.{Less, Equal, Greater}
 use Rattle.itpg_base.specs.Words.{Word, IsBefore, StartsBefore, IsRising}
-use Rattle.label_scope.specs.Labels.{placed, with_label, labels_of_either, has_label}
-use Rattle.std.proofs.lemmas.List.{append-nil}
-use Rattle.std.proofs.lemmas.List.Elements.{filter_more}
-use Rattle.label_scope.proofs.Lists.{first, more, first_or_more, nothing, tests_label, label_tested}
+use Rattle.label_scope.specs.Labels.{placed, with_label, labels_of_either}
+use Rattle.label_scope.proofs.Lists.{first, more, first_or_more, nothing}
 
 turned : (a b : Word) → slice_cmp nat_cmp a b ≡ Greater → IsBefore b a
 turned a b e = nat_list_cmp_total.antisymm b a ∙ ap ordering_reverse e
@@ -94,27 +92,6 @@ pub either-rising : (ls ms : List Word) → IsRising ls → IsRising (labels_of_
 either-rising ls [] h = h
 either-rising ls (m ∷ ms) h = either-rising (with_label ls m) ms (with_label-rising ls m h)
 
--- a list of which some labels are left rises still
-starts_before_kept : (p : Word → Bool) (a : Word) (ls : List Word) → StartsBefore a ls → IsRising ls → StartsBefore a (filter p ls)
-starts_before_kept p a [] h k = tt
-starts_before_kept p a (x ∷ rest) h k = by_test (p x) (starts_before_kept p a rest)
-  where
-    after : (ls : List Word) → StartsBefore x ls → StartsBefore a ls
-    after [] f = tt
-    after (y ∷ ys) f = before_all a x y h f
-
-    by_test : (b : Bool) → (StartsBefore a rest → IsRising rest → StartsBefore a (filter p rest)) → StartsBefore a (cond b (x ∷ filter p rest) (filter p rest))
-    by_test true later = h
-    by_test false later = later (after rest k.0) k.1
-
-pub filter-rising : (p : Word → Bool) (ls : List Word) → IsRising ls → IsRising (filter p ls)
-filter-rising p [] h = tt
-filter-rising p (x ∷ rest) h = by_test (p x) (filter-rising p rest h.1)
-  where
-    by_test : (b : Bool) → IsRising (filter p rest) → IsRising (cond b (x ∷ filter p rest) (filter p rest))
-    by_test true later = (starts_before_kept p x rest h.0 h.1, later)
-    by_test false later = later
-
 -- a label that comes after the first i labels of the list is put behind them
 abbrev pub put_behind : List Word → Word → ℕ → List Word
 put_behind ls m i = take i ls ++ with_label (drop i ls) m
@@ -137,21 +114,3 @@ is_there (x ∷ rest) m d (suc i) below e = ap (λ zs. x ∷ zs) (is_there rest 
 pub goes_last : (ls : List Word) (m : Word) → put_behind ls m (length ls) ≡ insert ls (length ls) m
 goes_last [] m = refl
 goes_last (x ∷ rest) m = ap (λ zs. x ∷ zs) (goes_last rest m)
-
--- one more label of a list, which is kept where the other list has it
-pub kept_more : (names others : List Word) (i : ℕ) (label : Word) → i < length names → label ≡ get_or names i label → Contains others label
-    → filter (has_label others) (take i names) ++ label ∷ [] ≡ filter (has_label others) (take (i + 1) names)
-kept_more names others i label below is has =
-    let tested : has_label others (get_or names i label) ≡ true = ap (has_label others) (sym is) ∙ tests_label others label has in
-    sym (filter_more (has_label others) names i label below ∙ ap (λ b. filter (has_label others) (take i names) ++ cond b (get_or names i label ∷ []) []) tested
-    ∙ ap (λ x. filter (has_label others) (take i names) ++ x ∷ []) (sym is))
-
-pub left_more : (names others : List Word) (i : ℕ) (label : Word) → i < length names → label ≡ get_or names i label → (Contains others label → ⊥)
-    → filter (has_label others) (take i names) ≡ filter (has_label others) (take (i + 1) names)
-left_more names others i label below is hasnt =
-    let tested : has_label others (get_or names i label) ≡ false = ap (has_label others) (sym is) ∙ by_test (has_label others label) refl in
-    sym (filter_more (has_label others) names i label below ∙ ap (λ b. filter (has_label others) (take i names) ++ cond b (get_or names i label ∷ []) []) tested ∙ append-nil (filter (has_label others) (take i names)))
-  where
-    by_test : (b : Bool) → has_label others label ≡ b → has_label others label ≡ false
-    by_test true e = absurd (hasnt (label_tested others label e))
-    by_test false e = e

@@ -147,15 +147,15 @@ meeting_members =
     ∷ between rooms persons (Sequence room (at_most 2 meeting))
     ∷ between rooms rooms room
     ∷ between rooms persons (at_most 2 meeting)
-    ∷ between persons persons meeting
-    ∷ between persons persons through_meeting
-    ∷ between persons meetings to_meeting
-    ∷ between persons meetings to_edge
-    ∷ between persons persons at_person
+    ∷ between persons_and_rooms persons_and_rooms meeting
+    ∷ between persons_and_rooms persons through_meeting
+    ∷ between persons_and_rooms meetings to_meeting
+    ∷ between persons_and_rooms meetings to_edge
+    ∷ between persons_and_rooms persons at_person
     ∷ between persons meetings Forward
     ∷ between meetings meetings at_meets
     ∷ between meetings persons Forward
-    ∷ between persons persons at_person
+    ∷ between persons persons_and_rooms at_person
     ∷ between persons_and_rooms persons_and_rooms (at_most 1 meeting)
     ∷ between persons_and_rooms persons_and_rooms (at_most 2 meeting)
     ∷ between persons_and_rooms persons_and_rooms (at_most 2 meeting)

@@ -53,6 +53,7 @@ asked_by_axes =
     ∷ asks_shape Backward rooms doors doors_and_rooms
     ∷ asks_shape Backward rooms All All
     ∷ asks_shape Next persons All persons
+    ∷ asks_shape Next persons rooms persons
     ∷ asks_shape Previous All rooms rooms
     ∷ []
 
@@ -68,6 +69,7 @@ asked_by_tests =
     asks_shape (OfTest IsNode) persons All persons
     ∷ asks_shape (OfTest IsEdge) All persons persons
     ∷ asks_shape (OfTest is_person) All All persons
+    ∷ asks_shape (OfTest is_person) rooms persons rooms
     ∷ asks_shape (OfTest (IsBelow (pos 5))) All All All
     ∷ asks (OfTest DoesExist) persons All persons persons []
     ∷ asks (OfTest at_risk) rooms All rooms nowhere (of_objects (codes "risk") rooms ∷ [])

@@ -1,7 +1,6 @@
 -- Rising lists of labels.
-use Rattle.std.specs.Prelude.{List, [], ◌∷◌, filter, Bool, nat_eq}
-use Rattle.std.specs.List.{list_any}
-use Rattle.std.specs.Cmp.Lexicographic.{pointwise, slice_cmp}
+use Rattle.std.specs.Prelude.{List, [], ◌∷◌}
+use Rattle.std.specs.Cmp.Lexicographic.{slice_cmp}
 use Rattle.std.specs.Ordering.{nat_cmp}
 use Rattle.std.specs.declared.cmp.Ordering.{Ordering}
 use Rattle.std.specs.declared.cmp.Ordering.TheVariants.{Less, Equal, Greater}
@@ -22,11 +21,3 @@ with_label (first ∷ rest) label = placed (slice_cmp nat_cmp label first) label
 abbrev pub labels_of_either : List Word → List Word → List Word
 labels_of_either labels [] = labels
 labels_of_either labels (more ∷ rest) = labels_of_either (with_label labels more) rest
-
--- whether the list has the label
-abbrev pub has_label : List Word → Word → Bool
-has_label labels label = list_any (pointwise nat_eq label) labels
-
--- the labels of both lists
-abbrev pub labels_of_both : List Word → List Word → List Word
-labels_of_both labels others = filter (has_label others) labels

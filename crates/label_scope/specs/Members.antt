@@ -20,8 +20,8 @@ pub record Member : Type 0 where
 abbrev pub middle : PathTerm → PathTerm → Scopes → Scope
 middle p q ends = met_where (keeps_object q) (met_where (keeps_object p) (met (target_scope p) (source_scope q)) ends.sources) ends.targets
 
--- the scope of every object that a repetition passes: where the body keeps its object the sources, which are then the
--- targets too; else the sources, the targets, and where the body can end and start again
+-- the scope of every object that a repetition passes: where the body keeps its object the sources; else the sources, the
+-- targets, and where the body can end and start again
 abbrev pub passed_where : Bool → PathTerm → Scopes → Scope
 passed_where true body ends = ends.sources
 passed_where false body ends = joined (joined ends.sources ends.targets) (met (target_scope body) (source_scope body))

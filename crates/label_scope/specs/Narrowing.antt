@@ -18,9 +18,9 @@ pub record Cut (g : Graph) (p : PathTerm) (sources targets : Scope) (x y : Point
   pub source : IsWithin sources g x.object
   pub target : IsWithin targets g y.object
 
--- where a path keeps its object, both become the scope of both
+-- where a path keeps its object and exactly one of its scopes is `All`, that one becomes the other
 abbrev pub both_where : Bool → Scope → Scope → Scopes
-both_where true a b = record { sources = met a b; targets = met a b }
+both_where true a b = record { sources = met a b; targets = met b a }
 both_where false a b = record { sources = a; targets = b }
 
 -- the scopes without what the path's own labels rule out

@@ -45,12 +45,12 @@ abbrev pub on_from_either_members : List Member
 on_from_either_members =
     between All All on_from_either
     ∷ between All rooms_and_meetings to_either
-    ∷ between All meetings to_meets
+    ∷ between All rooms_and_meetings to_meets
     ∷ between All meetings Forward
-    ∷ between meetings meetings at_meets
-    ∷ between All rooms to_room
+    ∷ between meetings rooms_and_meetings at_meets
+    ∷ between All rooms_and_meetings to_room
     ∷ between All rooms Forward
-    ∷ between rooms rooms (OfTest is_room)
+    ∷ between rooms rooms_and_meetings (OfTest is_room)
     ∷ between rooms_and_meetings All Forward
     ∷ []
 
@@ -64,11 +64,11 @@ doors_persons_and_rooms = These (codes "Door" ∷ codes "Person" ∷ codes "Room
 abbrev pub room_to_door_members : List Member
 room_to_door_members =
     between rooms doors (at_most 2 person_to_person)
-    ∷ between persons persons person_to_person
-    ∷ between persons persons from_person
-    ∷ between persons persons at_person
+    ∷ between doors_persons_and_rooms doors_persons_and_rooms person_to_person
+    ∷ between doors_persons_and_rooms persons from_person
+    ∷ between doors_persons_and_rooms persons at_person
     ∷ between persons persons Forward
-    ∷ between persons persons at_person
+    ∷ between persons doors_persons_and_rooms at_person
     ∷ within doors_persons_and_rooms (at_most 1 person_to_person ∷ at_most 2 person_to_person ∷ at_most 2 person_to_person ∷ [])
 
 -- (:Person/N)[2,2]: the body keeps its object, so everything lies within persons

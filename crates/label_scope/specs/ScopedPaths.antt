@@ -47,9 +47,6 @@ rooms_and_meetings = These (codes "Room" ∷ codes "meets" ∷ [])
 abbrev pub doors : Scope
 doors = These (codes "Door" ∷ [])
 
-abbrev pub nothing : Scope
-nothing = These []
-
 -- :Person/F, F/:Person, F/:Room and F/:meets
 abbrev pub from_person : PathTerm
 from_person = Sequence (OfTest is_person) Forward
@@ -75,8 +72,8 @@ scoped_tests =
     ∷ scoped (OfTest (Condition from_person)) persons persons true
     ∷ scoped (OfTest (Condition to_person)) All All true
     ∷ scoped (OfTest (Conjunction is_person IsNode)) persons persons true
-    ∷ scoped (OfTest (Conjunction is_person is_room)) nothing nothing true
-    ∷ scoped (OfTest (Conjunction person_or_room room_or_meeting)) rooms rooms true
+    ∷ scoped (OfTest (Conjunction is_person is_room)) persons persons true
+    ∷ scoped (OfTest (Conjunction person_or_room room_or_meeting)) persons_and_rooms persons_and_rooms true
     ∷ scoped (OfTest person_or_room) persons_and_rooms persons_and_rooms true
     ∷ scoped (OfTest (Disjunction is_person IsNode)) All All true
     ∷ scoped (OfTest (Disjunction is_room (Conjunction is_person IsNode))) persons_and_rooms persons_and_rooms true
@@ -95,11 +92,11 @@ scoped_sequences =
     ∷ scoped (Sequence Forward Next) All All false
     ∷ scoped (Sequence to_person Next) All persons false
     ∷ scoped (Sequence Previous from_person) persons All false
-    ∷ scoped (Sequence (OfTest is_person) (OfTest is_room)) nothing nothing true
+    ∷ scoped (Sequence (OfTest is_person) (OfTest is_room)) persons rooms true
     ∷ scoped (Sequence from_person to_room) persons rooms false
     ∷ scoped (Sequence to_person (Sequence Backward (OfTest is_room))) All rooms false
-    ∷ scoped (Sequence (OfTest person_or_room) (Sequence (OfTest room_or_meeting) Forward)) rooms All false
-    ∷ scoped (Sequence (Sequence Forward (OfTest person_or_room)) (OfTest room_or_meeting)) All rooms false
+    ∷ scoped (Sequence (OfTest person_or_room) (Sequence (OfTest room_or_meeting) Forward)) persons_and_rooms All false
+    ∷ scoped (Sequence (Sequence Forward (OfTest person_or_room)) (OfTest room_or_meeting)) All rooms_and_meetings false
     ∷ []
 
 abbrev pub scoped_choices : List ScopedPath
@@ -142,13 +139,14 @@ leaves p a b c d = record { path = p; first = a; last = b; sources = c; targets 
 abbrev pub narrowed_paths : List NarrowedPath
 narrowed_paths =
     leaves Next persons All persons persons
-    ∷ leaves Next persons rooms nothing nothing
+    ∷ leaves Next All rooms rooms rooms
+    ∷ leaves Next persons rooms persons rooms
     ∷ leaves Forward persons rooms persons rooms
     ∷ leaves from_person All rooms persons rooms
-    ∷ leaves from_person persons_and_rooms All persons All
-    ∷ leaves to_room persons persons_and_rooms persons rooms
-    ∷ leaves (OfTest is_person) All persons_and_rooms persons persons
-    ∷ leaves (OfTest IsNode) persons_and_rooms rooms_and_meetings rooms rooms
-    ∷ leaves (Choice (OfTest is_person) (OfTest is_room)) rooms_and_meetings All rooms rooms
+    ∷ leaves from_person persons_and_rooms All persons_and_rooms All
+    ∷ leaves to_room persons persons_and_rooms persons persons_and_rooms
+    ∷ leaves (OfTest is_person) All persons_and_rooms persons persons_and_rooms
+    ∷ leaves (OfTest IsNode) persons_and_rooms rooms_and_meetings persons_and_rooms rooms_and_meetings
+    ∷ leaves (Choice (OfTest is_person) (OfTest is_room)) rooms_and_meetings All rooms_and_meetings persons_and_rooms
     ∷ leaves (Repetition Forward 0 None) persons rooms persons rooms
     ∷ []

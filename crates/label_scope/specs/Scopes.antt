@@ -6,7 +6,7 @@ use Rattle.path_ast.specs.Terms.{PathTerm, OfTest, Forward, Backward, Next, Prev
 use Rattle.path_ast.specs.Meaning.{keeps_object}
 use Rattle.label_scope.specs.declared.scope.Scope.{Scope}
 use Rattle.label_scope.specs.declared.scope.Scope.TheVariants.{All, These}
-use Rattle.label_scope.specs.Labels.{labels_of_either, labels_of_both}
+use Rattle.label_scope.specs.Labels.{labels_of_either}
 
 -- a scope has a set of labels where it is `All`, or has some label of the set
 abbrev pub Has : Scope → List Word → Type 0
@@ -17,11 +17,11 @@ Has (These names) labels = (label : Word) × Contains labels label × Contains n
 abbrev pub IsWithin : Scope → Graph → ℕ → Type 0
 IsWithin scope g o = ObjectIs g o (λ x. Has scope x.labels)
 
--- two scopes met: the labels of both. This is right as long as each object has one label
+-- two scopes met: of two lists the first, and `All` leaves the other as it is. No list has exactly the objects of two lists, since
+-- an object may have one label of each
 abbrev pub met : Scope → Scope → Scope
 met All b = b
-met (These names) All = These names
-met (These names) (These others) = These (labels_of_both names others)
+met (These names) b = These names
 
 -- two scopes joined: the labels of either
 abbrev pub joined : Scope → Scope → Scope

@@ -17,7 +17,7 @@ pub fn scopes_of_short_paths()
     ensures repetitions { AreScoped scoped_repetitions }
 {}
 
-/// What ten paths leave of two scopes.
+/// What eleven paths leave of two scopes.
 pub fn scopes_of_narrowed_paths()
     ensures { AreNarrowed narrowed_paths }
 {}

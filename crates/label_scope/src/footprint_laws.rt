@@ -1,10 +1,12 @@
 //! The laws of footprints. Each is the contract of a function that does nothing.
-ghost use Rattle.std.specs.Prelude.{◌≡◌, ◌↔◌, List, Contains};
+ghost use Rattle.std.specs.Prelude.{◌≡◌, ◌↔◌, List, Contains, IsTrue};
 ghost use Rattle.itpg_base.specs.Words.{Word};
 ghost use Rattle.itpg_base.specs.Graphs.{Graph, Good};
 ghost use Rattle.itpg_base.specs.Points.{Point};
 ghost use Rattle.path_ast.specs.Terms.{PathTerm};
+ghost use Rattle.path_ast.specs.Meaning.{keeps_object};
 ghost use Rattle.label_scope.specs.declared.scope.Scope.{Scope};
+ghost use Rattle.label_scope.specs.declared.scope.Scope.TheVariants.{All};
 ghost use Rattle.label_scope.specs.Scopes.{Has};
 ghost use Rattle.label_scope.specs.PropertyScopes.{ScopeHas};
 ghost use Rattle.label_scope.specs.Narrowing.{Cut, narrowed};
@@ -29,10 +31,12 @@ pub fn law_of_shapes()
         ScopeHas (footprint p a b).values prop labels → Has (footprint p a b).shape labels }
 {}
 
-/// To narrow scopes again changes nothing, so a path has one footprint and one list of members before and after.
+/// To narrow scopes again changes nothing, so a path has one footprint and one list of members before and after. Where the path
+/// keeps its object, both narrowed scopes are `All` or neither is.
 pub fn law_of_narrowed_scopes()
     ensures scopes { (p : PathTerm) (a b : Scope) → narrowed p (narrowed p a b).sources (narrowed p a b).targets ≡ narrowed p a b }
     ensures footprints { (p : PathTerm) (a b : Scope) → footprint p (narrowed p a b).sources (narrowed p a b).targets ≡ footprint p a b }
     ensures members { (p : PathTerm) (a b : Scope) → worked p (narrowed p a b).sources (narrowed p a b).targets ≡ worked p a b }
     ensures between { (p : PathTerm) (a b : Scope) → worked p a b ≡ members_between p (narrowed p a b).sources (narrowed p a b).targets }
+    ensures kept { (p : PathTerm) (a b : Scope) → IsTrue (keeps_object p) → ((narrowed p a b).sources ≡ All) ↔ ((narrowed p a b).targets ≡ All) }
 {}

@@ -6,7 +6,7 @@ ghost use Rattle.std.specs.Cmp.Lexicographic.{nat_list_eq_equiv, lists_equiv, po
 ghost use Rattle.std.specs.Hash.{items_Alike, same_Alike};
 ghost use Rattle.std.specs.Hash as fed;
 ghost use Rattle.itpg_base.specs.Words.{IsRising};
-ghost use Rattle.label_scope.specs.Labels.{with_label, labels_of_either, labels_of_both};
+ghost use Rattle.label_scope.specs.Labels.{with_label, labels_of_either};
 
 use itpg_base::Name;
 use smallvec::SmallVec;
@@ -73,19 +73,6 @@ impl Labels {
         ensures { IfOk result (λ copy. copy ≡ self.now) }
     {
         let names = SmallVec::from_slice(alloc, self.names.as_slice())?;
-        Ok(Labels { names })
-    }
-
-    /// The labels of both lists.
-    pub(crate) fn of_both(&self, alloc: Global, other: &Labels) -> Result<Labels, AllocError>
-        ensures { IfOk result (λ both. both ≡ labels_of_both self.now other.now) }
-    {
-        let mut names = SmallVec::new(alloc);
-        for name in self.names.as_slice() {
-            if other.has(name) {
-                names.push(*name)?;
-            }
-        }
         Ok(Labels { names })
     }
 

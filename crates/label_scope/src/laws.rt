@@ -9,18 +9,17 @@ ghost use Rattle.path_ast.specs.Terms.{PathTerm, TestTerm};
 ghost use Rattle.path_ast.specs.Meaning.{Rel, Sat, keeps_object};
 ghost use Rattle.label_scope.specs.declared.scope.Scope.{Scope};
 ghost use Rattle.label_scope.specs.declared.scope.Scope.TheVariants.{All};
-ghost use Rattle.label_scope.specs.Labels.{labels_of_both, labels_of_either};
-ghost use Rattle.label_scope.specs.Scopes.{IsWithin, source_scope, target_scope, test_scope};
+ghost use Rattle.label_scope.specs.Labels.{labels_of_either};
+ghost use Rattle.label_scope.specs.Scopes.{IsWithin, met, joined, source_scope, target_scope, test_scope};
 ghost use Rattle.label_scope.specs.Narrowing.{Cut, narrowed};
 ghost use Rattle.label_scope.specs.Members.{passed};
 ghost use Rattle.label_scope.specs.Passing.{AllWithin};
 
-/// Of two lists of labels, the labels of both are those that stand in the one and in the other, and the labels of either those
-/// that stand in the one or in the other. Where the lists rise, so do these.
+/// Of two lists of labels, the labels of either are those that stand in the one or in the other. Where the first list rises, so
+/// do these.
 pub fn law_of_labels()
-    ensures both { (these others : List Word) (label : Word) → Contains (labels_of_both these others) label ↔ (Contains these label × Contains others label) }
     ensures either { (these others : List Word) (label : Word) → Contains (labels_of_either these others) label ↔ (Contains these label ⊎ Contains others label) }
-    ensures rising { (these others : List Word) → IsRising these → IsRising (labels_of_both these others) × IsRising (labels_of_either these others) }
+    ensures rising { (these others : List Word) → IsRising these → IsRising (labels_of_either these others) }
 {}
 
 /// On a good graph a path leads from an object within its source scope to one within its target scope, and a test holds
@@ -30,6 +29,14 @@ pub fn law_of_scopes()
     ensures targets { (p : PathTerm) (g : Graph) (x y : Point) → Good g → Rel p g x y → IsWithin (target_scope p) g y.object }
     ensures tests { (c : TestTerm) (g : Graph) (x : Point) → Good g → IsAt g x → Sat c g x → IsWithin (test_scope c) g x.object }
     ensures kept { (p : PathTerm) (g : Graph) (x y : Point) → IsTrue (keeps_object p) → Rel p g x y → x.object ≡ y.object }
+{}
+
+/// An object within two scopes is within what they are met in, and an object within that is within the first of them. What they
+/// are joined in has exactly the objects of either.
+pub fn law_of_met_and_joined_scopes()
+    ensures met { (a b : Scope) (g : Graph) (o : ℕ) → IsWithin a g o → IsWithin b g o → IsWithin (met a b) g o }
+    ensures first { (a b : Scope) (g : Graph) (o : ℕ) → IsWithin (met a b) g o → IsWithin a g o }
+    ensures joined { (a b : Scope) (g : Graph) (o : ℕ) → IsWithin (joined a b) g o ↔ (IsWithin a g o ⊎ IsWithin b g o) }
 {}
 
 /// On a good graph a path leads between the same points before and after its scopes are narrowed.

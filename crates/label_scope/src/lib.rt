@@ -28,8 +28,8 @@ pub use footprint::{Footprint, meets};
 pub use footprint_laws::{law_of_footprints, law_of_narrowed_scopes, law_of_shapes};
 pub use labels::Labels;
 pub use laws::{
-    law_of_cut, law_of_decided_scopes, law_of_labels, law_of_narrowing, law_of_passing,
-    law_of_scopes,
+    law_of_cut, law_of_decided_scopes, law_of_labels, law_of_met_and_joined_scopes,
+    law_of_narrowing, law_of_passing, law_of_scopes,
 };
 pub use members::{
     members_of_a_later_wait, members_of_a_step_to_an_edge, members_of_a_wait, members_of_contacts,

@@ -188,8 +188,10 @@ pub fn narrow(
     let sources = a.meet(alloc, &start.scope)?;
     let targets = b.meet(alloc, &tgt(alloc, path)?)?;
     if start.keeps {
-        let both = sources.meet(alloc, &targets)?;
-        Ok((both.copy(alloc)?, both))
+        Ok((
+            sources.meet(alloc, &targets)?,
+            targets.meet(alloc, &sources)?,
+        ))
     } else {
         Ok((sources, targets))
     }

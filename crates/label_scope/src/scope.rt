@@ -41,22 +41,19 @@ impl Scope {
         }
     }
 
-    /// The objects of both scopes, where each object has one label: the labels of both lists, and `All` leaves the other
-    /// scope as it is.
+    /// A scope that has every object of both scopes, and no object that the first hasn't: of two lists the first, and `All` leaves
+    /// the other scope as it is.
     ///
     /// ```text
-    ///     {Person, Room} met with {Room, Tag}     {Room}
-    ///     {Person, Room} met with All             {Person, Room}
+    ///     {Person, Room} met with {Room, Tag}     {Person, Room}: a person may be a tag too
+    ///     All met with {Room, Tag}                {Room, Tag}
     /// ```
     pub fn meet(&self, alloc: Global, other: &Scope) -> Result<Scope, AllocError>
         ensures { IfOk result (λ scope. scope ≡ met self.now other.now) }
     {
-        match (self, other) {
-            (Scope::All, _) => other.copy(alloc),
-            (_, Scope::All) => self.copy(alloc),
-            (Scope::These(names), Scope::These(others)) => {
-                Ok(Scope::These(names.of_both(alloc, others)?))
-            }
+        match self {
+            Scope::All => other.copy(alloc),
+            Scope::These(names) => Ok(Scope::These(names.copy(alloc)?)),
         }
     }
 

@@ -36,8 +36,10 @@ fn scopes_are_met_and_joined(rt: HostRuntime) {
     let three = two.join(alloc, &tags).expect(&rt, "memory");
     assert!(rt; labels(&three) == [person, room, tag].as_slice());
     let copy = three.copy(alloc).expect(&rt, "memory");
-    let both = copy.meet(alloc, &rooms).expect(&rt, "memory");
-    assert!(rt; labels(&both) == [room].as_slice());
+    let first = copy.meet(alloc, &rooms).expect(&rt, "memory");
+    assert!(rt; labels(&first) == [person, room, tag].as_slice());
+    let other = Scope::All.meet(alloc, &rooms).expect(&rt, "memory");
+    assert!(rt; labels(&other) == [room].as_slice());
 }
 
 #[test]
