@@ -16,7 +16,7 @@ far and this one question. So in a fresh run nothing is kept.
   the base has and the answer doesn't, as points. The base is the fresh run's answer at the watch's last tick that wasn't wide. In a
   long script two watches of a tick are compared so.
 
-It prints what differs and `N scripts, M replies, D differ`, and its exit status is 1 if D is above 0."""
+It prints the first reply of each script that differs and `N scripts, M replies, D differ`; its exit status is 1 if D is above 0."""
 import argparse
 import random
 import re
@@ -41,7 +41,7 @@ FORMS = {
     "axis": ["N", "P", "F", "B", "N[0,2]", "F/F"],
     "path": ["FWD/:<label>/FWD", "BWD/:<label>/BWD", "F/:<label>/F", *["F/{<equal>}/F"] * 3, "NEXT", "PREV", "N", "N/{<equal>}/P", "NEXT[0,3]",
              "PREV*", "{<leaf>}", "|", "<path>/<path>", "(<path> + <path>)", "(<path>)[0,2]", "(<path>)[1,_]", "(<path>/NEXT*)", "{<test>}"],
-    "filter": ["", "", ":<node_label>", ":<node_label> {<test>}", " {<test>}"],
+    "filter": ["", ":<node_label>", ":<node_label>", ":<node_label> {<test>}", " {<test>}"],
     "query": ["MATCH (x<filter>)", *["MATCH (x<filter>)-/<path>/-(y<filter>)"] * 3, "MATCH (x<filter>)-/<path>/-(<filter>)",
               "MATCH (<filter>)-/<path>/-(y<filter>)"],
     "span": [f"0 {LAST}"] * 12 + [f"{low} {high}" for low in range(LAST + 1) for high in range(low, LAST + 1, 2)]
@@ -152,8 +152,12 @@ def points(rows, numbers):
     return found
 
 
+class Differs(Exception):
+    pass
+
+
 class Trial:
-    """One script, read along its output."""
+    """One script, read along its output as far as the first reply that differs."""
 
     def __init__(self, program, fresh, limit, lines, compared):
         self.program, self.limit, self.lines, self.compared = fresh, limit, lines, compared
@@ -161,7 +165,7 @@ class Trial:
         self.random = random.Random(len(self.output))
         self.edits, self.numbers = bytearray(), {}  # accepted so far; of each name a number of the last object declared
         self.watches = {}  # of each name its query; where its base was found how long the edits were, and the numbers of names
-        self.replies, self.wrong = 0, []
+        self.replies = 0
 
     def take(self, count):
         taken = self.output[self.at:self.at + count]
@@ -176,7 +180,7 @@ class Trial:
     def check(self, number, got, wanted):
         self.replies += 1
         if got != wanted:
-            self.wrong.append(f"line {number} {self.lines[number - 1]}: {got}, by fresh runs {wanted}")
+            raise Differs(f"line {number} {self.lines[number - 1]}: {got}, by fresh runs {wanted}")
 
     def answer(self, number, query):
         told, rows = self.fresh(query, len(self.edits))
@@ -218,7 +222,6 @@ class Trial:
                 self.edits += line.encode() + b"\n"
                 self.numbers.update({name: len(self.edits)} if command in ("node", "edge") else {})
         self.check(len(self.lines), self.output[self.at:], [])
-        return self
 
 
 def main():
@@ -236,9 +239,13 @@ def main():
         limit = SMALL_LIMITS[seed // 2 % len(SMALL_LIMITS)] * (10 if is_long else 1) if seed % 2 else 100_000
         draw = Draw(seed, *((MANY, 32) if is_long else (FEW, 5)), options["sets"])
         lines = draw.long_script(options["edits"] or 10_000, seed % 10 == 0) if is_long else draw.script(options["edits"] or 100)
-        trial = Trial(program, options["fresh"] or program, limit, lines, COMPARED if is_long else 32).read()
-        replies, differ = replies + trial.replies, differ + len(trial.wrong)
-        print("".join(f"seed {seed}, --max-rows {limit}: {wrong}\n" for wrong in trial.wrong[:3]), end="")
+        trial = Trial(program, options["fresh"] or program, limit, lines, COMPARED if is_long else 32)
+        try:
+            trial.read()
+        except Differs as wrong:
+            differ += 1
+            print(f"seed {seed}, --max-rows {limit}: {wrong}", flush=True)
+        replies += trial.replies
     print(f"{options['scripts']} scripts, {replies} replies, {differ} differ")
     return 1 if differ else 0
 
