@@ -1,18 +1,22 @@
 #!/usr/bin/env python3
 """Tries whether what the program keeps across edits changes a reply. It proves nothing and builds nothing.
 
-    tests/kept.py PROGRAM [--scripts N] [--from SEED] [--edits M]
+    tests/kept.py PROGRAM [--scripts N] [--from SEED] [--edits M] [--long] [--sets] [--fresh OTHER]
 
 Draws N scripts (200 unless given), each of M edits (100) over few names, labels and properties, with watches of five queries, which
 are also asked, and shows and ticks between. Every second script has a small limit of rows, so that answers are wide now and then.
+With --long a script has 10,000 edits unless M is given, and 32 watches of as many queries. Most edits come 600 at a time; then the
+watches tick, and one or two edits come before each of six questions. In each tenth script great questions fill the table of plans, so
+that it is made anew. With --sets objects have up to three labels.
 
-Each question that the program answers there is also asked of a fresh run, which reads the edits accepted so far and this one
-question. So in a fresh run nothing is kept.
+Each question that the program answers there is also asked of a fresh run, of OTHER if it is given, which reads the edits accepted so
+far and this one question. So in a fresh run nothing is kept.
 - The reply to `ask` and `show` must be that of the fresh run, line for line.
 - A tick must be wide exactly if the fresh run is. Otherwise its rows must hold what the answer has and the base doesn't, and what
-  the base has and the answer doesn't, as points. The base is the fresh run's answer at the watch's last tick that wasn't wide.
+  the base has and the answer doesn't, as points. The base is the fresh run's answer at the watch's last tick that wasn't wide. In a
+  long script two watches of a tick are compared so.
 
-It prints what differs and `N scripts, M replies, D differ`, and its exit status is 1 if D is above 0."""
+It prints the first reply of each script that differs and `N scripts, M replies, D differ`; its exit status is 1 if D is above 0."""
 import argparse
 import random
 import re
@@ -20,7 +24,13 @@ import subprocess
 import sys
 
 LAST, SMALL_LIMITS = 7, [3, 6, 12, 20, 40]  # the horizon is 0..LAST at first
-NAMES = {"node": [f"n{i}" for i in range(6)], "edge": [f"e{i}" for i in range(5)], "watch": [f"w{i}" for i in range(6)]}
+QUIET, COMPARED = 600, 2  # edits at a time in a long script, and watches of a tick that are compared
+
+
+def names(nodes, edges, watches):
+    return {"node": [f"n{i}" for i in range(nodes)], "edge": [f"e{i}" for i in range(edges)], "watch": [f"w{i}" for i in range(watches)]}
+
+
 
 # What a word in angles stands for. The forms after the bar may hold one another, down to a depth. Some labels are of nodes and edges.
 FORMS = {
@@ -31,14 +41,16 @@ FORMS = {
     "axis": ["N", "P", "F", "B", "N[0,2]", "F/F"],
     "path": ["FWD/:<label>/FWD", "BWD/:<label>/BWD", "F/:<label>/F", *["F/{<equal>}/F"] * 3, "NEXT", "PREV", "N", "N/{<equal>}/P", "NEXT[0,3]",
              "PREV*", "{<leaf>}", "|", "<path>/<path>", "(<path> + <path>)", "(<path>)[0,2]", "(<path>)[1,_]", "(<path>/NEXT*)", "{<test>}"],
-    "filter": ["", "", ":<node_label>", ":<node_label> {<test>}", " {<test>}"],
+    "filter": ["", ":<node_label>", ":<node_label>", ":<node_label> {<test>}", " {<test>}"],
     "query": ["MATCH (x<filter>)", *["MATCH (x<filter>)-/<path>/-(y<filter>)"] * 3, "MATCH (x<filter>)-/<path>/-(<filter>)",
               "MATCH (<filter>)-/<path>/-(y<filter>)"],
     "span": [f"0 {LAST}"] * 12 + [f"{low} {high}" for low in range(LAST + 1) for high in range(low, LAST + 1, 2)]
             + [f"-1 {LAST}", f"{LAST} {LAST + 2}"],
     "early": ["0", "0", "-1", "-2"], "late": [str(LAST), str(LAST + 1), str(LAST + 2)],
-    "moment": [str(t) for t in range(LAST + 1)], **NAMES,
+    "moment": [str(t) for t in range(LAST + 1)],
+    "one_or_more": ["<label>", "<label>,<label>", "<label>,<label>,<label>"],
 }
+FEW, MANY = names(6, 5, 6), names(16, 20, 32)
 # What follows the name of an edit of an object.
 MORE = {"set": " <property> <value> <span>", "unset": " <property> <span>", "live": " <span>", "gone": " <span>", "drop": ""}
 
@@ -46,10 +58,10 @@ MORE = {"set": " <property> <value> <span>", "unset": " <property> <span>", "liv
 class Draw:
     """Draws the lines of a script. It guesses which names stand, so that most edits are accepted."""
 
-    def __init__(self, seed):
-        self.random = random.Random(seed)
-        self.standing = {kind: set() for kind in NAMES}
-        self.queries = [self.text("<query>") for _ in range(5)]  # asked again and again
+    def __init__(self, seed, names=FEW, queries=5, sets=False):
+        self.random, self.names, self.sets = random.Random(seed), names, sets
+        self.standing = {kind: set() for kind in names}
+        self.queries = [self.text("<query>") for _ in range(queries)]  # asked again and again
 
     def text(self, form, deep=3):
         return re.sub(r"<(\w+)>", lambda found: self.word(found[1], deep), form)
@@ -60,10 +72,10 @@ class Draw:
         return self.text(self.random.choice(plain + more * (deep > 0)), deep - 1)
 
     def stands(self, kind):
-        return self.random.choice(sorted(self.standing[kind]) or NAMES[kind])
+        return self.random.choice(sorted(self.standing[kind]) or self.names[kind])
 
     def declared(self, kind):
-        name = self.random.choice(sorted(set(NAMES[kind]) - self.standing[kind]) or NAMES[kind])
+        name = self.random.choice(sorted(set(self.names[kind]) - self.standing[kind]) or self.names[kind])
         self.standing[kind] |= {name}
         return name
 
@@ -76,7 +88,7 @@ class Draw:
         if kind in ("node", "edge"):
             ends = f" {self.stands('node')} {self.stands('node')}" * (kind == "edge")
             name = self.declared(kind)
-            return [self.text(f"{kind} {name} <{kind}_label>{ends}"), self.text(f"live {name} <span>")]
+            return [self.text(f"{kind} {name} <{'one_or_more' if self.sets else kind + '_label'}>{ends}"), self.text(f"live {name} <span>")]
         if kind == "extend":
             return [self.text("extend <early> <late>")]
         other = self.random.choice(["node", "edge", "edge"])
@@ -100,9 +112,29 @@ class Draw:
             lines += [f"ask {query}" for query in self.queries] * (self.random.random() < 0.4)
         return lines
 
+    def great(self):
+        """A question of nearly 1,000 terms, most of which no other has."""
+        paths = ["/".join(f"{{risk = 'v{self.random.getrandbits(60)}'}}" for _ in range(30)) for _ in range(16)]
+        return "ask MATCH (x {" + " OR ".join(f"?({path})" for path in paths) + "})"
 
-def run(program, limit, lines):
-    ran = subprocess.run([program, "--max-rows", str(limit)], input="\n".join(lines).encode(), capture_output=True, timeout=600)
+    def long_script(self, edits, great):
+        lines = [f"graph g 0 {LAST}"]
+        for kind in ["node"] * 12 + ["edge"] * 12:
+            lines += self.edits(kind)
+        lines += [f"watch {self.declared('watch')} {query}" for query in self.queries]
+        made = 0
+        while made < edits:
+            quiet = [line for _ in range(min(QUIET, edits - made)) for line in self.edits()][:edits - made]
+            made += len(quiet)
+            lines += [*quiet, *(self.great() for _ in range(5 * great)), self.other("tick")]
+            for _ in range(6):
+                lines += [*self.edits(), *self.edits()][:self.random.choice([1, 1, 2])]
+                lines += [self.other("show", "show", "ask"), *([self.other("unwatch"), self.other("watch")] * (self.random.random() < 0.1))]
+        return lines
+
+
+def run(program, limit, script):
+    ran = subprocess.run([program, "--max-rows", str(limit)], input=script, capture_output=True, timeout=600)
     if ran.returncode not in (0, 1):
         raise SystemExit(f"the program ended with {ran.returncode}")
     return ran.stdout.decode().splitlines()
@@ -120,81 +152,100 @@ def points(rows, numbers):
     return found
 
 
-class Trial:
-    """One script, read along its output."""
+class Differs(Exception):
+    pass
 
-    def __init__(self, program, limit, lines):
-        self.program, self.limit, self.lines = program, limit, lines
-        self.output = run(program, limit, lines)
-        self.edits, self.numbers = [], {}  # accepted so far; of each name a number of the last object declared
-        self.watches = {}  # of each name its query, its base, and the numbers of names at that time
-        self.replies, self.wrong = 0, []
+
+class Trial:
+    """One script, read along its output as far as the first reply that differs."""
+
+    def __init__(self, program, fresh, limit, lines, compared):
+        self.program, self.limit, self.lines, self.compared = fresh, limit, lines, compared
+        self.output, self.at = run(program, limit, "\n".join(lines).encode()), 0
+        self.random = random.Random(len(self.output))
+        self.edits, self.numbers = bytearray(), {}  # accepted so far; of each name a number of the last object declared
+        self.watches = {}  # of each name its query; where its base was found how long the edits were, and the numbers of names
+        self.replies = 0
 
     def take(self, count):
-        taken, self.output = self.output[:count], self.output[count:]
+        taken = self.output[self.at:self.at + count]
+        self.at += count
         return taken
 
-    def fresh(self, query):
-        """The reply of a fresh run: that it is wide or how many rows it has, and these."""
-        head, *rows = run(self.program, self.limit, [*self.edits, f"ask {query}"])
+    def fresh(self, query, size):
+        """The reply of a fresh run behind so many bytes of edits: that it is wide or how many rows it has, and these."""
+        head, *rows = run(self.program, self.limit, bytes(self.edits[:size]) + f"ask {query}".encode())
         return head.split(" ", 2)[2], rows
 
     def check(self, number, got, wanted):
         self.replies += 1
         if got != wanted:
-            self.wrong.append(f"line {number} {self.lines[number - 1]}: {got}, by fresh runs {wanted}")
+            raise Differs(f"line {number} {self.lines[number - 1]}: {got}, by fresh runs {wanted}")
 
     def answer(self, number, query):
-        told, rows = self.fresh(query)
+        told, rows = self.fresh(query, len(self.edits))
         self.check(number, self.take(1 + len(rows)), [f"line {number} {told}", *rows])
 
     def tick(self, number):
-        for name, (query, base, then) in self.watches.items():
-            told, rows = self.fresh(query)
+        here = len(self.edits), dict(self.numbers)
+        compared = self.random.sample(sorted(self.watches), min(self.compared, len(self.watches)))
+        for name, (query, base) in self.watches.items():
             head = self.take(1)
             counts = re.fullmatch(rf"tick {name} gained (\d+) lost (\d+)", "".join(head))
+            gained, lost = (self.take(int(count)) for count in counts.groups()) if counts else ([], [])
+            told, rows = self.fresh(query, here[0]) if name in compared else ("" if counts else "wide", [])
             if told == "wide" or not counts:
                 self.check(number, head, [f"tick {name} {told}"])
                 continue
-            gained, lost = (self.take(int(count)) for count in counts.groups())
-            now = points(rows, self.numbers)
-            got = points((row[2:] for row in gained), self.numbers), points((row[2:] for row in lost), then)
-            marks = "".join(row[:2] for row in gained + lost)
-            self.check(number, (marks, *got), ("+ " * len(gained) + "- " * len(lost), now - base, base - now))
-            self.watches[name] = query, now, dict(self.numbers)
+            if name in compared:
+                was, then = (points(self.fresh(query, base[0])[1], base[1]), base[1]) if base else (set(), {})
+                now = points(rows, self.numbers)
+                got = points((row[2:] for row in gained), self.numbers), points((row[2:] for row in lost), then)
+                marks = "".join(row[:2] for row in gained + lost)
+                self.check(number, (marks, *got), ("+ " * len(gained) + "- " * len(lost), now - was, was - now))
+            self.watches[name] = query, here
 
     def read(self):
         for number, line in enumerate(self.lines, 1):
             command, name, rest = (line + "  ").split(" ", 2)
-            if re.match(rf"line {number} (refused|bad) ", "".join(self.output[:1])):
+            if "".join(self.output[self.at:self.at + 1]).startswith((f"line {number} refused ", f"line {number} bad ")):
                 self.take(1)
             elif command in ("ask", "show"):
                 self.answer(number, line[4:] if command == "ask" else self.watches[name][0])
             elif command == "tick":
                 self.tick(number)
             elif command == "watch":
-                self.watches[name] = rest.strip(), set(), {}
+                self.watches[name] = rest.strip(), None
             elif command == "unwatch":
                 del self.watches[name]
             else:
-                self.edits.append(line)
+                self.edits += line.encode() + b"\n"
                 self.numbers.update({name: len(self.edits)} if command in ("node", "edge") else {})
-        self.check(len(self.lines), self.output, [])
-        return self
+        self.check(len(self.lines), self.output[self.at:], [])
 
 
 def main():
     parser = argparse.ArgumentParser()
     parser.add_argument("program")
-    for word, value in (("scripts", 200), ("from", 0), ("edits", 100)):
+    for word, value in (("scripts", 200), ("from", 0), ("edits", None)):
         parser.add_argument(f"--{word}", type=int, default=value)
+    parser.add_argument("--long", action="store_true")
+    parser.add_argument("--sets", action="store_true")
+    parser.add_argument("--fresh")
     options = vars(parser.parse_args())
+    is_long, program = options["long"], options["program"]
     replies = differ = 0
     for seed in range(options["from"], options["from"] + options["scripts"]):
-        limit = SMALL_LIMITS[seed // 2 % len(SMALL_LIMITS)] if seed % 2 else 100_000
-        trial = Trial(options["program"], limit, Draw(seed).script(options["edits"])).read()
-        replies, differ = replies + trial.replies, differ + len(trial.wrong)
-        print("".join(f"seed {seed}, --max-rows {limit}: {wrong}\n" for wrong in trial.wrong[:3]), end="")
+        limit = SMALL_LIMITS[seed // 2 % len(SMALL_LIMITS)] * (10 if is_long else 1) if seed % 2 else 100_000
+        draw = Draw(seed, *((MANY, 32) if is_long else (FEW, 5)), options["sets"])
+        lines = draw.long_script(options["edits"] or 10_000, seed % 10 == 0) if is_long else draw.script(options["edits"] or 100)
+        trial = Trial(program, options["fresh"] or program, limit, lines, COMPARED if is_long else 32)
+        try:
+            trial.read()
+        except Differs as wrong:
+            differ += 1
+            print(f"seed {seed}, --max-rows {limit}: {wrong}", flush=True)
+        replies += trial.replies
     print(f"{options['scripts']} scripts, {replies} replies, {differ} differ")
     return 1 if differ else 0
 
