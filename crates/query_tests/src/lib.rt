@@ -2,6 +2,8 @@
 #![tactic(auto)]
 
 #[cfg(test)]
+mod of_arrivals;
+#[cfg(test)]
 mod of_band_normal;
 #[cfg(test)]
 mod of_itpg_run;

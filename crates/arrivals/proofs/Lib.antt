@@ -1,0 +1,11 @@
+pub mod Pushing
+pub mod Ups
+pub mod Turning
+pub mod Sizes
+pub mod CountLaws
+pub mod Rests
+pub mod Sweep
+pub mod Swept
+pub mod Choosing
+pub mod Existing
+pub mod CountExists

@@ -1,0 +1,12 @@
+use Rattle.relation_rows.specs.Rows.{RowsHold}
+use Rattle.relation_rows.specs.Relations.{ItemsHold}
+use Rattle.relation_rows.proofs.Giving.{gives_alike}
+use Rattle.arrivals.specs.Firsts.{Latest}
+use Rattle.arrivals.proofs.Choosing.{chosen_latest}
+use Rattle.arrivals.proofs.picking.last.Goals as goal
+
+pub returns : goal.returns
+returns c = gives_alike (ItemsHold c.in_ok-items.items.items) (Latest (RowsHold c.args.rel.now))
+    (λ x y h. (chosen_latest (RowsHold c.args.rel.now) x y).0 ((c.in_ok-items.ensures x y).0 h))
+    (λ x y h. (c.in_ok-items.ensures x y).1 ((chosen_latest (RowsHold c.args.rel.now) x y).1 h))
+    c.args.max_rows c.from_zones.result c.from_zones.ensures

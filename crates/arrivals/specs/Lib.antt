@@ -1,0 +1,4 @@
+pub mod Firsts
+pub mod Choosing
+pub mod Counting
+pub mod Sweeping
