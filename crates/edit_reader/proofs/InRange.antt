@@ -1,8 +1,7 @@
 -- The numbers of a line that has no fault are moments, and its labels a set.
-use Rattle.std.proofs.Common.{arith, ◌≡◌, inl, inr, ℕ, List, [], ◌∷◌, Bool, true, false, Option, Some, None, Result, Ok, Err, refl, sym, subst}
+use Rattle.std.proofs.Common.{◌≡◌, inl, inr, ℕ, List, [], ◌∷◌, Bool, true, false, Option, Some, None, Result, Ok, Err, refl, sym, subst}
 use Rattle.std.specs.Prelude.{IfOk, slice_get}
 use Rattle.std.specs.Option.{option_and_then, option_map_or}
-use Rattle.itpg_base.specs.Words.{IsLabels}
 use Rattle.itpg_base.specs.Spans.{IsMoment}
 use Rattle.itpg_base.specs.declared.text_code.TextCode.{TextCode}
 use Rattle.script_lex.specs.Lexemes.{Lexeme, AWord, ANumber, AQuote}
@@ -18,6 +17,8 @@ use Rattle.edit_reader.specs.Lines.{ReadsAs, TakenAs}
 use Rattle.edit_reader.specs.Moments.{AsksOfMoments, AsksForLabels}
 use Rattle.edit_reader.specs.Steps.{is_near}
 use Rattle.edit_reader.proofs.PartFaults.{near_moment, far_moment}
+use Rattle.edit_reader.specs.Labels.{listed}
+use Rattle.edit_reader.proofs.LabelForms.{node_moments, edge_moments, node_labels, edge_labels}
 
 -- a number that isn't no moment is one
 moment_there : (number : List ℕ) → ¬ (¬ IsMoment (number_value number)) → IsMoment (number_value number)
@@ -37,8 +38,8 @@ same_moments {a = a} {b = b} e moments = let same : a ≡ b = cc in subst AsksOf
 form_moments : (text : ℕ → List ℕ) (command : Command) (parts : List Lexeme) (reading : Reading) → form text command parts ≡ Some reading → ¬ HasFarNumber (before_query command parts) → AsksOfMoments reading
 form_moments text Command.Graph (AWord name ∷ ANumber a ∷ ANumber b ∷ []) reading e none = same_moments e (two_there a b none)
 form_moments text Command.Extend (ANumber a ∷ ANumber b ∷ []) reading e none = same_moments e (two_there a b none)
-form_moments text Command.Node (AWord id ∷ AWord label ∷ []) reading e none = same_moments e tt
-form_moments text Command.Edge (AWord id ∷ AWord label ∷ AWord source ∷ AWord target ∷ []) reading e none = same_moments e tt
+form_moments text Command.Node (AWord id ∷ rest) reading e none = node_moments id (listed 8 rest) reading e
+form_moments text Command.Edge (AWord id ∷ rest) reading e none = edge_moments id (listed 8 rest) reading e
 form_moments text Command.Live (AWord id ∷ ANumber a ∷ ANumber b ∷ []) reading e none = same_moments e (two_there a b none)
 form_moments text Command.Gone (AWord id ∷ ANumber a ∷ ANumber b ∷ []) reading e none = same_moments e (two_there a b none)
 form_moments text Command.Set (AWord id ∷ AWord prop ∷ AQuote value ∷ ANumber a ∷ ANumber b ∷ []) reading e none = same_moments e (two_there a b none)
@@ -74,14 +75,11 @@ told_moments line (Err code) taken = tt
 same_labels : {a b : Reading} → Some a ≡ Some b → AsksForLabels a → AsksForLabels b
 same_labels {a = a} {b = b} e labels = let same : a ≡ b = cc in subst AsksForLabels same labels
 
-one_label : (label : List ℕ) → IsLabels (label ∷ [])
-one_label label = record { some = omega arith; few = omega arith; rising = (tt, tt) }
-
 form_labels : (text : ℕ → List ℕ) (command : Command) (parts : List Lexeme) (reading : Reading) → form text command parts ≡ Some reading → AsksForLabels reading
 form_labels text Command.Graph (AWord name ∷ ANumber a ∷ ANumber b ∷ []) reading e = same_labels e tt
 form_labels text Command.Extend (ANumber a ∷ ANumber b ∷ []) reading e = same_labels e tt
-form_labels text Command.Node (AWord id ∷ AWord label ∷ []) reading e = same_labels e (one_label label)
-form_labels text Command.Edge (AWord id ∷ AWord label ∷ AWord source ∷ AWord target ∷ []) reading e = same_labels e (one_label label)
+form_labels text Command.Node (AWord id ∷ rest) reading e = node_labels id rest (listed 8 rest) refl reading e
+form_labels text Command.Edge (AWord id ∷ rest) reading e = edge_labels id rest (listed 8 rest) refl reading e
 form_labels text Command.Live (AWord id ∷ ANumber a ∷ ANumber b ∷ []) reading e = same_labels e tt
 form_labels text Command.Gone (AWord id ∷ ANumber a ∷ ANumber b ∷ []) reading e = same_labels e tt
 form_labels text Command.Set (AWord id ∷ AWord prop ∷ AQuote value ∷ ANumber a ∷ ANumber b ∷ []) reading e = same_labels e tt

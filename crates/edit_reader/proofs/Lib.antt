@@ -8,7 +8,10 @@ pub mod Ordered
 pub mod PartFaults
 pub mod PartSteps
 pub mod PartsTaken
+pub mod LabelSets
+pub mod LabelLists
 pub mod Firsts
 pub mod Whole
 pub mod LongLines
+pub mod LabelForms
 pub mod InRange

@@ -1,12 +1,14 @@
 -- How reading goes on behind the parts that are there, and that it stops at those that aren't.
-use Rattle.std.proofs.Common.{◌≡◌, inl, inr, ℕ, ℤ, List, [], ◌∷◌, Bool, true, false, Err, refl, sym, ap, ◌∙◌}
+use Rattle.std.proofs.Common.{◌≡◌, inl, inr, ℕ, ℤ, List, [], ◌∷◌, Bool, true, false, Option, Err, refl, sym, ap, ◌∙◌}
 use Rattle.itpg_base.specs.Words.{Word}
 use Rattle.itpg_base.specs.declared.text_code.TextCode.{TextCode}
 use Rattle.script_lex.specs.Lexemes.{Lexeme, AWord, ANumber, AQuote, AMark}
 use Rattle.script_lex.specs.Lines.{Placed}
 use Rattle.edit_reader.specs.Forms.{lexemes}
-use Rattle.edit_reader.specs.Steps.{Told, word_then, number_then, quoted_then, end_then, is_near, moment_then, name_then, span_then, name_and_span_then, only_name_then}
-use Rattle.edit_reader.specs.Taken.{NoWord, NoNumber, NoQuoted, AreSpan, NoSpan, AreNameAndSpan, NoNameAndSpan, IsOnlyName, NoOnlyName}
+use Rattle.edit_reader.specs.Steps.{Told, word_then, number_then, quoted_then, end_then, labels_then, is_near, moment_then, name_then, span_then, name_and_span_then, only_name_then}
+use Rattle.edit_reader.specs.Taken.{NoWord, NoNumber, NoQuoted, AreListed, NoneListed, AreSpan, NoSpan, AreNameAndSpan, NoNameAndSpan, IsOnlyName, NoOnlyName}
+use Rattle.std.specs.Option.{option_map_or}
+use Rattle.edit_reader.specs.Labels.{Listed}
 use Rattle.edit_reader.proofs.PartFaults.{near_moment, at_moment, at_none, named, overlong}
 
 module _ {code : TextCode} where
@@ -39,6 +41,13 @@ module _ {code : TextCode} where
 
 pub goes_to_end : (tokens : List Placed) → tokens ≡ [] → (go_on : Told) → end_then (lexemes tokens) go_on ≡ go_on
 goes_to_end tokens e go_on = ap (λ (ts : List Placed). end_then (lexemes ts) go_on) e
+
+-- a list of labels
+pub labels_step : {line left : List ℕ} {at : ℕ} {tokens : List Placed} (a : AreListed line 8 tokens left at) (go_on : List Word → List Lexeme → Told) → labels_then (lexemes tokens) go_on ≡ go_on a.words (lexemes a.rest)
+labels_step a go_on = ap (λ (o : Option Listed). option_map_or (λ l. go_on l.words l.rest) o (Err TextCode.Text)) a.are
+
+pub stops_at_labels : (tokens : List Placed) {code : TextCode} → NoneListed 8 tokens code → (go_on : List Word → List Lexeme → Told) → labels_then (lexemes tokens) go_on ≡ Err code
+stops_at_labels tokens is go_on = ap (λ (o : Option Listed). option_map_or (λ l. go_on l.words l.rest) o (Err TextCode.Text)) is.1 ∙ ap Err (sym is.0)
 
 -- two numbers
 pub goes_on_span : (parts : List Lexeme) {from to : ℤ} → AreSpan parts from to → (go_on : ℤ → ℤ → Told) → span_then parts go_on ≡ go_on from to

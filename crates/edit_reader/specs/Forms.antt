@@ -1,6 +1,8 @@
 -- The forms of a line.
 use Rattle.std.specs.Prelude.{ℕ, List, [], ◌∷◌, map, drop, take, Option, Some, None, slice_get}
 use Rattle.std.specs.Option.{option_and_then, option_map_or}
+use Rattle.itpg_base.specs.Words.{Word}
+use Rattle.itpg_base.specs.declared.label_set.TheConstants.{MAX_LABELS}
 use Rattle.itpg_edit.specs.declared.edit.Edit.{Edit}
 use Rattle.script_lex.specs.Lexemes.{Lexeme, AWord, ANumber, AQuote}
 use Rattle.script_lex.specs.Lines.{Placed}
@@ -8,14 +10,24 @@ use Rattle.script_lex.specs.Numbers.{number_value}
 use Rattle.edit_reader.specs.declared.command.Command.{Command}
 use Rattle.edit_reader.specs.Readings.{Reading, Changes, Asks, Watches, Shows, Unwatches, Ticks}
 use Rattle.edit_reader.specs.Commands.{command_at}
+use Rattle.edit_reader.specs.Labels.{listed, set_of}
+
+-- a node or an edge of these labels, with the tokens behind the labels
+abbrev pub node_form : Word → List Word → List Lexeme → Option Reading
+node_form id labels [] = Some (Changes (Edit.AddNode id (set_of labels)))
+node_form id labels _ = None
+
+abbrev pub edge_form : Word → List Word → List Lexeme → Option Reading
+edge_form id labels (AWord source ∷ AWord target ∷ []) = Some (Changes (Edit.AddEdge id (set_of labels) source target))
+edge_form id labels _ = None
 
 -- what stands behind each command word, token by token, and what the line then asks for; no other tokens are a form.
 -- `text n` is the text of the line behind the token with the number n, where the command word has the number 0
 abbrev pub form : (ℕ → List ℕ) → Command → List Lexeme → Option Reading
 form text Command.Graph (AWord name ∷ ANumber lo ∷ ANumber hi ∷ []) = Some (Changes (Edit.Begin name (number_value lo) (number_value hi)))
 form text Command.Extend (ANumber lo ∷ ANumber hi ∷ []) = Some (Changes (Edit.Extend (number_value lo) (number_value hi)))
-form text Command.Node (AWord id ∷ AWord label ∷ []) = Some (Changes (Edit.AddNode id (label ∷ [])))
-form text Command.Edge (AWord id ∷ AWord label ∷ AWord source ∷ AWord target ∷ []) = Some (Changes (Edit.AddEdge id (label ∷ []) source target))
+form text Command.Node (AWord id ∷ rest) = option_and_then (λ l. node_form id l.words l.rest) (listed MAX_LABELS rest)
+form text Command.Edge (AWord id ∷ rest) = option_and_then (λ l. edge_form id l.words l.rest) (listed MAX_LABELS rest)
 form text Command.Live (AWord id ∷ ANumber from ∷ ANumber to ∷ []) = Some (Changes (Edit.Live id (number_value from) (number_value to)))
 form text Command.Gone (AWord id ∷ ANumber from ∷ ANumber to ∷ []) = Some (Changes (Edit.Gone id (number_value from) (number_value to)))
 form text Command.Set (AWord id ∷ AWord prop ∷ AQuote value ∷ ANumber from ∷ ANumber to ∷ []) =

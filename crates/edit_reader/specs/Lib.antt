@@ -1,3 +1,4 @@
+pub mod Labels
 pub mod Readings
 pub mod Commands
 pub mod Forms

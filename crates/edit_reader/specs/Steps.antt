@@ -3,6 +3,9 @@ use Rattle.std.specs.Prelude.{ℤ, ℕ, nat_le, Bool, List, [], ◌∷◌, lengt
 use Rattle.std.specs.Str.Parse.{digits_value}
 use Rattle.itpg_base.specs.Words.{Word}
 use Rattle.itpg_base.specs.declared.text_code.TextCode.{TextCode}
+use Rattle.std.specs.Option.{option_map_or}
+use Rattle.itpg_base.specs.declared.label_set.TheConstants.{MAX_LABELS}
+use Rattle.edit_reader.specs.Labels.{listed, set_of}
 use Rattle.itpg_base.specs.declared.name.TheConstants.{MAX_NAME}
 use Rattle.script_lex.specs.declared.numbers.TheConstants.{MAX_NUMBER}
 use Rattle.itpg_edit.specs.declared.edit.Edit.{Edit}
@@ -59,9 +62,22 @@ name_and_span_then parts go_on = word_then parts (λ id behind. span_then behind
 abbrev pub only_name_then : List Lexeme → (Word → Told) → Told
 only_name_then parts go_on = word_then parts (λ id behind. end_then behind (name_then id go_on))
 
--- four texts that are short enough for names
-abbrev pub edge_names_then : Word → Word → Word → Word → (Word → Word → Word → Word → Told) → Told
-edge_names_then id label source target go_on = name_then id (λ a. name_then label (λ b. name_then source (λ s. name_then target (λ t. go_on a b s t))))
+-- a list of labels
+abbrev pub labels_then : List Lexeme → (List Word → List Lexeme → Told) → Told
+labels_then parts go_on = option_map_or (λ l. go_on l.words l.rest) (listed MAX_LABELS parts) (Err TextCode.Text)
+
+-- texts that are short enough for names
+abbrev pub names_then : List Word → Told → Told
+names_then [] go_on = go_on
+names_then (word ∷ rest) go_on = name_then word (λ name. names_then rest go_on)
+
+-- the names of a node or an edge
+abbrev pub node_names_then : Word → List Word → Told
+node_names_then id words = name_then id (λ a. names_then words (Ok (Changes (Edit.AddNode a (set_of words)))))
+
+abbrev pub edge_names_then : Word → List Word → Word → Word → Told
+edge_names_then id words source target =
+    name_then id (λ a. names_then words (name_then source (λ s. name_then target (λ t. Ok (Changes (Edit.AddEdge a (set_of words) s t))))))
 
 -- the forms of a line, behind their command words
 abbrev pub begin_told : List Lexeme → Told
@@ -71,12 +87,11 @@ abbrev pub extend_told : List Lexeme → Told
 extend_told parts = span_then parts (λ lo hi. Ok (Changes (Edit.Extend lo hi)))
 
 abbrev pub node_told : List Lexeme → Told
-node_told parts =
-    word_then parts (λ id behind. word_then behind (λ label rest. end_then rest (name_then id (λ a. name_then label (λ b. Ok (Changes (Edit.AddNode a (b ∷ []))))))))
+node_told parts = word_then parts (λ id behind. labels_then behind (λ words rest. end_then rest (node_names_then id words)))
 
 abbrev pub edge_told : List Lexeme → Told
 edge_told parts =
-    word_then parts (λ id p. word_then p (λ label q. word_then q (λ source r. word_then r (λ target rest. end_then rest (edge_names_then id label source target (λ a b s t. Ok (Changes (Edit.AddEdge a (b ∷ []) s t))))))))
+    word_then parts (λ id p. labels_then p (λ words q. word_then q (λ source r. word_then r (λ target rest. end_then rest (edge_names_then id words source target)))))
 
 abbrev pub live_told : List Lexeme → Told
 live_told parts = name_and_span_then parts (λ id from to. Ok (Changes (Edit.Live id from to)))

@@ -1,9 +1,12 @@
 -- Tokens taken from the front of what is left: no public clause names what stands here.
-use Rattle.std.specs.Prelude.{◌≡◌, ◌⊎◌, ℕ, ◌<◌, ◌≤◌, ℤ, List, [], ◌∷◌, length, None}
+use Rattle.std.specs.Prelude.{◌≡◌, ◌⊎◌, ℕ, ◌<◌, ◌≤◌, ℤ, List, [], ◌∷◌, length, Some, None, Result, MatchResult}
 use Rattle.itpg_base.specs.Spans.{IsMoment}
 use Rattle.itpg_base.specs.Words.{Word}
 use Rattle.itpg_base.specs.declared.name.TheConstants.{MAX_NAME}
 use Rattle.itpg_base.specs.declared.text_code.TextCode.{TextCode}
+use Rattle.itpg_base.specs.declared.label_set.TheConstants.{MAX_LABELS}
+use Rattle.edit_reader.specs.Forms.{lexemes}
+use Rattle.edit_reader.specs.Labels.{Listed, listed, behind_comma, set_of, AreShort}
 use Rattle.script_lex.specs.Lexemes.{Lexeme, AWord, ANumber, AQuote}
 use Rattle.script_lex.specs.Lines.{Placed, AreTokens}
 use Rattle.script_lex.specs.Numbers.{number_value}
@@ -80,3 +83,27 @@ IsOnlyName _ name = ⊥
 abbrev pub NoOnlyName : List Lexeme → TextCode → Type 0
 NoOnlyName (AWord word ∷ []) code = IsLong word code
 NoOnlyName _ code = code ≡ TextCode.Text
+
+-- what stands behind a comma that comes first among these tokens of the line is left in the line `left` from `at` on
+pub record IsBehindComma (line : List ℕ) (tokens : List Placed) (left : List ℕ) (at : ℕ) : Type 0 where
+  pub rest : List Placed
+  pub comma : behind_comma (lexemes tokens) ≡ Some (lexemes rest)
+  pub same : left ≡ line
+  pub behind : AreTokens left at rest None
+
+-- a list of at most n labels comes first, and what stands behind it is left
+pub record AreListed (line : List ℕ) (n : ℕ) (tokens : List Placed) (left : List ℕ) (at : ℕ) : Type 0 where
+  pub words : List Word
+  pub rest : List Placed
+  pub are : listed n (lexemes tokens) ≡ Some (record { words = words; rest = lexemes rest })
+  pub same : left ≡ line
+  pub behind : AreTokens left at rest None
+
+-- no list of at most n labels comes first
+abbrev pub NoneListed : ℕ → List Placed → TextCode → Type 0
+NoneListed n tokens code = (code ≡ TextCode.Text) × (listed n (lexemes tokens) ≡ None)
+
+-- where a list of labels comes first, the answer is its set, or that some label is too long
+abbrev pub AreLabels : List Placed → Result (List Word) TextCode → Type 0
+AreLabels tokens result = (l : Listed) → listed MAX_LABELS (lexemes tokens) ≡ Some l →
+    MatchResult result (λ set. AreShort l.words × (set ≡ set_of l.words)) (λ code. (code ≡ TextCode.Name) × (¬ AreShort l.words))

@@ -4,7 +4,7 @@ ghost use Rattle.edit_reader.specs.Answers.{Tells};
 
 use crate::line::Line;
 use crate::parts::{Parts, name};
-use itpg_base::{LabelSet, TextCode};
+use itpg_base::TextCode;
 use itpg_edit::Edit;
 
 // `NAME LO HI`
@@ -23,29 +23,29 @@ pub(crate) fn extend(parts: Parts<'_>) -> Result<Line<'_>, TextCode>
     Ok(Line::Edit(Edit::Extend { lo, hi }))
 }
 
-// `ID LABEL`
+// `ID LABELS`
 pub(crate) fn node(parts: Parts<'_>) -> Result<Line<'_>, TextCode>
     ensures { Tells parts.entry.line.now parts.entry.at node_told result }
 {
-    let (id, rest) = parts.word()?;
-    let (label, rest) = rest.word()?;
+    let (id, listed) = parts.word()?;
+    let rest = listed.behind_labels()?;
     rest.end()?;
     let id = name(id)?;
-    let labels = LabelSet::one(name(label)?);
+    let labels = listed.labels()?;
     Ok(Line::Edit(Edit::AddNode { id, labels }))
 }
 
-// `ID LABEL SRC TGT`
+// `ID LABELS SRC TGT`
 pub(crate) fn edge(parts: Parts<'_>) -> Result<Line<'_>, TextCode>
     ensures { Tells parts.entry.line.now parts.entry.at edge_told result }
 {
-    let (id, rest) = parts.word()?;
-    let (label, rest) = rest.word()?;
+    let (id, listed) = parts.word()?;
+    let rest = listed.behind_labels()?;
     let (source, rest) = rest.word()?;
     let (target, rest) = rest.word()?;
     rest.end()?;
     let id = name(id)?;
-    let labels = LabelSet::one(name(label)?);
+    let labels = listed.labels()?;
     let source = name(source)?;
     let target = name(target)?;
     Ok(Line::Edit(Edit::AddEdge {

@@ -8,6 +8,7 @@
 mod command;
 mod edits;
 mod faults;
+mod labels;
 mod laws;
 mod line;
 mod parts;

@@ -5,7 +5,7 @@ use itpg_edit::Edit;
 /// What a script line asks for. A query text is a part of the line.
 ///
 /// ```text
-///     node a Person                    Edit: AddNode { id: a, labels: {Person} }
+///     node a Staff,Person              Edit: AddNode { id: a, labels: {Person, Staff} }
 ///     ask MATCH (x:Person)             Ask:  " MATCH (x:Person)"
 ///     watch w MATCH (x:Person)         Watch w, " MATCH (x:Person)"
 /// ```

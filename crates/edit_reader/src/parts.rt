@@ -33,7 +33,7 @@ impl<'a> Parts<'a> {
     }
 
     // The token that comes first, and what stands behind it.
-    fn token(self) -> Option<(What<'a>, Parts<'a>)>
+    pub(crate) fn token(self) -> Option<(What<'a>, Parts<'a>)>
         ensures token { OfRest self.entry.line.now self.entry.at (λ tokens.
             MatchOption result (tokens ≡ []) (λ r. IsTaken self.entry.line.now tokens (lexeme r.0) r.1.line.now r.1.at)) }
         ensures number { IfSome result (λ r. HasNumber (lexeme r.0)) }

@@ -38,7 +38,8 @@ pub const MAX_LINE: usize = 65_536;
 /// - `Long`: more than `MAX_LINE` bytes, without the CR.
 /// - `Byte`: a byte with which no token begins, or that may not stand in a quoted text, wherever it stands.
 /// - `Tokens`: more than `MAX_TOKENS` tokens.
-/// - `Text`: a quoted text that isn't closed, or tokens that are none of the forms.
+/// - `Text`: a quoted text that isn't closed, or tokens that are none of the forms. A label of a `node` or an `edge` is one
+///   to `MAX_LABELS` words parted by commas, of which equal ones count once.
 /// - `Number`: a number of the form further from zero than `MAX_NUMBER`.
 /// - `Name`: a word or a quoted text of the form longer than `MAX_NAME` bytes.
 ///

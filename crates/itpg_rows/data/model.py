@@ -265,8 +265,8 @@ def fault_of_parts(tokens):
 # The graph, moment by moment
 
 class Object:
-    def __init__(self, name, label, ends=None):
-        self.name, self.label, self.ends = name, label, ends
+    def __init__(self, name, labels, ends=None):
+        self.name, self.labels, self.ends = name, frozenset(labels), ends
         self.stands, self.lives, self.values = True, set(), {}
 
 
@@ -332,18 +332,18 @@ class Graph:
         refuse("narrow", low > self.horizon[0] or high < self.horizon[1])
         self.horizon = low, high
 
-    def node(self, name, label):
+    def node(self, name, labels):
         refuse("taken", self.find(name) is not None)
         refuse("full", len(self.objects) >= 200_000)
-        self.add(name, label)
+        self.add(name, labels)
 
-    def edge(self, name, label, source, target):
+    def edge(self, name, labels, source, target):
         refuse("taken", self.find(name) is not None)
         ends = (self.find(source), self.find(target))
         refuse("unknown", None in ends)
         refuse("kind", any(self.objects[end].ends for end in ends))
         refuse("full", len(self.objects) >= 200_000)
-        self.add(name, label, ends)
+        self.add(name, labels, ends)
 
     def live(self, name, low, high):
         it = self.known(name)
@@ -409,7 +409,7 @@ class Meaning:
         if kind == "node" or kind == "edge":
             return (it.ends is None) == (kind == "node")
         if kind == "label":
-            return it.label == test[1]
+            return test[1] in it.labels
         if kind == "value":
             return it.values.get(test[1], {}).get(t) == test[2]
         if kind == "before":
@@ -597,7 +597,8 @@ def assert_normal(found, rows):
 # Scopes and worked members
 
 def meet(a, b):
-    return b if a is ALL else a if b is ALL else a & b
+    """Of two lists the first: an object may have a label of each, so their common labels aren't what is within both."""
+    return b if a is ALL else a
 
 
 def join(a, b):
@@ -652,7 +653,7 @@ def members(path, a, b):
     """The worked members of a path between two scopes: paths, each between two scopes."""
     a, b = meet(a, scope(path, 0)), meet(b, scope(path, 1))
     if keeps(path):
-        a = b = meet(a, b)
+        a, b = meet(a, b), meet(b, a)
     yield path, a, b
     if path[0] == "test":
         for condition in conditions(path[1]):
@@ -681,10 +682,25 @@ def members(path, a, b):
 # Lines and replies
 
 FORMS = {
-    "graph": "nii", "extend": "ii", "node": "nn", "edge": "nnnn", "live": "nii", "gone": "nii", "set": "nnqii", "unset": "nnii", "drop": "n",
+    "graph": "nii", "extend": "ii", "node": "nl", "edge": "nlnn", "live": "nii", "gone": "nii", "set": "nnqii", "unset": "nnii", "drop": "n",
     "ask": None, "watch": "n", "show": "n", "unwatch": "n", "tick": "",
 }
 KINDS = {"word": "n", "number": "i", "quoted": "q"}
+LABELS = "n(?:,n){0,7}"  # one to eight words parted by commas
+
+
+def kinds_of(tokens):
+    """A letter for the kind of each token, or the mark itself."""
+    return "".join(KINDS.get(kind, text) for kind, text in tokens)
+
+
+def values_of(command, parts):
+    """What the form says: numbers and texts, and the labels of a node or an edge as a list behind its name."""
+    values = [int(text) if kind == "number" else text for kind, text in parts]
+    if command not in ("node", "edge"):
+        return values
+    commas = values.count(",")
+    return [values[0], values[1:2 * commas + 2:2], *values[2 * commas + 2:]]
 
 
 class Watch:
@@ -720,7 +736,7 @@ class Machine:
             refuse("graphname", query[3] is not None and query[3] != self.graph.name)
         if command == "ask":
             return self.answer(number, query)
-        values = [int(text) if kind == "number" else text for kind, text in parts]
+        values = values_of(command, parts)
         if command == "watch":
             return self.watch(*values, query)
         if command == "show":
@@ -741,7 +757,7 @@ class Machine:
             return [], rest
         if command == "watch" and rest and rest[0][0] == "word":
             return rest[:1], rest[1:]
-        if "".join(KINDS.get(kind, "-") for kind, _ in rest) != FORMS[command] or command == "watch":
+        if command == "watch" or not re.fullmatch(FORMS[command].replace("l", LABELS), kinds_of(rest)):
             raise Fault("text")
         return rest, None
 
@@ -807,7 +823,7 @@ class Machine:
     def is_wide(self, meaning, path, a, b):
         """Whether the relation of a path between two scopes has more normal rows than the limit."""
         def within(o, labels):
-            return labels is ALL or self.graph.objects[o].label in labels
+            return labels is ALL or bool(self.graph.objects[o].labels & labels)
         relation = meaning.of(path)
         if a is not ALL:
             relation = {x: ends for x, ends in relation.items() if within(meaning.points[x][0], a)}

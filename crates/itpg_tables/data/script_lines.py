@@ -4,13 +4,13 @@ Writes script_lines.txt. A case is the pieces of its line, then `is READING`. A 
 written COUNT times, or `byte COUNT NUMBER`, this byte COUNT times.
 
     blank                          begin NAME LO HI                   ask FROM TO
-    fault CODE                     node ID LABEL                      watch NAME FROM TO
-    show NAME                      edge ID LABEL SOURCE TARGET        put ID PROP 'VALUE' FROM TO
+    fault CODE                     node ID LABELS                     watch NAME FROM TO
+    show NAME                      edge ID LABELS SOURCE TARGET       put ID PROP 'VALUE' FROM TO
     unwatch NAME                   live ID FROM TO                    clear ID PROP FROM TO
     tick                           gone ID FROM TO                    remove ID
     extend LO HI
 
-The two numbers of a query text are its first byte's place in the line and the place behind its last.
+The labels stand by rising name, each once, with commas between them. The two numbers of a query text are its first byte's place in the line and the place behind its last.
 
 Each case of `by_hand` stands beside its reading, worked out from the rules; the reader below is by regular expressions,
 and has to agree. The last cases are made up, and have their readings from it alone.
@@ -26,8 +26,8 @@ OPEN_QUOTE = re.compile(rb"'[\x20-\x26\x28-\x7e]*\Z")
 FORMS = {
     b"graph": ("wii", "begin {} {} {}"),
     b"extend": ("ii", "extend {} {}"),
-    b"node": ("ww", "node {} {}"),
-    b"edge": ("wwww", "edge {} {} {} {}"),
+    b"node": ("wL", "node {} {}"),
+    b"edge": ("wLww", "edge {} {} {} {}"),
     b"live": ("wii", "live {} {} {}"),
     b"gone": ("wii", "gone {} {} {}"),
     b"set": ("wwqii", "put {} {} '{}' {} {}"),
@@ -37,6 +37,9 @@ FORMS = {
     b"unwatch": ("w", "unwatch {}"),
     b"tick": ("", "tick"),
 }
+
+
+LABELS = "(w(?:,w){0,7})"
 
 
 def value_of(number):
@@ -77,13 +80,19 @@ def reading_of(line):
         if len(parts[0][1]) > 64:
             return "fault name"
         return f"watch {parts[0][1].decode()} {parts[0][2]} {len(line)}"
-    if command not in FORMS or "".join(kind for kind, _, _ in parts) != FORMS[command][0]:
+    kinds = "".join(text.decode() if kind == "m" else kind for kind, text, _ in parts)
+    form = command in FORMS and re.fullmatch(FORMS[command][0].replace("L", LABELS), kinds)
+    if not form:
         return "fault text"
     if any(kind == "i" and abs(value_of(text)) > 10**12 for kind, text, _ in parts):
         return "fault number"
     if any(kind != "i" and len(text) > 64 for kind, text, _ in parts):
         return "fault name"
-    return FORMS[command][1].format(*[value_of(text) if kind == "i" else text.decode() for kind, text, _ in parts])
+    values = [value_of(text) if kind == "i" else text.decode() for kind, text, _ in parts]
+    if form.groups():
+        first, last = form.span(1)
+        values[first:last] = [",".join(sorted(set(values[first:last:2])))]
+    return FORMS[command][1].format(*values)
 
 
 A64, A65 = "a" * 64, "a" * 65
@@ -169,6 +178,42 @@ by_hand = [
     ([(1, "'tick'")], "fault text"),
     ([(1, "(tick)")], "fault text"),
     ([(1, "_tick")], "fault text"),
+    # lists of labels: one to eight words parted by commas
+    ([(1, "node a Staff,Person")], "node a Person,Staff"),
+    ([(1, "node a B , A"), (1, "\t"), (1, ",C")], "node a A,B,C"),
+    ([(1, "node a Staff,Staff")], "node a Staff"),
+    ([(1, "node a H,G,F,E,D,C,B,A")], "node a A,B,C,D,E,F,G,H"),
+    ([(1, "node a A"), (7, ",A")], "node a A"),
+    ([(1, "node a B"), (7, ",A")], "node a A,B"),
+    ([(1, "node a A,B,C,D,E,F,G,H,I")], "fault text"),
+    ([(1, "node a A"), (8, ",A")], "fault text"),
+    ([(1, "node a AB,A,a,A_,A1")], "node a A,A1,AB,A_,a"),
+    ([(1, "edge m visits,meets a b")], "edge m meets,visits a b"),
+    ([(1, "edge m meets,meets a b")], "edge m meets a b"),
+    ([(1, "edge m H,G,F,E,D,C,B,A a b")], "edge m A,B,C,D,E,F,G,H a b"),
+    ([(1, "edge m A,B,C,D,E,F,G,H,I a b")], "fault text"),
+    ([(1, "node a ,A")], "fault text"),
+    ([(1, "node a A,")], "fault text"),
+    ([(1, "node a A,,B")], "fault text"),
+    ([(1, "node a ,")], "fault text"),
+    ([(1, "node a A;B")], "fault byte"),
+    ([(1, "node a A,B C")], "fault text"),
+    ([(1, "node a A,'B'")], "fault text"),
+    ([(1, "node a A,7")], "fault text"),
+    ([(1, "node a A+B")], "fault text"),
+    ([(1, "node a,b A")], "fault text"),
+    ([(1, "edge m A,B a")], "fault text"),
+    ([(1, "edge m A, a b")], "fault text"),
+    ([(1, "edge m A,B a b c")], "fault text"),
+    ([(1, "edge m A a,b c")], "fault text"),
+    ([(1, "edge m A a b,")], "fault text"),
+    ([(1, "drop a,b")], "fault text"),
+    ([(1, f"node a A,{A64}")], f"node a A,{A64}"),
+    ([(1, f"node a A,{A65}")], "fault name"),
+    ([(1, f"node a {A65},A")], "fault name"),
+    ([(1, f"edge m A,{A65},B a b")], "fault name"),
+    ([(1, f"edge m A,{A65} a")], "fault text"),
+    ([(1, f"node a A,B,C,D,E,F,G,H,{A65}")], "fault text"),
     # too few parts, too many, and parts of another kind
     ([(1, "graph g 0")], "fault text"),
     ([(1, "graph g 0 1 2")], "fault text"),
@@ -360,7 +405,8 @@ def made_up(rng):
     number = lambda: rng.choice(["0", "-0", "7", "-12", "0042", str(MOST), str(MOST + 1), f"-{MOST}", f"-{MOST + 1}"])
     quoted = lambda: rng.choice(["''", "'v'", "'in use'", f"'{A64}'", f"'{A65}'", "'v"])
     other = lambda: rng.choice(["(", ")", ":", "/-", "-/", "-", ">=", ">", "_", "!", "#", "\t", "\r", "\x1f", "\xc3"])
-    kinds = {"w": word, "i": number, "q": quoted}
+    labels = lambda: rng.choice([",", " , ", ", "]).join(word() for _ in range(rng.choice([1, 1, 2, 3, 8, 9])))
+    kinds = {"w": word, "i": number, "q": quoted, "L": labels}
     command = rng.choice(sorted(FORMS)).decode()
     parts = [kinds[kind]() for kind in FORMS[command.encode()][0]]
     if rng.random() < 0.25:

@@ -79,7 +79,7 @@ fn describe_edit(alloc: Global, edit: &Edit) -> Result<String> {
         Edit::Begin { name, lo, hi } => Ok(format!(in alloc; "begin {} {lo} {hi}", word(name)?)?),
         Edit::Extend { lo, hi } => Ok(format!(in alloc; "extend {lo} {hi}")?),
         Edit::AddNode { id, labels } => {
-            Ok(format!(in alloc; "node {} {}", word(id)?, word(&label(labels)?)?)?)
+            Ok(format!(in alloc; "node {} {}", word(id)?, listed(alloc, labels)?)?)
         }
         Edit::AddEdge {
             id,
@@ -89,7 +89,7 @@ fn describe_edit(alloc: Global, edit: &Edit) -> Result<String> {
         } => Ok(format!(in alloc;
             "edge {} {} {} {}",
             word(id)?,
-            word(&label(labels)?)?,
+            listed(alloc, labels)?,
             word(source)?,
             word(target)?
         )?),
@@ -118,8 +118,15 @@ fn word(name: &Name) -> Result<&str> {
     Ok(str::from_utf8(name.bytes())?)
 }
 
-fn label(labels: &LabelSet) -> Result<Name> {
-    Ok(labels.get(0).context("an object without a label")?)
+// The labels by rising name, with commas between them.
+fn listed(alloc: Global, labels: &LabelSet) -> Result<String> {
+    let mut text = String::new(alloc);
+    for place in 0..labels.len() {
+        text.push_str(if place == 0 { "" } else { "," })?;
+        let label = labels.get(place).context("a place past the last label")?;
+        text.push_str(word(&label)?)?;
+    }
+    Ok(text)
 }
 
 // The places in the line of a query text that reaches to its end.
