@@ -41,6 +41,7 @@ pub mod ItemZones
 pub mod ApartRows
 pub mod RestingRows
 pub mod DirectWays
+pub mod IdleRows
 pub mod CutRows
 pub mod Neighbours
 pub mod BandWays

@@ -13,3 +13,4 @@ pub mod Minus
 pub mod Apart
 pub mod Resting
 pub mod Direct
+pub mod Idle

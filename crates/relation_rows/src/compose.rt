@@ -19,7 +19,7 @@ use crate::apart::is_apart;
 use crate::direct::direct_rows;
 use crate::gather::{gathered_of, push_zones};
 use crate::known::Known;
-use crate::offsets::{Offsets, offsets_of};
+use crate::offsets::Offsets;
 use crate::relations::Relation;
 use crate::rows::{RelFault, Row};
 use crate::timetable::Leg;
@@ -195,6 +195,7 @@ pub(crate) fn composed(
     alloc: Global,
     rows: &[Row],
     second: &[Row],
+    begins: &Offsets,
     busy: &[Leg],
     max_rows: usize,
 ) -> Result<Relation, RelFault>
@@ -204,7 +205,6 @@ pub(crate) fn composed(
     requires second { AreComposed second.now busy.now }
     ensures { Gives result (HasMiddlePoint rows.now second.now) max_rows }
 {
-    let begins = offsets_of(alloc, second, rows.len())?;
     let mut known = Known::new(alloc);
     let mut done = Vec::new(alloc);
     let mut left = rows;
@@ -214,7 +214,7 @@ pub(crate) fn composed(
             &mut known,
             group,
             second,
-            &begins,
+            begins,
             busy,
             max_rows - done.len(),
         )?;

@@ -37,14 +37,16 @@ enum Told {
     Unknown,
 }
 
-fn first_arrival(band: &Band) -> i64
+/// When the band arrives first.
+pub(crate) fn first_arrival(band: &Band) -> i64
     requires { IsWellFormed band.now }
     ensures { result ≡ end_at band.now.low band.now.from }
 {
     band.low.at(band.from)
 }
 
-fn last_arrival(band: &Band) -> i64
+/// When the band arrives last.
+pub(crate) fn last_arrival(band: &Band) -> i64
     requires { IsWellFormed band.now }
     ensures { result ≡ end_at band.now.high band.now.to }
 {
@@ -62,8 +64,8 @@ fn rests_once(band: &Band) -> bool
     first_arrival(band) == band.from && last_arrival(band) == band.to
 }
 
-// Whether the band arrives when it departs.
-fn rests(band: &Band) -> bool
+/// Whether the band arrives when it departs.
+pub(crate) fn rests(band: &Band) -> bool
     requires { IsWellFormed band.now }
     ensures { IsTrue result → Rests band.now }
 {

@@ -6,7 +6,7 @@ use crate::rows::Row;
 use itpg_base::ObjNo;
 use std::alloc::{AllocError, Global};
 
-// If there are more objects than these for each row, no places are listed.
+// If there are more objects than these for each row and each search, no places are listed.
 const SPARSE: usize = 8;
 
 // If there are more rows than these for each search, no places are listed.
@@ -41,7 +41,7 @@ pub(crate) fn offsets_of(
     };
     let first = row.source.0 as usize;
     let objects = (last.source.0 as usize).saturating_sub(first);
-    if searches < rows.len() / MANY || rows.len() < objects / SPARSE {
+    if searches < rows.len() / MANY || rows.len().saturating_add(searches) < objects / SPARSE {
         return Ok(Offsets { first, begins });
     }
     for (place, row) in rows.iter().enumerate() {

@@ -13,8 +13,10 @@ ghost use Rattle.relation_rows.specs.Relations.{ItemsHold, Rise, IsItself, Eithe
 
 use crate::compose::{busy_rows, composed};
 use crate::gather::{each_to_itself, gathered_all, gathered_of};
+use crate::idle::{copied, whole_side};
 use crate::known::Known;
 use crate::minus::only_in_first;
+use crate::offsets::offsets_of;
 use crate::rows::{RelFault, Row};
 use crate::search::{is_in_band, rows_between, rows_of_key};
 use crate::strike::struck;
@@ -154,9 +156,20 @@ impl Relation {
         ensures { Gives result (HasMiddlePoint self.now other.now) max_rows }
     {
         let alloc = *self.rows.allocator();
+        let begins = offsets_of(alloc, &other.rows, self.rows.len())?;
+        if let Some(side) = whole_side(alloc, &self.rows, &other.rows, &begins)? {
+            return copied(alloc, side, max_rows as usize);
+        }
         let rows = busy_rows(alloc, &other.rows)?;
         let busy = timetable(alloc, &rows)?;
-        composed(alloc, &self.rows, &other.rows, &busy, max_rows as usize)
+        composed(
+            alloc,
+            &self.rows,
+            &other.rows,
+            &begins,
+            &busy,
+            max_rows as usize,
+        )
     }
 
     /// The pairs that lead from one of the sources to one of the targets. Both lists rise.

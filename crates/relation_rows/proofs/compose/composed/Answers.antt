@@ -32,7 +32,7 @@ of_sources-requires-clause-rows c = group_lone c.args.rows.now c.args.second.now
 
 pub returns-in_err-more : goal.returns-in_err-more
 returns-in_err-more c =
-    let fault = err_from_is_err_and c.from_residual-in_err-more.result c.from_residual-in_err-more.ensures.1 in
+    let fault = err_from_is_err_and c.from_residual.result c.from_residual.ensures.1 in
     let gives = c.in_err-more.ensures in
     let count : c.len.result ≡ length c.loop-first.done.items = omega arith in
     rw (fault.1, fault.2)
