@@ -1,10 +1,11 @@
 -- What answering a line leaves of the table.
-use Rattle.std.proofs.Common.{◌≡◌, inl, inr, List, ℕ, refl, sym, ap, subst, ◌∙◌}
+use Rattle.std.proofs.Common.{◌≡◌, ◌≢◌, inl, inr, List, ℕ, refl, sym, ap, subst, ◌∙◌}
 use Rattle.std.specs.Prelude.{Result, Ok, Err, IsOkAnd}
 use Rattle.itpg_base.specs.Graphs.{Graph}
 use Rattle.itpg_base.specs.declared.text_code.TextCode.{TextCode}
 use Rattle.itpg_edit.specs.declared.edit.Edit.{Edit}
-use Rattle.itpg_edit.specs.Rules.{Unbroken}
+use Rattle.itpg_edit.specs.Rules.{Unbroken, Breaks, rules_of}
+use Rattle.itpg_edit.proofs.FirstOf.{first_or_unbroken}
 use Rattle.itpg_edit.specs.Next.{Makes as MakesGraph}
 use Rattle.edit_reader.specs.declared.line.Line.{Line}
 use Rattle.edit_reader.specs.Readings.{Reading, Nothing, Changes, Asks, Watches, Shows, Unwatches, Ticks, reading_of, told as read_as}
@@ -14,9 +15,9 @@ use Rattle.plan_cache.specs.Footprints.{footprints_of}
 use Rattle.plan_cache.specs.KeptRows.{Forgets}
 use Rattle.relation_rows.specs.Answered.{Answered}
 use Rattle.itpg_session.specs.Replies.{Reply, Silent, Bad, Refused, Wide, Rows, Shown, PerWatch}
-use Rattle.itpg_session.specs.Keeping.{AddsText, IsWorked}
-use Rattle.itpg_session.specs.Machine.{Machine, Standing, after}
-use Rattle.itpg_session.specs.Steps.{StandsAs, ForgetsEdit, LeavesTable, LeavesSo, LeavesLine, ForgetsLine, ShowsKept}
+use Rattle.itpg_session.specs.Keeping.{AddsText, IsWorked, KeepsText}
+use Rattle.itpg_session.specs.Machine.{Machine, Standing, Turn, Answers, TurnOf, told, after}
+use Rattle.itpg_session.specs.Steps.{StandsAs, ForgetsEdit, LeavesTable, LeavesSo, LeavesLine, LeavesUnmade, LeavesUnmadeLine, ForgetsLine, KeepsAsked, KeepsAskedLine, ShowsKept}
 use Rattle.itpg_session.proofs.Accepting.{worked_none}
 
 -- ---- nothing
@@ -43,6 +44,46 @@ kept_forgets s line (Ok l) answer only kept = λ edit is unbroken.
     let same : reading_of l ≡ Changes edit = (let e = only (Ok (Changes edit)) is in cc) in
     absurd (subst (λ (r : Reading). ShowsKept s r answer) same kept)
 kept_forgets s line (Err code) answer only kept = absurd kept
+
+-- and no question
+pub kept_asks : (s : Standing) (line : List ℕ) (what : Result Line TextCode) (answer : Answered) → ((other : Result Reading TextCode) → LineOf line other → other ≡ read_as what) → IsOkAnd what (λ l. ShowsKept s (reading_of l) answer) → KeepsAskedLine line s s
+kept_asks s line (Ok l) answer only kept = λ other of text rows is reply.
+    let same : reading_of l ≡ Asks text = (let e = only other of in cc) in
+    absurd (subst (λ (r : Reading). ShowsKept s r answer) same kept)
+kept_asks s line (Err code) answer only kept = absurd kept
+
+-- what is read is one reading
+abbrev IsRead : Result Reading TextCode → Reading → Type 0
+IsRead what reading = what ≡ Ok reading
+
+pub one_reading : (a b : Reading) → IsRead (Ok a) b → a ≡ b
+one_reading a b is = cc
+
+-- a session that is as it was leaves the table
+pub same_unmade : (s : Standing) (line : List ℕ) → LeavesUnmadeLine line s s
+same_unmade s line = λ what is edit read. refl
+
+-- what an edit that is decided and says something leaves: it was refused
+turn_refused : (limit : ℕ) (m : Machine) (edit : Edit) (t : Turn) → t.reply ≢ Silent → Answers limit m (Changes edit) t → Unbroken m.graph edit → ⊥
+unfolding Answers
+turn_refused limit m edit t says (inl refused) unbroken = first_or_unbroken (Breaks m.graph edit) (rules_of edit) refused.rule refused.first unbroken
+turn_refused limit m edit t says (inr made) unbroken = says (ap (λ (u : Turn). u.reply) made.is)
+
+edit_refused : (limit : ℕ) (m : Machine) (edit : Edit) (t : Turn) → t.reply ≢ Silent → TurnOf limit m (Ok (Changes edit)) t → Unbroken m.graph edit → ⊥
+unfolding TurnOf
+edit_refused limit m edit t says turn unbroken = turn_refused limit m edit t says turn unbroken
+
+unmade_of : (edit : Edit) (old new : Standing) → (Unbroken old.machine.graph edit → ⊥) → LeavesTable (Changes edit) old new → new.table ≡ old.table
+unmade_of edit old new broken (inl made) = absurd (broken made.makes.unbroken)
+unmade_of edit old new broken (inr same) = same
+
+pub said_unmade : (what : Result Reading TextCode) (old mid : Standing) (reply : Reply) → reply ≢ Silent → TurnOf old.limit old.machine what (told mid.machine reply) → LeavesSo what old mid → LeavesUnmade what old mid
+said_unmade what old mid reply says turn left = λ edit is.
+    let own : TurnOf old.limit old.machine (Ok (Changes edit)) (told mid.machine reply) = subst (λ w. TurnOf old.limit old.machine w (told mid.machine reply)) is turn in
+    unmade_of edit old mid (edit_refused old.limit old.machine edit (told mid.machine reply) says own) (subst (λ w. LeavesSo w old mid) is left)
+
+pub line_unmade : (line : List ℕ) (what : Result Reading TextCode) (old new : Standing) → ((other : Result Reading TextCode) → LineOf line other → other ≡ what) → LeavesUnmade what old new → LeavesUnmadeLine line old new
+line_unmade line what old new only a = λ other of edit is. a edit (sym (only other of) ∙ is)
 
 -- ---- a reply that is settled
 
@@ -91,3 +132,11 @@ pub forgets_settled : (line : List ℕ) (what : Result Reading TextCode) (old mi
     → new.table ≡ mid.table → StandsAs new (after mid.machine reply) limit → ((edit : Edit) → what ≡ Ok (Changes edit) → Unbroken old.machine.graph edit → ForgetsEdit edit old mid) → ForgetsLine line old new
 forgets_settled line what old mid new reply limit only table stands a = λ edit is unbroken.
     forgets_on old mid new table (ap (λ (m : Machine). m.graph) stands.machine ∙ after_graph mid.machine reply) edit (a edit (sym (only (Ok (Changes edit)) is)) unbroken)
+
+-- what is kept of a question that was decided stays so
+pub asked_settled : (line : List ℕ) (what : Result Reading TextCode) (old mid new : Standing) (reply : Reply) (limit : ℕ) → ((other : Result Reading TextCode) → LineOf line other → other ≡ what)
+    → new.table ≡ mid.table → StandsAs new (after mid.machine reply) limit → KeepsAsked what old mid → KeepsAskedLine line old new
+asked_settled line what old mid new reply limit only table stands a = λ other of text answer is rows.
+    let graph : new.machine.graph ≡ mid.machine.graph = ap (λ (m : Machine). m.graph) stands.machine ∙ after_graph mid.machine reply in
+    let kept : KeepsText mid.machine.graph text mid.table = a text answer (sym (only other of) ∙ is) rows in
+    subst (λ (g : Graph). KeepsText g text new.table) (sym graph) (subst (KeepsText mid.machine.graph text) (sym table) kept)

@@ -1,6 +1,6 @@
 -- A text that is written in two parts, and results.
 use Rattle.std.proofs.Common.{◌≡◌, List, ℕ, Option, Some, None, true, false, ◌++◌, refl, sym, ap, ◌∙◌, append_assoc}
-use Rattle.std.specs.Prelude.{Result, Ok, Err, IfOk, OnOk, IfSome, IsNone, is_some}
+use Rattle.std.specs.Prelude.{Result, Ok, Err, IfOk, OnOk, OnErr, IfSome, IsNone, is_some}
 use Rattle.std.specs.Io.KnownBytes.{Appends}
 use Rattle.std.proofs.KnownBytes.{Appends-trans}
 use Rattle.itpg_base.specs.Outside.{AppendsSome}
@@ -31,6 +31,10 @@ if_ok to (Err e) p = tt
 pub on_ok : {T E : Type 0} {P Q : Type 0} → (P → Q) → (r : Result T E) → OnOk r P → OnOk r Q
 on_ok to (Ok x) p = to p
 on_ok to (Err e) p = tt
+
+pub on_fault : {T E : Type 0} {P Q : Type 0} → (P → Q) → (r : Result T E) → OnErr r P → OnErr r Q
+on_fault to (Ok x) p = tt
+on_fault to (Err e) p = to p
 
 pub if_some : {T : Type 0} {P Q : T → Type 0} → ((x : T) → P x → Q x) → (o : Option T) → IfSome o P → IfSome o Q
 if_some to None p = tt

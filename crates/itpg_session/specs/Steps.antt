@@ -18,10 +18,10 @@ use Rattle.itpg_session.specs.Ticks.{AreTicked}
 use Rattle.relation_rows.specs.Answered.{Answered}
 use Rattle.itpg_session.specs.Questions.{HasAnswer}
 use Rattle.itpg_session.specs.PlainWatches.{PlainWatch, IsFresh}
-use Rattle.itpg_session.specs.Replies.{Reply, Silent, Rows, Shown, PerWatch, FindsFor, line_reply}
+use Rattle.itpg_session.specs.Replies.{Reply, Silent, Rows, Shown, PerWatch, FindsFor, IsReply, line_reply}
 use Rattle.itpg_session.specs.Texts.{text_of, fails}
 use Rattle.itpg_base.specs.Lists.{Among}
-use Rattle.itpg_session.specs.Keeping.{AreReplanned, AddsText, IsWorked, KeepsPath, KeepsFound, KeepAllTicked}
+use Rattle.itpg_session.specs.Keeping.{AreReplanned, AddsText, IsWorked, KeepsPath, KeepsText, KeepsFound, KeepAllTicked}
 use Rattle.itpg_session.specs.Machine.{Machine, Standing, Turn, told}
 use Rattle.itpg_session.specs.declared.reply.Reply.{Reply as ReplyValue}
 use Rattle.itpg_session.specs.declared.reply.Seen.{Seen}
@@ -92,6 +92,13 @@ ForgetsLine line old new = (edit : Edit) → LineOf line (Ok (Changes edit)) →
 abbrev pub LeavesLine : List ℕ → Standing → Standing → Type 0
 LeavesLine line old new = (what : Result Reading TextCode) → LineOf line what → LeavesSo what old new
 
+-- an edit that isn't made leaves the table
+abbrev pub LeavesUnmade : Result Reading TextCode → Standing → Standing → Type 0
+LeavesUnmade what old new = (edit : Edit) → what ≡ Ok (Changes edit) → new.table ≡ old.table
+
+abbrev pub LeavesUnmadeLine : List ℕ → Standing → Standing → Type 0
+LeavesUnmadeLine line old new = (what : Result Reading TextCode) → LineOf line what → LeavesUnmade what old new
+
 -- what was worked out for the reply is kept
 abbrev pub KeepsReply : Reply → Standing → Type 0
 KeepsReply (Shown place found) s = IsSomeAnd (slice_get s.machine.watches place) (λ w. KeepsFound s.machine.graph s.table w found)
@@ -105,6 +112,14 @@ WasFresh watches w = (v : PlainWatch) × Among watches v × (v.name ≡ w.name) 
 -- each watch that is fresh was so before, or the relation that was worked out for it is kept, if there is room
 abbrev pub KeepsFresh : Standing → Standing → Type 0
 KeepsFresh old new = (w : PlainWatch) → Among new.machine.watches w → w.fresh ≡ true → WasFresh old.machine.watches w ⊎ KeepsPath new.machine.graph w.query.path new.table
+
+-- after a question that is answered with rows, the relation that was worked out for it is kept, if there is room
+abbrev pub KeepsAsked : Result Reading TextCode → Standing → Standing → Type 0
+KeepsAsked what old new = (text : List ℕ) (answer : Answered) → what ≡ Ok (Asks text) → IsReply old.machine.graph old.limit text (Rows answer) → KeepsText new.machine.graph text new.table
+
+-- so it is if a line asks it
+abbrev pub KeepsAskedLine : List ℕ → Standing → Standing → Type 0
+KeepsAskedLine line old new = (what : Result Reading TextCode) → LineOf line what → KeepsAsked what old new
 
 -- the line asks to show a watch that is fresh, and breaks no rule
 abbrev pub ShowsFresh : Machine → Reading → Type 0

@@ -1,5 +1,5 @@
 //! Deciding the reply to a line. An edit, a watch or an unwatch that is accepted is made here; nothing is written.
-ghost use Rattle.std.specs.Prelude.{◌≡◌, ◌<◌, ◌≤◌, ◌⊎◌, ◌||◌, length, slice_get, option_map, Ok, IfOk, OnOk, IsSome, IsSomeAnd, IsTrue};
+ghost use Rattle.std.specs.Prelude.{◌≡◌, ◌<◌, ◌≤◌, ◌⊎◌, ◌||◌, length, slice_get, option_map, Ok, IfOk, OnOk, OnErr, IsSome, IsSomeAnd, IsTrue};
 ghost use Rattle.itpg_edit.specs.declared.edit.Edit.{Edit as PlainEdit};
 ghost use Rattle.itpg_edit.specs.Rules.{NoneOf, Unbroken};
 ghost use Rattle.itpg_edit.specs.Sites.{HasMoments};
@@ -15,7 +15,7 @@ ghost use Rattle.itpg_session.specs.Rules.{WatchBreaks, NameBreaks, TickBreaks, 
 ghost use Rattle.itpg_session.specs.Replies.{line_reply, FindsFor};
 ghost use Rattle.itpg_session.specs.Machine.{Answers, TurnOf, WatchesText, WatchesQuery, ShowsName, DropsName, TicksOrNot};
 ghost use Rattle.itpg_session.specs.Keeping.{AddsOrRenews, AddsText, IsWorked, KeepsFound};
-ghost use Rattle.itpg_session.specs.Steps.{ForgetsEdit, KeepsReply, LeavesTable, LeavesSo, ShowsFresh, WantsMemory, WhatWants, Decides, IsAlike, IsDecided, Suits};
+ghost use Rattle.itpg_session.specs.Steps.{ForgetsEdit, KeepsReply, KeepsAsked, LeavesTable, LeavesSo, LeavesUnmade, ShowsFresh, WantsMemory, WhatWants, Decides, IsAlike, IsDecided, Suits};
 
 use crate::finding::find;
 use crate::laws::law_of_graphs;
@@ -42,8 +42,10 @@ impl Session {
         ensures decides { Decides (TurnOf self.old.limit self.old.machine (read_as what.now)) (WhatWants self.old.machine (read_as what.now)) self.old self.new result }
         ensures suits { IfOk result (λ reply. Suits self.new (line_reply reply)) }
         ensures keeps { IfOk result (λ reply. KeepsReply (line_reply reply) self.new) }
+        ensures asked { OnOk result (KeepsAsked (read_as what.now) self.old self.new) }
         ensures forgets { OnOk result ((edit : PlainEdit) → read_as what.now ≡ Ok (Changes edit) → Unbroken self.old.machine.graph edit → ForgetsEdit edit self.old self.new) }
         ensures table { LeavesSo (read_as what.now) self.old self.new }
+        ensures unmade { OnErr result (LeavesUnmade (read_as what.now) self.old self.new) }
     {
         match what {
             Ok(reading) => self.decide_read(reading),
@@ -57,8 +59,10 @@ impl Session {
         requires finds { ¬ ShowsFresh self.old.machine (reading_of line.now) }
         ensures decides { Decides (Answers self.old.limit self.old.machine (reading_of line.now)) (WantsMemory self.old.machine (reading_of line.now)) self.old self.new result }
         ensures keeps { IfOk result (λ reply. KeepsReply (line_reply reply) self.new) }
+        ensures asked { OnOk result (KeepsAsked (Ok (reading_of line.now)) self.old self.new) }
         ensures forgets { OnOk result ((edit : PlainEdit) → reading_of line.now ≡ Changes edit → Unbroken self.old.machine.graph edit → ForgetsEdit edit self.old self.new) }
         ensures table { LeavesTable (reading_of line.now) self.old self.new }
+        ensures unmade { OnErr result (LeavesUnmade (Ok (reading_of line.now)) self.old self.new) }
     {
         match line {
             Line::Blank => Ok(Reply::Silent),
@@ -77,6 +81,7 @@ impl Session {
         ensures decides { Decides (Answers self.old.limit self.old.machine (Changes edit.now)) (WantsMemory self.old.machine (Changes edit.now)) self.old self.new result }
         ensures forgets { OnOk result (Unbroken self.old.machine.graph edit.now → ForgetsEdit edit.now self.old self.new) }
         ensures table { ForgetsEdit edit.now self.old self.new ⊎ (self.new.table ≡ self.old.table) }
+        ensures unmade { OnErr result (self.new.table ≡ self.old.table) }
     {
         law_of_graphs(&self.graph);
         let touch = match apply(&mut self.graph, edit) {

@@ -12,7 +12,7 @@ ghost use Rattle.itpg_session.specs.Replies.{Reply as PlainReply, Silent, Rows, 
 ghost use Rattle.itpg_session.specs.Texts.{text_of};
 ghost use Rattle.itpg_session.specs.Machine.{opening, Replies, after};
 ghost use Rattle.itpg_session.specs.Keeping.{AddsText, KeepsText, IsTableRight, AreWatchesRight};
-ghost use Rattle.itpg_session.specs.Steps.{StandsAs, IsAlike, Stepped, StepsWithin, Passed, LineWants, KeepsFresh, ForgetsLine, LeavesLine, ShowsFresh, ShowsKept, Suits};
+ghost use Rattle.itpg_session.specs.Steps.{StandsAs, IsAlike, Stepped, StepsWithin, Passed, LineWants, KeepsFresh, KeepsAskedLine, ForgetsLine, LeavesLine, LeavesUnmadeLine, ShowsFresh, ShowsKept, Suits};
 
 use crate::asking::Asked;
 use crate::laws::law_of_asked;
@@ -190,8 +190,10 @@ impl Session {
         ensures stepped { IfOk result (λ seen. Stepped K.Sink out.old out.new (Replies self.old.limit self.old.machine line.now) no self.old self.new seen) }
         ensures alike { OnErr result (IsAlike self.old self.new) }
         ensures keeps { OnOk result (KeepsFresh self.old self.new) }
+        ensures asked { OnOk result (KeepsAskedLine line.now self.old self.new) }
         ensures forgets { OnOk result (ForgetsLine line.now self.old self.new) }
         ensures table { LeavesLine line.now self.old self.new }
+        ensures unmade { OnErr result (LeavesUnmadeLine line.now self.old self.new) }
         ensures memory { IsErrOf result StepFault.Memory → GetsNothing K.Sink out.old out.new }
         ensures wanting { IsErrOf result StepFault.Memory → LineWants self.old.machine line.now }
         ensures write { IsErrOf result StepFault.Write → HasFailed K.Sink out.old out.new }
@@ -218,6 +220,10 @@ impl Session {
     pub fn pass(&mut self, line: &[u8]) -> Result<(), AllocError>
         ensures passed { OnOk result (Passed (Replies self.old.limit self.old.machine line.now) self.old self.new) }
         ensures alike { OnErr result (IsAlike self.old self.new) }
+        ensures keeps { OnOk result (KeepsFresh self.old self.new) }
+        ensures asked { OnOk result (KeepsAskedLine line.now self.old self.new) }
+        ensures forgets { OnOk result (ForgetsLine line.now self.old self.new) }
+        ensures table { LeavesLine line.now self.old self.new }
         ensures wanting { OnErr result (LineWants self.old.machine line.now) }
     {
         let what = &read_line(line);

@@ -1,11 +1,13 @@
-use Rattle.std.proofs.Common.{◌≡◌, refl, sym, subst}
+use Rattle.std.proofs.Common.{◌≡◌, List, ℕ, refl, sym, subst}
 use Rattle.itpg_edit.specs.declared.edit.Edit.{Edit}
 use Rattle.itpg_edit.specs.Rules.{Unbroken}
-use Rattle.edit_reader.specs.Readings.{Changes, Watches, reading_of}
+use Rattle.edit_reader.specs.Readings.{Changes, Asks, Watches, reading_of}
 use Rattle.itpg_session.specs.Steps.{ForgetsEdit}
-use Rattle.itpg_session.proofs.Written.{on_ok}
+use Rattle.itpg_session.proofs.Written.{on_ok, on_fault}
+use Rattle.itpg_session.proofs.Leaving.{one_reading}
 use Rattle.itpg_session.proofs.KeptFresh.{decided_keeps, one_keeps, asked_keeps}
-use Rattle.itpg_session.specs.Replies.{Silent, reply_of}
+use Rattle.itpg_session.specs.Replies.{Silent, Rows, IsReply, reply_of}
+use Rattle.itpg_session.specs.Keeping.{KeepsText}
 use Rattle.itpg_session.proofs.Answering.{blank_answers, asks_answers, asked_asks, watches_answers, shows_answers, unwatches_answers, ticks_answers}
 use Rattle.itpg_session.proofs.Told.{decided_as, decides_as, said, said_alike}
 use Rattle.itpg_session.proofs.session.Session.decide_read.Goals as goal
@@ -84,3 +86,14 @@ returns-in-Show-clause-keeps c = c.show.ensures.keeps
 
 pub returns-in-Tick-clause-keeps : goal.returns-in-Tick-clause-keeps
 returns-in-Tick-clause-keeps c = c.tick.ensures.keeps
+
+pub returns-in_ok-ask-in-Ask-clause-asked : goal.returns-in_ok-ask-in-Ask-clause-asked
+returns-in_ok-ask-in-Ask-clause-asked c = λ text answer is rows.
+    let read : Asks c.in-Ask.text.now ≡ Asks text = subst (λ l. reading_of l ≡ Asks text) c.in-Ask.is (one_reading (reading_of c.args.line.now) (Asks text) is) in
+    let same : c.in-Ask.text.now ≡ text = cc in
+    subst (λ (t : List ℕ). KeepsText c.ask.new.self.machine.graph t c.ask.new.self.table) same
+    (c.in_ok-ask-in-Ask.ensures.keeps answer (c.in_ok-ask-in-Ask.ensures.only (Rows answer)
+    (subst (λ (t : List ℕ). IsReply c.args.self.now.machine.graph c.args.self.now.limit t (Rows answer)) (sym same) rows)))
+
+pub returns-in-Edit-clause-unmade : goal.returns-in-Edit-clause-unmade
+returns-in-Edit-clause-unmade c = on_fault (λ same edit is. same) c.edit.result c.edit.ensures.unmade

@@ -45,3 +45,6 @@ pub returns-clause-table : goal.returns-clause-table
 returns-clause-table c =
     inl (forgotten_edit c.self.inside.graph c.self.inside.limits c.self.inside.plans c.self.inside.watches c.args.self.now c.self.view_is c.apply.new.graph c.in-Ok.touch c.forget.new.self c.touched.new.self c.args.edit.now
     c.in-Ok.ensures.makes c.forget.ensures.nodes c.forget.ensures.kept)
+
+pub returns-in-Err-Memory-clause-unmade : goal.returns-in-Err-Memory-clause-unmade
+returns-in-Err-Memory-clause-unmade c = ap (λ (s : Standing). s.table) c.self.view_is

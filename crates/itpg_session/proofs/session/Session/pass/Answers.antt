@@ -1,6 +1,9 @@
 use Rattle.std.proofs.Common.{sym, refl, ◌∙◌}
 use Rattle.itpg_session.proofs.Stepping.{kept_line}
 use Rattle.itpg_session.proofs.Written.{some_value}
+use Rattle.itpg_session.specs.Replies.{line_reply}
+use Rattle.itpg_session.proofs.KeptFresh.{fresh_same, step_fresh}
+use Rattle.itpg_session.proofs.Leaving.{line_leaves, kept_forgets, line_so, line_settled, forgets_settled, kept_asks, asked_settled}
 use Rattle.itpg_session.proofs.session.Session.pass.Goals as goal
 
 pub returns-then-is_some-clause-passed : goal.returns-then-is_some-clause-passed
@@ -8,3 +11,37 @@ returns-then-is_some-clause-passed c =
     let kept = some_value c.kept_answer.result c.kept_answer.ensures.some (sym c.is_some.ensures ∙ c.if-is_some.true) in
     let turn = kept_line c.args.self.now c.args.line.now _ _ c.read_line.ensures.line kept.1 in
     record { turn = _; turns = turn.replies; next = record { machine = sym turn.stays; limit = refl } }
+
+pub returns-then-is_some-clause-keeps : goal.returns-then-is_some-clause-keeps
+returns-then-is_some-clause-keeps c = fresh_same c.args.self.now
+
+pub returns-then-is_some-clause-asked : goal.returns-then-is_some-clause-asked
+returns-then-is_some-clause-asked c =
+    let kept = some_value c.kept_answer.result c.kept_answer.ensures.some (sym c.is_some.ensures ∙ c.if-is_some.true) in
+    kept_asks c.args.self.now c.args.line.now _ _ c.read_line.ensures.only kept.1
+
+pub returns-then-is_some-clause-forgets : goal.returns-then-is_some-clause-forgets
+returns-then-is_some-clause-forgets c =
+    let kept = some_value c.kept_answer.result c.kept_answer.ensures.some (sym c.is_some.ensures ∙ c.if-is_some.true) in
+    kept_forgets c.args.self.now c.args.line.now _ _ c.read_line.ensures.only kept.1
+
+pub returns-then-is_some-clause-table : goal.returns-then-is_some-clause-table
+returns-then-is_some-clause-table c = line_leaves c.args.self.now c.args.line.now
+
+pub returns-in_err-unsaid-clause-table : goal.returns-in_err-unsaid-clause-table
+returns-in_err-unsaid-clause-table c = line_so c.args.line.now _ c.args.self.now c.decide.new.self c.read_line.ensures.only c.decide.ensures.table
+
+pub returns-clause-keeps : goal.returns-clause-keeps
+returns-clause-keeps c = step_fresh _ c.args.self.now c.decide.new.self c.settle.new.self (line_reply c.in_ok-unsaid.unsaid) _ c.in_ok-unsaid.ensures.decides c.in_ok-unsaid.ensures.keeps c.settle.ensures.table c.settle.ensures.stands
+
+pub returns-clause-asked : goal.returns-clause-asked
+returns-clause-asked c =
+    asked_settled c.args.line.now _ c.args.self.now c.decide.new.self c.settle.new.self (line_reply c.in_ok-unsaid.unsaid) _ c.read_line.ensures.only c.settle.ensures.table c.settle.ensures.stands c.in_ok-unsaid.ensures.asked
+
+pub returns-clause-forgets : goal.returns-clause-forgets
+returns-clause-forgets c =
+    forgets_settled c.args.line.now _ c.args.self.now c.decide.new.self c.settle.new.self (line_reply c.in_ok-unsaid.unsaid) _ c.read_line.ensures.only c.settle.ensures.table c.settle.ensures.stands c.in_ok-unsaid.ensures.forgets
+
+pub returns-clause-table : goal.returns-clause-table
+returns-clause-table c =
+    line_settled c.args.line.now _ c.args.self.now c.decide.new.self c.settle.new.self (line_reply c.in_ok-unsaid.unsaid) _ c.read_line.ensures.only c.settle.ensures.table c.settle.ensures.stands c.decide.ensures.table

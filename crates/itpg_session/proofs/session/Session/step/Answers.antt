@@ -10,7 +10,7 @@ use Rattle.itpg_session.proofs.Told.{rows_seen}
 use Rattle.itpg_session.specs.Replies.{line_reply}
 use Rattle.itpg_session.proofs.Stepping.{kept_line}
 use Rattle.itpg_session.proofs.KeptFresh.{fresh_same, step_fresh}
-use Rattle.itpg_session.proofs.Leaving.{line_leaves, kept_forgets, line_so, line_settled, forgets_settled}
+use Rattle.itpg_session.proofs.Leaving.{line_leaves, kept_forgets, line_so, line_settled, forgets_settled, kept_asks, asked_settled, same_unmade, line_unmade, said_unmade}
 use Rattle.itpg_session.proofs.session.Session.step.Goals as goal
 
 pub write_rows-requires : goal.write_rows-requires
@@ -72,3 +72,21 @@ returns-in-Some-clause-keeps g c = fresh_same c.args.self.now
 
 pub returns-clause-keeps : goal.returns-clause-keeps
 returns-clause-keeps g c = step_fresh _ c.args.self.now c.decide.new.self c.settle.new.self (line_reply c.in_ok-reply.reply) _ c.in_ok-reply.ensures.decides c.in_ok-reply.ensures.keeps c.settle.ensures.table c.settle.ensures.stands
+
+pub returns-in-Some-clause-asked : goal.returns-in-Some-clause-asked
+returns-in-Some-clause-asked g c = kept_asks c.args.self.now c.args.line.now _ _ c.read_line.ensures.only c.in-Some.ensures.some
+
+pub returns-clause-asked : goal.returns-clause-asked
+returns-clause-asked g c =
+    asked_settled c.args.line.now _ c.args.self.now c.decide.new.self c.settle.new.self (line_reply c.in_ok-reply.reply) _ c.read_line.ensures.only c.settle.ensures.table c.settle.ensures.stands c.in_ok-reply.ensures.asked
+
+pub returns-in_err-write_rows-clause-unmade : goal.returns-in_err-write_rows-clause-unmade
+returns-in_err-write_rows-clause-unmade g c = on_err _ _ (same_unmade c.args.self.now c.args.line.now)
+
+pub returns-in_err-reply-clause-unmade : goal.returns-in_err-reply-clause-unmade
+returns-in_err-reply-clause-unmade g c = on_err _ _ (line_unmade c.args.line.now _ c.args.self.now c.decide.new.self c.read_line.ensures.only c.in_err-reply.ensures.unmade)
+
+pub returns-in_err-write-clause-unmade : goal.returns-in_err-write-clause-unmade
+returns-in_err-write-clause-unmade g c =
+    on_err _ _ (line_unmade c.args.line.now _ c.args.self.now c.decide.new.self c.read_line.ensures.only
+    (said_unmade _ c.args.self.now c.decide.new.self (line_reply c.in_ok-reply.reply) c.in_err-write.ensures.says c.in_ok-reply.ensures.decides.turns c.decide.ensures.table))
