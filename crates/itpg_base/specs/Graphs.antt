@@ -30,7 +30,7 @@ pub record Object : Type 0 where
   pub live : List Span
   pub properties : List Property
 
--- the name and the horizon that a graph was begun with
+-- the name that a graph was begun with, and its horizon, which may have been widened since
 pub record Begun : Type 0 where
   pub name : Word
   pub horizon : Span
