@@ -48,6 +48,7 @@ fn a_footprint_is_met_by_label_and_property(rt: HostRuntime) {
     let person = Name::new(b"Person").expect(&rt, "a name");
     let risk = Name::new(b"risk").expect(&rt, "a name");
     let mood = Name::new(b"mood").expect(&rt, "a name");
+    let nurse = Name::new(b"Nurse").expect(&rt, "a name");
     let query = read_query(alloc, b"MATCH (x:Person {risk = 'high'})")
         .ok()
         .expect(&rt, "a query");
@@ -61,4 +62,6 @@ fn a_footprint_is_met_by_label_and_property(rt: HostRuntime) {
     assert!(rt; meets(&asked, &Touch::Value { labels, prop: risk }));
     assert!(rt; !meets(&asked, &Touch::Value { labels, prop: mood }));
     assert!(rt; !meets(&asked, &Touch::Live(LabelSet::one(mood))));
+    let two = LabelSet::new([person, nurse].as_slice()).expect(&rt, "a set of labels");
+    assert!(rt; meets(&asked, &Touch::Live(two)));
 }
