@@ -12,7 +12,8 @@ ghost use Rattle.itpg_session.specs.Replies.{Reply as PlainReply, Silent, Rows, 
 ghost use Rattle.itpg_session.specs.Texts.{text_of};
 ghost use Rattle.itpg_session.specs.Machine.{opening, Replies, after};
 ghost use Rattle.itpg_session.specs.Keeping.{AddsText, KeepsText, IsTableRight, AreWatchesRight};
-ghost use Rattle.itpg_session.specs.Steps.{StandsAs, IsAlike, Stepped, StepsWithin, Passed, LineWants, KeepsFresh, KeepsAskedLine, ForgetsLine, LeavesLine, LeavesUnmadeLine, ShowsFresh, ShowsKept, Suits};
+ghost use Rattle.itpg_session.specs.Steps.{StandsAs, IsAlike, Stepped, StepsWithin, Passed, LineWants, ShowsFresh, ShowsKept, Suits};
+ghost use Rattle.itpg_session.specs.Steps.{KeepsFresh, KeepsAskedLine, ForgetsLine, LeavesLine, LeavesUnmadeLine};
 
 use crate::asking::Asked;
 use crate::laws::law_of_asked;

@@ -39,7 +39,9 @@ fn zone(rt: &impl Abort, a: i64, b: i64, e: i64, f: i64) -> Zone {
 fn relation(rt: &impl Abort, alloc: Global, zones: &[Zone]) -> Relation {
     let mut items = Vec::new(alloc);
     for (zone, object) in zones.iter().zip(0..) {
-        items.push((ObjNo(object), ObjNo(object), *zone)).expect(rt, "memory");
+        items
+            .push((ObjNo(object), ObjNo(object), *zone))
+            .expect(rt, "memory");
     }
     Relation::from_zones(alloc, items, 10).expect(rt, "few rows")
 }
@@ -62,14 +64,27 @@ fn first_and_last_of_a_wait(rt: HostRuntime) {
 #[test]
 fn counts_of_two_objects(rt: HostRuntime) {
     let alloc = rt.alloc();
-    let both = relation(&rt, alloc, &[zone(&rt, 0, 20, 0, 0), zone(&rt, 5, 30, 0, 0)]);
+    let both = relation(
+        &rt,
+        alloc,
+        &[zone(&rt, 0, 20, 0, 0), zone(&rt, 5, 30, 0, 0)],
+    );
     let times = both.sources().expect(&rt, "memory");
     let counts = count(alloc, &times, 3).expect(&rt, "three rows");
     let [start, middle, rest] = counts.rows() else {
         return assert!(rt; false);
     };
-    assert_eq!(rt; (start.span.from(), start.span.to(), start.number), (0, 4, 1));
-    assert_eq!(rt; (middle.span.from(), middle.span.to(), middle.number), (5, 20, 2));
-    assert_eq!(rt; (rest.span.from(), rest.span.to(), rest.number), (21, 30, 1));
+    assert_eq!(rt;
+        (start.span.from(), start.span.to(), start.number),
+        (0, 4, 1)
+    );
+    assert_eq!(rt;
+        (middle.span.from(), middle.span.to(), middle.number),
+        (5, 20, 2)
+    );
+    assert_eq!(rt;
+        (rest.span.from(), rest.span.to(), rest.number),
+        (21, 30, 1)
+    );
     assert!(rt; matches!(count(alloc, &times, 2), Err(RelFault::Wide)));
 }
