@@ -45,9 +45,9 @@ pub record IsSite (g : Graph) (id : Word) (site : Site) : Type 0 where
 abbrev pub IsAsked : Graph → Edit → Change → Type 0
 IsAsked g edit (Begin name horizon) = (edit ≡ edits.Begin name horizon.from horizon.to) × IsNone g.begun × IsSpan horizon
 IsAsked g edit (Widen horizon) = (edit ≡ edits.Extend horizon.from horizon.to) × IsWider g horizon
-IsAsked g edit (AddNode id labels) = (edit ≡ edits.AddNode id labels) × IsNew g id
+IsAsked g edit (AddNode id labels) = (edit ≡ edits.AddNode id labels.now) × IsNew g id
 IsAsked g edit (AddEdge id labels source target) =
-    (s : Word) × (t : Word) × (edit ≡ edits.AddEdge id labels s t) × IsNew g id × IsNamed g s source × IsNamed g t target
+    (s : Word) × (t : Word) × (edit ≡ edits.AddEdge id labels.now s t) × IsNew g id × IsNamed g s source × IsNamed g t target
 IsAsked g edit (Live site) = (id : Word) × (edit ≡ edits.Live id site.span.from site.span.to) × IsSite g id site
 IsAsked g edit (Gone site) = (id : Word) × (edit ≡ edits.Gone id site.span.from site.span.to) × IsSite g id site
 IsAsked g edit (Put site prop value) = (id : Word) × (edit ≡ edits.Put id prop value site.span.from site.span.to) × IsSite g id site
@@ -94,8 +94,8 @@ BeginsInMoments change = Unit {0}
 abbrev pub Leaves : Graph → Change → Graph → Type 0
 Leaves g (Begin name horizon) new = new ≡ begun_as g name horizon
 Leaves g (Widen horizon) new = new ≡ widened g horizon
-Leaves g (AddNode id labels) new = new ≡ with_node g id labels
-Leaves g (AddEdge id labels source target) new = new ≡ with_edge g id labels source.0 target.0
+Leaves g (AddNode id labels) new = new ≡ with_node g id labels.now
+Leaves g (AddEdge id labels source target) new = new ≡ with_edge g id labels.now source.0 target.0
 Leaves g (Live site) new = JoinsLive g site.object.0 site.span new
 Leaves g (Gone site) new = CutsLive g site.object.0 site.span new
 Leaves g (Put site prop value) new = PutsValue g site.object.0 prop value site.span new
@@ -106,8 +106,8 @@ Leaves g (Remove object) new = new ≡ without g object.0
 abbrev pub Touches : Graph → Change → Touch → Type 0
 Touches g (Begin name horizon) touch = touch ≡ touched.All
 Touches g (Widen horizon) touch = touch ≡ touched.All
-Touches g (AddNode id labels) touch = touch ≡ touched.Shape labels
-Touches g (AddEdge id labels source target) touch = touch ≡ touched.Shape labels
+Touches g (AddNode id labels) touch = touch ≡ touched.Shape labels.now
+Touches g (AddEdge id labels source target) touch = touch ≡ touched.Shape labels.now
 Touches g (Live site) touch = ObjectIs g site.object.0 (λ x. touch ≡ touched.Live x.labels)
 Touches g (Gone site) touch = ObjectIs g site.object.0 (λ x. touch ≡ touched.Gone x.labels)
 Touches g (Put site prop value) touch = ObjectIs g site.object.0 (λ x. touch ≡ touched.Value x.labels prop)

@@ -26,9 +26,10 @@ impl Site {
     }
 }
 
-/// One change of a graph: an edit with objects in place of names, and spans in place of moments.
+/// One change of a graph: an edit with objects in place of names, and spans in place of moments. Sets of labels, which are large, stay
+/// in the edit.
 #[derive(Clone, Copy)]
-pub(crate) enum Change {
+pub(crate) enum Change<'a> {
     /// Begins the graph.
     Begin {
         name: Name,
@@ -39,12 +40,12 @@ pub(crate) enum Change {
     /// Declares a node.
     AddNode {
         id: Name,
-        labels: LabelSet,
+        labels: &'a LabelSet,
     },
     /// Declares an edge.
     AddEdge {
         id: Name,
-        labels: LabelSet,
+        labels: &'a LabelSet,
         source: ObjNo,
         target: ObjNo,
     },
@@ -67,7 +68,7 @@ pub(crate) enum Change {
     Remove(ObjNo),
 }
 
-impl Change {
+impl<'a> Change<'a> {
     /// What the change touches, on the graph before it.
     pub(crate) fn touch(&self, graph: &Graph) -> Touch
         requires { IsFound graph.now self.now }
@@ -75,7 +76,8 @@ impl Change {
     {
         match *self {
             Change::Begin { .. } | Change::Widen(_) => Touch::All,
-            Change::AddNode { labels, .. } | Change::AddEdge { labels, .. } => Touch::Shape(labels),
+            Change::AddNode { labels, .. } => Touch::Shape(*labels),
+            Change::AddEdge { labels, .. } => Touch::Shape(*labels),
             Change::Live(site) => Touch::Live(graph.labels(site.object)),
             Change::Gone(site) => Touch::Gone(graph.labels(site.object)),
             Change::Put { site, prop, .. } | Change::Clear { site, prop } => Touch::Value {

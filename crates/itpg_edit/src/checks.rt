@@ -29,23 +29,29 @@ use itpg_graph::Graph;
 pub fn broken(graph: &Graph, edit: &Edit) -> Option<RuleCode>
     ensures { MatchOption result (Unbroken graph.now edit.now) (λ rule. Broken graph.now edit.now rule) }
 {
-    resolve(graph, edit).err()
+    match resolve(graph, edit) {
+        Ok(_) => None,
+        Err(rule) => Some(rule),
+    }
 }
 
 /// The change that the edit asks for, if it breaks no rule; else the first that it breaks.
-pub(crate) fn resolve(graph: &Graph, edit: &Edit) -> Result<Change, RuleCode>
+pub(crate) fn resolve<'a>(graph: &Graph, edit: &'a Edit) -> Result<Change<'a>, RuleCode>
     ensures asked { IfOk result (λ change. IsAsked graph.now edit.now change) }
     ensures fits { IfOk result (λ change. Fits graph.now change) }
     ensures unbroken { IfOk result (λ _. Unbroken graph.now edit.now) }
     ensures broken { IfErr result (λ rule. Broken graph.now edit.now rule) }
 {
-    let change = find(graph, edit)?;
+    let change = match find(graph, edit) {
+        Ok(change) => change,
+        Err(rule) => return Err(rule),
+    };
     check(graph, &change)?;
     Ok(change)
 }
 
 // Whether the change fits the graph, and else the first rule that an edit breaks which asks for it.
-fn check(graph: &Graph, change: &Change) -> Result<(), RuleCode>
+fn check(graph: &Graph, change: &Change<'_>) -> Result<(), RuleCode>
     requires { IsFound graph.now change.now }
     ensures fits { IfOk result (λ _. Fits graph.now change.now) }
     ensures broken { IfErr result (λ rule. (edit : AnyEdit) → IsAsked graph.now edit change.now → Broken graph.now edit rule) }

@@ -14,22 +14,25 @@ use itpg_base::{Name, ObjNo, RuleCode};
 use itpg_graph::Graph;
 
 /// The change that the edit asks for, where all that it names is there; else the first rule that it breaks.
-pub(crate) fn find(graph: &Graph, edit: &Edit) -> Result<Change, RuleCode>
+pub(crate) fn find<'a>(graph: &Graph, edit: &'a Edit) -> Result<Change<'a>, RuleCode>
     ensures asked { IfOk result (λ change. IsAsked graph.now edit.now change) }
     ensures broken { IfErr result (λ rule. Broken graph.now edit.now rule) }
 {
-    match *edit {
+    match edit {
         Edit::Begin { name, lo, hi } => {
             if graph.horizon().is_some() {
                 return Err(RuleCode::Again);
             }
-            let horizon = Span::new(lo, hi).ok_or(RuleCode::Backwards)?;
-            Ok(Change::Begin { name, horizon })
+            let horizon = Span::new(*lo, *hi).ok_or(RuleCode::Backwards)?;
+            Ok(Change::Begin {
+                name: *name,
+                horizon,
+            })
         }
-        Edit::Extend { lo, hi } => Ok(Change::Widen(wider(graph, lo, hi)?)),
+        Edit::Extend { lo, hi } => Ok(Change::Widen(wider(graph, *lo, *hi)?)),
         Edit::AddNode { id, labels } => {
-            check_new(graph, &id)?;
-            Ok(Change::AddNode { id, labels })
+            check_new(graph, id)?;
+            Ok(Change::AddNode { id: *id, labels })
         }
         Edit::AddEdge {
             id,
@@ -37,18 +40,18 @@ pub(crate) fn find(graph: &Graph, edit: &Edit) -> Result<Change, RuleCode>
             source,
             target,
         } => {
-            check_new(graph, &id)?;
-            let source = named(graph, &source)?;
-            let target = named(graph, &target)?;
+            check_new(graph, id)?;
+            let source = named(graph, source)?;
+            let target = named(graph, target)?;
             Ok(Change::AddEdge {
-                id,
+                id: *id,
                 labels,
                 source,
                 target,
             })
         }
-        Edit::Live { id, from, to } => Ok(Change::Live(site_of(graph, &id, from, to)?)),
-        Edit::Gone { id, from, to } => Ok(Change::Gone(site_of(graph, &id, from, to)?)),
+        Edit::Live { id, from, to } => Ok(Change::Live(site_of(graph, id, *from, *to)?)),
+        Edit::Gone { id, from, to } => Ok(Change::Gone(site_of(graph, id, *from, *to)?)),
         Edit::Put {
             id,
             prop,
@@ -56,14 +59,18 @@ pub(crate) fn find(graph: &Graph, edit: &Edit) -> Result<Change, RuleCode>
             from,
             to,
         } => {
-            let site = site_of(graph, &id, from, to)?;
-            Ok(Change::Put { site, prop, value })
+            let site = site_of(graph, id, *from, *to)?;
+            Ok(Change::Put {
+                site,
+                prop: *prop,
+                value: *value,
+            })
         }
         Edit::Clear { id, prop, from, to } => {
-            let site = site_of(graph, &id, from, to)?;
-            Ok(Change::Clear { site, prop })
+            let site = site_of(graph, id, *from, *to)?;
+            Ok(Change::Clear { site, prop: *prop })
         }
-        Edit::Remove { id } => Ok(Change::Remove(named(graph, &id)?)),
+        Edit::Remove { id } => Ok(Change::Remove(named(graph, id)?)),
     }
 }
 

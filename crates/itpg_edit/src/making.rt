@@ -30,14 +30,17 @@ pub fn apply(graph: &mut Graph, edit: &Edit) -> Result<Touch, EditFault>
     ensures excuse { IfErr result (λ fault. Excuses graph.old edit.now fault) }
     ensures same { OnErr result (graph.new ≡ graph.old) }
 {
-    let change = resolve(graph, edit)?;
+    let change = match resolve(graph, edit) {
+        Ok(change) => change,
+        Err(rule) => return Err(EditFault::Rule(rule)),
+    };
     let touch = change.touch(graph);
     make(graph, &change)?;
     Ok(touch)
 }
 
 // Makes the change. Without memory the graph stays as it was.
-fn make(graph: &mut Graph, change: &Change) -> Result<(), AllocError>
+fn make(graph: &mut Graph, change: &Change<'_>) -> Result<(), AllocError>
     requires found { IsFound graph.old change.now }
     requires fits { Fits graph.old change.now }
     requires moments { BeginsInMoments change.now }
@@ -55,7 +58,7 @@ fn make(graph: &mut Graph, change: &Change) -> Result<(), AllocError>
             Ok(())
         }
         Change::AddNode { id, labels } => {
-            graph.add_node(id, labels)?;
+            graph.add_node(id, *labels)?;
             Ok(())
         }
         Change::AddEdge {
@@ -64,7 +67,7 @@ fn make(graph: &mut Graph, change: &Change) -> Result<(), AllocError>
             source,
             target,
         } => {
-            graph.add_edge(id, labels, source, target)?;
+            graph.add_edge(id, *labels, source, target)?;
             Ok(())
         }
         Change::Live(site) => graph.join_live(site.object, site.span),

@@ -34,7 +34,7 @@ returns-in_err-refuse_if-in-AddEdge-clause-broken c =
     let e = c.in-AddEdge in
     let broken : (edit : Edit) → IsAsked c.args.graph.now edit c.args.change.now → Broken c.args.graph.now edit c.in_err-refuse_if-in-AddEdge.field-0.0 =
     refused c.args.graph.now _ _ _ Kind e.is told.0 (λ edit asked. subst (λ e. Broken c.args.graph.now e Kind) (sym asked.2)
-    (edge_kind c.args.graph.now e.id asked.3 e.labels asked.0 asked.1 e.source e.target asked.4 asked.5 (c.joins_edge.ensures.edge told.1))) in
+    (edge_kind c.args.graph.now e.id asked.3 e.labels.now asked.0 asked.1 e.source e.target asked.4 asked.5 (c.joins_edge.ensures.edge told.1))) in
     search rules
 
 pub returns-in_ok-refuse_if-in-AddEdge-clause-broken : goal.returns-in_ok-refuse_if-in-AddEdge-clause-broken
@@ -42,12 +42,12 @@ returns-in_ok-refuse_if-in-AddEdge-clause-broken c =
     let e = c.in-AddEdge in
     let nodes = c.joins_edge.ensures.nodes c.in_ok-refuse_if-in-AddEdge.ensures.kept in
     last c.args.graph.now c.args.change.now _ Full c.check_room-in-AddEdge.result e.is c.check_room-in-AddEdge.ensures.full
-    (λ told edit asked. subst (λ e. Broken c.args.graph.now e Full) (sym asked.2) (edge_full c.args.graph.now e.id asked.3 e.labels asked.0 asked.1 e.source e.target asked.4 asked.5 nodes.0 nodes.1 told))
+    (λ told edit asked. subst (λ e. Broken c.args.graph.now e Full) (sym asked.2) (edge_full c.args.graph.now e.id asked.3 e.labels.now asked.0 asked.1 e.source e.target asked.4 asked.5 nodes.0 nodes.1 told))
 
 pub returns-in-AddNode-clause-broken : goal.returns-in-AddNode-clause-broken
 returns-in-AddNode-clause-broken c =
     last c.args.graph.now c.args.change.now _ Full c.check_room.result c.in-AddNode.is c.check_room.ensures.full
-    (λ told edit asked. node_full c.args.graph.now c.in-AddNode.id asked.1 c.in-AddNode.labels edit asked.0 told)
+    (λ told edit asked. node_full c.args.graph.now c.in-AddNode.id asked.1 c.in-AddNode.labels.now edit asked.0 told)
 
 pub returns-in-Clear-clause-broken : goal.returns-in-Clear-clause-broken
 returns-in-Clear-clause-broken c =
