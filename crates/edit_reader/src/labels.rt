@@ -27,8 +27,22 @@ impl<'a> Parts<'a> {
         Err(TextCode::Text)
     }
 
-    // The labels of the list that comes first.
+    // The labels of the list that comes first. Mostly it is one word, for which no array is made.
     pub(crate) fn labels(self) -> Result<LabelSet, TextCode>
+        ensures { OfRest self.entry.line.now self.entry.at (λ tokens. AreLabels tokens result) }
+    {
+        let (word, rest) = self.word()?;
+        match rest.behind_comma() {
+            Some(_) => self.several_labels(),
+            None => {
+                let label = name(word)?;
+                Ok(LabelSet::one(label))
+            }
+        }
+    }
+
+    // The same, whatever the number of words.
+    fn several_labels(self) -> Result<LabelSet, TextCode>
         ensures { OfRest self.entry.line.now self.entry.at (λ tokens. AreLabels tokens result) }
     {
         let mut names = [Name::default(); MAX_LABELS];
