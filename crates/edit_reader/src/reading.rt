@@ -67,10 +67,10 @@ fn read_form(line: &[u8]) -> Result<Line<'_>, TextCode>
         told result ≡ form_told (form_of line.now tokens) (parts_of tokens)) }
 {
     let (word, parts) = Parts::new(line).word()?;
-    match Command::of(word) {
-        Some(command) => read_command(command, parts),
-        None => Err(TextCode::Text),
-    }
+    let Some(command) = Command::of(word) else {
+        return Err(TextCode::Text);
+    };
+    read_command(command, parts)
 }
 
 // What a line with this command word asks for, where what stands behind the word is a form.

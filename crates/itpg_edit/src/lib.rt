@@ -18,4 +18,4 @@ pub use checks::broken;
 pub use edit::Edit;
 pub use fault::EditFault;
 pub use laws::{law_of_next, law_of_rules};
-pub use making::apply;
+pub use making::{apply, make_edit};

@@ -1,8 +1,8 @@
 //! Making an edit.
 ghost use Rattle.std.specs.Prelude.{◌≡◌, ◌↔◌, Err, IfOk, IfErr, OnOk, OnErr};
 ghost use Rattle.itpg_base.specs.declared.rule_code.RuleCode.{RuleCode as Code};
-ghost use Rattle.itpg_edit.specs.Rules.{Broken};
-ghost use Rattle.itpg_edit.specs.Next.{Makes, Excuses};
+ghost use Rattle.itpg_edit.specs.Rules.{Broken, Unbroken};
+ghost use Rattle.itpg_edit.specs.Next.{Makes, Next, Excuses};
 ghost use Rattle.itpg_edit.specs.Sites.{HasMoments};
 ghost use Rattle.itpg_edit.specs.Changes.{IsFound, Fits, BeginsInMoments, Leaves, NeedsMemory};
 ghost use Rattle.itpg_edit.specs.declared.fault.EditFault.TheVariants.{Rule as ByRule};
@@ -37,6 +37,30 @@ pub fn apply(graph: &mut Graph, edit: &Edit) -> Result<Touch, EditFault>
     let touch = change.touch(graph);
     make(graph, &change)?;
     Ok(touch)
+}
+
+/// Makes the edit, as `apply` does, where nobody asks what it touches.
+///
+/// The numbers of the edit are moments.
+///
+/// # Errors
+///
+/// As those of `apply`.
+pub fn make_edit(graph: &mut Graph, edit: &Edit) -> Result<(), EditFault>
+    requires { HasMoments edit.now }
+    ensures unbroken { OnOk result (Unbroken graph.old edit.now) }
+    ensures next { OnOk result (Next graph.old edit.now graph.new) }
+    ensures rule { (rule : Code) → (result ≡ Err (ByRule rule)) ↔ Broken graph.old edit.now rule }
+    ensures excuse { IfErr result (λ fault. Excuses graph.old edit.now fault) }
+    ensures same { OnErr result (graph.new ≡ graph.old) }
+{
+    match resolve(graph, edit) {
+        Ok(change) => {
+            make(graph, &change)?;
+            Ok(())
+        }
+        Err(rule) => Err(EditFault::Rule(rule)),
+    }
 }
 
 // Makes the change. Without memory the graph stays as it was.

@@ -25,3 +25,4 @@ pub mod Adding
 pub mod Found
 pub mod Settled
 pub mod KeptTicks
+pub mod FirstEdits

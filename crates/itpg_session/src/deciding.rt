@@ -25,7 +25,7 @@ use crate::session::Session;
 use crate::ticking::tick_all;
 use edit_reader::Line;
 use itpg_base::{Name, RuleCode, TextCode};
-use itpg_edit::{Edit, EditFault, apply};
+use itpg_edit::{Edit, EditFault, apply, make_edit};
 use match_parser::{QueryFault, read_query};
 use path_ast::Query;
 use path_eval::EvalFault;
@@ -75,8 +75,22 @@ impl Session {
         }
     }
 
-    // Makes an edit, or refuses it. What is kept and could be other after it is forgotten, which takes no memory.
+    // Makes an edit, or refuses it.
     fn edit(&mut self, edit: &Edit) -> Result<Reply, AllocError>
+        requires { HasMoments edit.now }
+        ensures decides { Decides (Answers self.old.limit self.old.machine (Changes edit.now)) (WantsMemory self.old.machine (Changes edit.now)) self.old self.new result }
+        ensures forgets { OnOk result (Unbroken self.old.machine.graph edit.now → ForgetsEdit edit.now self.old self.new) }
+        ensures table { ForgetsEdit edit.now self.old self.new ⊎ (self.new.table ≡ self.old.table) }
+        ensures unmade { OnErr result (self.new.table ≡ self.old.table) }
+    {
+        if self.plans.len() == 0 && self.watches.len() == 0 {
+            return self.first_edit(edit);
+        }
+        self.later_edit(edit)
+    }
+
+    // The same at any time. What is kept and could be other after the edit is forgotten, which takes no memory.
+    fn later_edit(&mut self, edit: &Edit) -> Result<Reply, AllocError>
         requires { HasMoments edit.now }
         ensures decides { Decides (Answers self.old.limit self.old.machine (Changes edit.now)) (WantsMemory self.old.machine (Changes edit.now)) self.old self.new result }
         ensures forgets { OnOk result (Unbroken self.old.machine.graph edit.now → ForgetsEdit edit.now self.old self.new) }
@@ -92,6 +106,27 @@ impl Session {
         law_of_graphs(&self.graph);
         self.plans.forget(&touch);
         self.watches.touched(&touch);
+        Ok(Reply::Silent)
+    }
+
+    // The same where nothing was asked and nothing is watched so far, so that nothing depends on the edit.
+    fn first_edit(&mut self, edit: &Edit) -> Result<Reply, AllocError>
+        requires moments { HasMoments edit.now }
+        requires plans { length self.old.table.nodes ≡ 0 }
+        requires kept { length self.old.table.kept ≡ 0 }
+        requires watches { length self.old.watches ≡ 0 }
+        ensures decides { Decides (Answers self.old.limit self.old.machine (Changes edit.now)) (WantsMemory self.old.machine (Changes edit.now)) self.old self.new result }
+        ensures forgets { OnOk result (Unbroken self.old.machine.graph edit.now → ForgetsEdit edit.now self.old self.new) }
+        ensures table { ForgetsEdit edit.now self.old self.new ⊎ (self.new.table ≡ self.old.table) }
+        ensures unmade { OnErr result (self.new.table ≡ self.old.table) }
+    {
+        law_of_graphs(&self.graph);
+        match make_edit(&mut self.graph, edit) {
+            Ok(()) => {}
+            Err(EditFault::Rule(rule)) => return Ok(Reply::Refused(rule)),
+            Err(EditFault::Memory) => return Err(AllocError),
+        }
+        law_of_graphs(&self.graph);
         Ok(Reply::Silent)
     }
 

@@ -3,7 +3,7 @@ use Rattle.itpg_edit.specs.Next.{Excuses}
 use Rattle.itpg_session.specs.Machine.{Standing}
 use Rattle.itpg_session.proofs.Accepting.{refused_edit, unmade_edit, made_edit, forgotten_edit, broken_edit}
 use Rattle.itpg_session.proofs.Lasting.{kept_lasts}
-use Rattle.itpg_session.proofs.session.Session.edit.Goals as goal
+use Rattle.itpg_session.proofs.session.Session.later_edit.Goals as goal
 
 pub returns-in-Err-Rule-clause-decides : goal.returns-in-Err-Rule-clause-decides
 returns-in-Err-Rule-clause-decides c =
