@@ -5,9 +5,9 @@ use Rattle.itpg_base.specs.declared.touch.Touch.{Touch}
 use Rattle.itpg_edit.specs.declared.edit.Edit.{Edit}
 use Rattle.itpg_edit.specs.Rules.{Unbroken}
 use Rattle.itpg_edit.specs.Next.{Next, Makes}
-use Rattle.plan_cache.specs.Nodes.{PlanNode}
+use Rattle.plan_cache.specs.Nodes.{PlanNode, Kept}
 use Rattle.plan_cache.specs.Footprints.{footprints_of}
-use Rattle.plan_cache.specs.KeptRows.{Kept, Forgets}
+use Rattle.plan_cache.specs.KeptRows.{Forgets}
 use Rattle.standing_queries.specs.Watches.{Watch}
 use Rattle.standing_queries.specs.Touched.{AreTouched}
 use Rattle.itpg_session.proofs.OneTouch.{some_touch}

@@ -123,7 +123,7 @@ impl Session {
         law_of_graphs(&self.graph);
         match make_edit(&mut self.graph, edit) {
             Ok(()) => {}
-            Err(EditFault::Rule(rule)) => return Ok(Reply::Refused(rule)),
+            Err(EditFault::Rule(broken)) => return Ok(Reply::Refused(broken)),
             Err(EditFault::Memory) => return Err(AllocError),
         }
         law_of_graphs(&self.graph);
