@@ -1,4 +1,4 @@
-use Rattle.std.proofs.Common.{◌≡◌, inr, length, ap, refl, sym, subst}
+use Rattle.std.proofs.Common.{◌≡◌, length, refl, sym, subst}
 use Rattle.itpg_edit.specs.Next.{Excuses}
 use Rattle.itpg_session.specs.Machine.{Standing}
 use Rattle.itpg_session.proofs.Accepting.{refused_edit, unmade_edit, made_edit, forgotten_edit, broken_edit}
