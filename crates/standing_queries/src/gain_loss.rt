@@ -32,7 +32,7 @@ pub fn changes(alloc: Global, base: &Answer, now: &Answer) -> Result<GainLoss, A
     ensures lost { IfOk result (λ c. IsRest (answered base.now) (answered now.now) (answered c.lost)) }
 {
     if base.same(now) {
-        return nothing(alloc, now);
+        return no_changes(alloc, now);
     }
     Ok(GainLoss {
         gained: rest(alloc, now, base)?,
@@ -40,8 +40,12 @@ pub fn changes(alloc: Global, base: &Answer, now: &Answer) -> Result<GainLoss, A
     })
 }
 
-// What changed where nothing did.
-fn nothing(alloc: Global, answer: &Answer) -> Result<GainLoss, AllocError>
+/// What changed between an answer and itself: nothing.
+///
+/// # Errors
+///
+/// If memory runs out.
+pub fn no_changes(alloc: Global, answer: &Answer) -> Result<GainLoss, AllocError>
     ensures gained { IfOk result (λ c. IsRest (answered answer.now) (answered answer.now) (answered c.gained)) }
     ensures lost { IfOk result (λ c. IsRest (answered answer.now) (answered answer.now) (answered c.lost)) }
 {
