@@ -34,6 +34,11 @@ AreTicked g limit [] (x ∷ xs) = ⊥
 AreTicked g limit (w ∷ ws) [] = ⊥
 AreTicked g limit (w ∷ ws) (x ∷ xs) = IsTicked g limit w x × AreTicked g limit ws xs
 
+-- the answer of the watch of this name is found as its base has it, and so nothing is gained or lost
+abbrev pub IsUnmoved : Word → Answered → Ticked → Type 0
+IsUnmoved name answer (StaysWide other) = ⊥
+IsUnmoved name answer (Moves other now gained lost) = (other ≡ name) × (now ≡ answer) × IsRest answer answer gained × IsRest answer answer lost
+
 -- the watch is too wide
 abbrev pub stays_wide : Ticked → Bool
 stays_wide (StaysWide name) = true

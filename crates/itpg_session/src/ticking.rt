@@ -9,7 +9,7 @@ ghost use Rattle.row_printer.specs.Texts.{AreDeclared};
 ghost use Rattle.itpg_session.specs.Questions.{IsTooWide, HasAnswer};
 ghost use Rattle.itpg_session.specs.PlainWatches.{plain, all_plain};
 ghost use Rattle.itpg_session.specs.Keeping.{IsKeptRight, IsTableRight, IsWorked, KeepsPath, KeepsTicked, KeepAllTicked};
-ghost use Rattle.itpg_session.specs.Ticks.{ticked_of, IsTicked, AreTicked, stays_wide, settled_at, all_settled};
+ghost use Rattle.itpg_session.specs.Ticks.{ticked_of, IsTicked, AreTicked, IsUnmoved, stays_wide, settled_at, all_settled};
 ghost use Rattle.itpg_session.specs.Texts.{changes_text, ticked_text, tick_text};
 ghost use Rattle.itpg_session.specs.Watching.{IsTickDeclared, AreTicksDeclared, IsMoveOfKind, AreMovesOfKind};
 
@@ -21,7 +21,7 @@ use path_eval::EvalFault;
 use plan_cache::Plans;
 use relation_rows::Answer;
 use row_printer::print_rows;
-use standing_queries::{GainLoss, Watches, changes};
+use standing_queries::{GainLoss, Watches, changes, no_changes};
 use std::alloc::{AllocError, Global};
 use std::marker::Model;
 
@@ -73,8 +73,7 @@ impl Twice {
         requires kind { IsSomeAnd (slice_get watches.old place) (λ w. IsOfKind w.query self) }
         ensures { watches.new ≡ changed_at watches.old place (λ w. record w { base = self; now = Some self }) }
     {
-        watches.set_base(place, self.one);
-        watches.set_now(place, self.other);
+        watches.settle(place, self.one, self.other);
     }
 }
 
@@ -119,6 +118,9 @@ fn tick_one(
     ensures keeps { IfOk result (λ found. IsSomeAnd (slice_get watches.now place) (λ w. KeepsTicked graph.now plans.new (plain w) (ticked_of found))) }
 {
     let name = watches.name(place);
+    if let Some(answer) = watches.settled(place) {
+        return unmoved(alloc, name, answer);
+    }
     match answer_now(alloc, graph, plans, max_rows, watches, place) {
         Ok(now) => {
             let changes = changes(alloc, watches.base(place), &now)?;
@@ -128,6 +130,15 @@ fn tick_one(
         Err(EvalFault::Wide) => Ok(Ticked::StaysWide { name }),
         Err(EvalFault::Memory) => Err(AllocError),
     }
+}
+
+// What a tick finds of the watch of a name whose base is its kept answer: that nothing changed. No rows are looked at.
+fn unmoved(alloc: Global, name: Name, answer: &Answer) -> Result<Ticked, AllocError>
+    ensures { IfOk result (λ found. IsUnmoved name (answered answer.now) (ticked_of found)) }
+{
+    let now = Twice::of(answer.copy()?)?;
+    let changes = no_changes(alloc, answer)?;
+    Ok(Ticked::Moves { name, now, changes })
 }
 
 // The answer of the watch at a place: the one that is kept, or else what is found.

@@ -7,6 +7,8 @@ use Rattle.band_normal.specs.declared.band.End.TheVariants.{Fixed, Moving}
 use Rattle.band_normal.specs.contracts.band.EndPartialEq.TheImpl as ends
 use Rattle.relation_rows.specs.declared.rows.Row.{Row}
 use Rattle.relation_rows.specs.contracts.rows.RowPartialEq.TheImpl as rows
+use Rattle.relation_rows.specs.declared.times.OneRow.{OneRow}
+use Rattle.relation_rows.specs.contracts.times.OneRowPartialEq.TheImpl as ones
 
 pub both_decide : {P Q : Type 0} (a b : Bool) → Decides a P → Decides b Q → Decides (a && b) (P × Q)
 both_decide true b d e = (λ h. (d.0 refl, e.0 h), λ h. e.1 h.1)
@@ -33,4 +35,15 @@ row_decides r s =
         ap (λ (v : Row). v.source.0) e,
         (ap (λ (v : Row). v.target.0) e, (ap (λ (v : Row). v.band.from) e, (ap (λ (v : Row). v.band.to) e, (ap (λ (v : Row). v.band.low) e, ap (λ (v : Row). v.band.high) e)))),
       ),
+    )
+
+same_one : {o p : ℕ} {f g t u : ℤ} → o ≡ p → f ≡ g → t ≡ u
+    → let x : OneRow = record { object = record { 0 = o }; span = record { from = f; to = t } } in x ≡ record { object = record { 0 = p }; span = record { from = g; to = u } }
+same_one a b c = cc
+
+pub one_decides : (r s : OneRow) → Decides ((ones.ghosts).eq r s) (r ≡ s)
+one_decides r s =
+    let d = both_decide _ _ (Decides-eqb r.object.0 s.object.0) (both_decide _ _ (Decides-int_eq r.span.from s.span.from) (Decides-int_eq r.span.to s.span.to)) in (
+      λ h. let e = d.0 h in same_one e.0 (e.1).0 (e.1).1,
+      λ e. d.1 (ap (λ (v : OneRow). v.object.0) e, (ap (λ (v : OneRow). v.span.from) e, ap (λ (v : OneRow). v.span.to) e)),
     )

@@ -45,3 +45,4 @@ pub mod IdleRows
 pub mod CutRows
 pub mod Neighbours
 pub mod BandWays
+pub mod OffsetLemmas

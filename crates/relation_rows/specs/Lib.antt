@@ -2,6 +2,7 @@ pub mod Rows
 pub mod Answers
 pub mod Relations
 pub mod Gathering
+pub mod Held
 pub mod Searching
 pub mod Timetables
 pub mod Ways
@@ -14,3 +15,4 @@ pub mod Apart
 pub mod Resting
 pub mod Direct
 pub mod Idle
+pub mod Offsets

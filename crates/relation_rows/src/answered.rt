@@ -1,6 +1,6 @@
 //! What a query is answered by.
 
-ghost use Rattle.std.specs.Prelude.{◌≡◌, IfOk};
+ghost use Rattle.std.specs.Prelude.{◌≡◌, ◌↔◌, IfOk, IsTrue};
 ghost use Rattle.relation_rows.specs.Answered.{answered, row_number};
 
 use crate::relations::Relation;
@@ -28,7 +28,18 @@ impl Answer {
         }
     }
 
-    /// An answer with the same rows.
+    /// Whether the two are of one kind and have the same rows.
+    pub fn same(&self, other: &Answer) -> bool
+        ensures { IsTrue result ↔ (answered self.now ≡ answered other.now) }
+    {
+        match (self, other) {
+            (Answer::Pairs(rows), Answer::Pairs(others)) => rows.same(others),
+            (Answer::Times(rows), Answer::Times(others)) => rows.same(others),
+            _ => false,
+        }
+    }
+
+    /// An answer with the same rows. It takes no memory for those of a relation, nor for times that a relation gave.
     pub fn copy(&self) -> Result<Answer, AllocError>
         ensures { IfOk result (λ copy. answered copy ≡ answered self.now) }
     {

@@ -22,7 +22,7 @@ use crate::known::Known;
 use crate::offsets::Offsets;
 use crate::relations::Relation;
 use crate::rows::{RelFault, Row};
-use crate::timetable::Leg;
+use crate::timetable::{Leg, timetable};
 use crate::ways::{FEW, MANY, with_ways};
 use itpg_base::count_leading;
 use std::alloc::{AllocError, Global};
@@ -61,18 +61,19 @@ fn batch_len(rows: &[Row], first: &Row) -> usize
     ensures within { result ≤ length rows.now }
     ensures apart { (r : PlainRow) → (s : PlainRow) → Among (take result rows.now) r → Among (drop result rows.now) s → r.source.0 < s.source.0 }
 {
-    let Some(next) = rows.get(BATCH) else {
+    if rows.len() <= BATCH {
         return rows.len();
-    };
-    let count = count_leading(rows, |row| row.source.0 < next.source.0);
-    if count > 0 {
-        return count;
+    }
+    for count in (1..BATCH + 1).rev() {
+        if rows[count - 1].source.0 < rows[count].source.0 {
+            return count;
+        }
     }
     source_count(rows, first)
 }
 
-/// The rows from the objects from which there are many.
-pub(crate) fn busy_rows(alloc: Global, rows: &[Row]) -> Result<Vec<Row>, AllocError>
+// The rows from the objects from which there are many.
+fn busy_rows(alloc: Global, rows: &[Row]) -> Result<Vec<Row>, AllocError>
     requires { Ordered RowBefore rows.now }
     ensures there { IfOk result (λ busy. (r : PlainRow) → Among busy.items r → Among rows.now r) }
     ensures busy { IfOk result (λ busy. HasBusy rows.now busy.items) }
@@ -131,8 +132,7 @@ fn stretch_len(rows: &[Row]) -> usize
 fn by_zones(
     known: &mut Known,
     rows: &[Row],
-    second: &[Row],
-    begins: &Offsets,
+    second: &Offsets<'_>,
     busy: &[Leg],
     room: usize,
 ) -> Result<Relation, RelFault>
@@ -144,7 +144,7 @@ fn by_zones(
     let mut found = Vec::new(alloc);
     if rows.len() <= BATCH {
         let space = Vec::with_capacity(alloc, BATCH)?;
-        let ways = with_ways(space, &mut found, rows, second, begins, busy)?;
+        let ways = with_ways(space, &mut found, rows, second, busy)?;
         return gathered_of(known, ways, room);
     }
     let sorted = by_departure(alloc, rows)?;
@@ -154,7 +154,7 @@ fn by_zones(
     let mut left = &sorted[..];
     while !left.is_empty() {
         let (part, later) = left.split_at(stretch_len(left));
-        ways = with_ways(ways, &mut found, part, second, begins, busy)?;
+        ways = with_ways(ways, &mut found, part, second, busy)?;
         if ways.len() > MANY {
             let complete = gathered_of(known, ways, room - count)?;
             count += complete.rows.len();
@@ -171,8 +171,7 @@ fn by_zones(
 fn of_sources(
     known: &mut Known,
     rows: &[Row],
-    second: &[Row],
-    begins: &Offsets,
+    second: &Offsets<'_>,
     busy: &[Leg],
     room: usize,
 ) -> Result<Relation, RelFault>
@@ -181,8 +180,8 @@ fn of_sources(
     requires second { AreComposed second.now busy.now }
     ensures { Gives result (HasMiddlePoint rows.now second.now) room }
 {
-    let Some(ways) = direct_rows(known.allocator(), rows, second, begins)? else {
-        return by_zones(known, rows, second, begins, busy, room);
+    let Some(ways) = direct_rows(known.allocator(), rows, second)? else {
+        return by_zones(known, rows, second, busy, room);
     };
     if ways.len() > room {
         return Err(RelFault::Wide);
@@ -190,34 +189,50 @@ fn of_sources(
     Ok(Relation { rows: ways })
 }
 
-/// The relation of the ways that begin with the rows and go on in the second. The legs are those of the second's busy objects.
+// A timetable of the rows from the objects from which there are many.
+fn busy_legs(alloc: Global, second: &Offsets<'_>) -> Result<Vec<Leg>, AllocError>
+    requires { (r : PlainRow) → Among second.now r → IsWellFormed r.band }
+    ensures { IfOk result (λ busy. AreComposed second.now busy.items) }
+{
+    let rows = busy_rows(alloc, second.rows())?;
+    let legs = timetable(alloc, &rows)?;
+    Ok(legs)
+}
+
+/// The relation of the ways that begin with the rows and go on in the second.
 pub(crate) fn composed(
     alloc: Global,
     rows: &[Row],
-    second: &[Row],
-    begins: &Offsets,
-    busy: &[Leg],
+    second: &Offsets<'_>,
     max_rows: usize,
 ) -> Result<Relation, RelFault>
     requires order { Ordered RowBefore rows.now }
     requires rows { AreLone rows.now }
-    requires lone { AreLone second.now }
-    requires second { AreComposed second.now busy.now }
+    requires second { AreLone second.now }
     ensures { Gives result (HasMiddlePoint rows.now second.now) max_rows }
 {
-    let mut known = Known::new(alloc);
-    let mut done = Vec::new(alloc);
+    let mut done = Vec::with_capacity(alloc, rows.len().min(second.rows().len()))?;
     let mut left = rows;
     while let Some(first) = left.first() {
         let (group, later) = left.split_at(batch_len(left, first));
-        let more = of_sources(
-            &mut known,
-            group,
-            second,
-            begins,
-            busy,
-            max_rows - done.len(),
-        )?;
+        let Some(ways) = direct_rows(alloc, group, second)? else {
+            break;
+        };
+        if ways.len() > max_rows - done.len() {
+            return Err(RelFault::Wide);
+        }
+        done.extend_from_slice(&ways)?;
+        left = later;
+    }
+    if left.is_empty() {
+        return Ok(Relation { rows: done });
+    }
+    let busy = busy_legs(alloc, second)?;
+    let mut known = Known::new(alloc);
+    while let Some(first) = left.first() {
+        let (group, later) = left.split_at(batch_len(left, first));
+        let room = max_rows - done.len();
+        let more = of_sources(&mut known, group, second, &busy, room)?;
         done.extend_from_slice(&more.rows)?;
         left = later;
     }

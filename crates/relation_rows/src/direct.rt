@@ -18,7 +18,6 @@ ghost use Rattle.relation_rows.specs.Direct.{Rests, TellsWays, LeadsBy, AddsWays
 use crate::apart::put_apart;
 use crate::offsets::Offsets;
 use crate::rows::Row;
-use crate::search::rows_from;
 use crate::ways::{MANY, is_still};
 use band_normal::{Band, End};
 use std::alloc::{AllocError, Global};
@@ -187,21 +186,15 @@ fn push_onward(ways: &mut Vec<Row>, row: &Row, here: &[Row]) -> Result<bool, All
 }
 
 // Adds the ways that begin with the row. False if some aren't known, or if there are too many.
-fn push_from(
-    ways: &mut Vec<Row>,
-    row: &Row,
-    second: &[Row],
-    begins: &Offsets,
-) -> Result<bool, AllocError>
+fn push_from(ways: &mut Vec<Row>, row: &Row, second: &Offsets<'_>) -> Result<bool, AllocError>
     requires row { IsLone row.now.band }
-    requires order { Ordered RowBefore second.now }
     requires second { AreLone second.now }
     ensures { IfOk result (λ told. AddsWays (GoesOn row.now second.now) told ways.old.items ways.new.items) }
 {
     if ways.len() > MANY {
         return Ok(false);
     }
-    let here = rows_from(second, begins.of(row.target), row.target);
+    let here = second.from(row.target);
     let told = push_onward(ways, row, here)?;
     Ok(told)
 }
@@ -210,17 +203,15 @@ fn push_from(
 fn known_ways(
     alloc: Global,
     rows: &[Row],
-    second: &[Row],
-    begins: &Offsets,
+    second: &Offsets<'_>,
 ) -> Result<Option<Vec<Row>>, AllocError>
     requires rows { AreLone rows.now }
-    requires order { Ordered RowBefore second.now }
     requires second { AreLone second.now }
     ensures { IfOk result (λ o. IfSome o (λ ways. AddsWays (HasMiddlePoint rows.now second.now) true [] ways.items)) }
 {
     let mut ways = Vec::with_capacity(alloc, rows.len())?;
     for row in rows {
-        if !push_from(&mut ways, row, second, begins)? {
+        if !push_from(&mut ways, row, second)? {
             return Ok(None);
         }
     }
@@ -231,15 +222,13 @@ fn known_ways(
 pub(crate) fn direct_rows(
     alloc: Global,
     rows: &[Row],
-    second: &[Row],
-    begins: &Offsets,
+    second: &Offsets<'_>,
 ) -> Result<Option<Vec<Row>>, AllocError>
     requires rows { AreLone rows.now }
-    requires order { Ordered RowBefore second.now }
     requires second { AreLone second.now }
     ensures { IfOk result (λ o. IfSome o (λ ways. AreItsRows (HasMiddlePoint rows.now second.now) ways.items)) }
 {
-    let Some(mut ways) = known_ways(alloc, rows, second, begins)? else {
+    let Some(mut ways) = known_ways(alloc, rows, second)? else {
         return Ok(None);
     };
     if put_apart(&mut ways) {

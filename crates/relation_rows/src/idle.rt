@@ -58,12 +58,12 @@ fn takes_on(next: &Row, row: &Row) -> bool
 }
 
 // Whether each row is taken on by one of the second list.
-fn are_taken_on(rows: &[Row], second: &[Row], begins: &Offsets) -> bool
+fn are_taken_on(rows: &[Row], second: &Offsets<'_>) -> bool
     requires { (r : PlainRow) → Among rows.now r → IsWellFormed r.band }
     ensures { IsTrue result → EachHas TakesOn rows.now second.now }
 {
     for row in rows {
-        let Some(next) = second.get(begins.of(row.target).0) else {
+        let Some(next) = second.from(row.target).first() else {
             return false;
         };
         if !takes_on(next, row) {
@@ -84,11 +84,11 @@ fn departs_with(row: &Row, next: &Row) -> bool
 }
 
 // Whether with each row of the second list one of the rows departs.
-fn are_reached(rows: &[Row], begins: &Offsets, second: &[Row]) -> bool
+fn are_reached(rows: &Offsets<'_>, second: &[Row]) -> bool
     ensures { IsTrue result → EachHas DepartsWith second.now rows.now }
 {
     for next in second {
-        let Some(row) = rows.get(begins.of(next.source).0) else {
+        let Some(row) = rows.from(next.source).first() else {
             return false;
         };
         if !departs_with(row, next) {
@@ -98,29 +98,33 @@ fn are_reached(rows: &[Row], begins: &Offsets, second: &[Row]) -> bool
     true
 }
 
-/// The list that has all ways by the rows and then the second, if it is one of the two and that is seen.
-pub(crate) fn whole_side<'a>(
+/// Whether the second list has all ways by the rows and then itself. False also where that isn't seen.
+pub(crate) fn is_second_whole(
     alloc: Global,
-    rows: &'a [Row],
-    second: &'a [Row],
-    begins: &Offsets,
-) -> Result<Option<&'a [Row]>, AllocError>
+    rows: &[Row],
+    second: &[Row],
+) -> Result<bool, AllocError>
     requires rows { IsRelation rows.now }
     requires second { IsRelation second.now }
-    ensures { IfOk result (λ o. IfSome o (λ side. IsWholeSide rows.now second.now side.now)) }
+    ensures { IfOk result (λ whole. IsTrue whole → IsWholeSide rows.now second.now second.now) }
 {
-    if are_idle(second) {
-        if are_taken_on(rows, second, begins) {
-            return Ok(Some(rows));
-        }
+    if !are_idle(rows) {
+        return Ok(false);
     }
-    if are_idle(rows) {
-        let starts = offsets_of(alloc, rows, second.len())?;
-        if are_reached(rows, &starts, second) {
-            return Ok(Some(second));
-        }
+    let starts = offsets_of(alloc, rows, second.len())?;
+    Ok(are_reached(&starts, second))
+}
+
+/// Whether the rows have all ways by themselves and then the second list. False also where that isn't seen.
+pub(crate) fn is_first_whole(rows: &[Row], second: &Offsets<'_>) -> bool
+    requires rows { IsRelation rows.now }
+    requires second { IsRelation second.now }
+    ensures { IsTrue result → IsWholeSide rows.now second.now rows.now }
+{
+    if !are_idle(second.rows()) {
+        return false;
     }
-    Ok(None)
+    are_taken_on(rows, second)
 }
 
 /// A relation of the same rows.

@@ -11,6 +11,7 @@ mod apart;
 mod compose;
 mod direct;
 mod gather;
+mod held;
 mod idle;
 mod known;
 pub mod laws;

@@ -11,9 +11,9 @@ ghost use Rattle.relation_rows.specs.Answers.{Gives};
 ghost use Rattle.relation_rows.specs.Times.{AreTimes, Departs, Arrives};
 ghost use Rattle.relation_rows.specs.Relations.{ItemsHold, Rise, IsItself, EitherHolds, HasMiddlePoint, IsBetween, OnlyFirstHolds};
 
-use crate::compose::{busy_rows, composed};
+use crate::compose::composed;
 use crate::gather::{each_to_itself, gathered_all, gathered_of};
-use crate::idle::{copied, whole_side};
+use crate::idle::{copied, is_first_whole, is_second_whole};
 use crate::known::Known;
 use crate::minus::only_in_first;
 use crate::offsets::offsets_of;
@@ -21,7 +21,6 @@ use crate::rows::{RelFault, Row};
 use crate::search::{is_in_band, rows_between, rows_of_key};
 use crate::strike::struck;
 use crate::times::{OneTime, Side, times_of};
-use crate::timetable::timetable;
 use crate::union::united;
 use interval_set::Span;
 use itpg_base::ObjNo;
@@ -156,20 +155,14 @@ impl Relation {
         ensures { Gives result (HasMiddlePoint self.now other.now) max_rows }
     {
         let alloc = *self.rows.allocator();
-        let begins = offsets_of(alloc, &other.rows, self.rows.len())?;
-        if let Some(side) = whole_side(alloc, &self.rows, &other.rows, &begins)? {
-            return copied(alloc, side, max_rows as usize);
+        if is_second_whole(alloc, &self.rows, &other.rows)? {
+            return copied(alloc, &other.rows, max_rows as usize);
         }
-        let rows = busy_rows(alloc, &other.rows)?;
-        let busy = timetable(alloc, &rows)?;
-        composed(
-            alloc,
-            &self.rows,
-            &other.rows,
-            &begins,
-            &busy,
-            max_rows as usize,
-        )
+        let second = offsets_of(alloc, &other.rows, self.rows.len())?;
+        if is_first_whole(&self.rows, &second) {
+            return copied(alloc, &self.rows, max_rows as usize);
+        }
+        composed(alloc, &self.rows, &second, max_rows as usize)
     }
 
     /// The pairs that lead from one of the sources to one of the targets. Both lists rise.

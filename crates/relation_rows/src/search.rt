@@ -59,17 +59,12 @@ pub(crate) fn rows_of_key(rows: &[Row], source: ObjNo, target: ObjNo) -> &[Row]
     &from[..count]
 }
 
-// How many of the rows come from an object before the source. The place that is told is looked at first.
-fn count_before(rows: &[Row], told: usize, source: ObjNo) -> usize
+// How many of the rows come from an object before the source.
+fn count_before(rows: &[Row], source: ObjNo) -> usize
     requires { Ordered RowBefore rows.now }
     ensures within { result ≤ length rows.now }
     ensures point { IsPartitionPoint (λ (r : Row). nat_lt r.source.0 source.0 ≡ true) (λ (r : Row). nat_lt r.source.0 source.0 ≡ false) rows.now result }
 {
-    if told < rows.len() && source.0 <= rows[told].source.0 {
-        if told == 0 || rows[told - 1].source.0 < source.0 {
-            return told;
-        }
-    }
     let count = rows.len();
     if count > 0 {
         if rows[count - 1].source.0 < source.0 {
@@ -79,34 +74,24 @@ fn count_before(rows: &[Row], told: usize, source: ObjNo) -> usize
     rows.partition_point(|row| row.source.0 < source.0)
 }
 
-// How many of the rows, from the first on, come from the source. The number that is told is tried first.
-fn count_of(rows: &[Row], told: usize, source: ObjNo) -> usize
+// How many of the rows, from the first on, come from the source.
+fn count_of(rows: &[Row], source: ObjNo) -> usize
     requires { IsPartitionedBy (λ (r : Row). r.source.0 == source.0) rows.now }
     ensures within { result ≤ length rows.now }
     ensures point { IsPartitionPoint (λ (r : Row). (r.source.0 == source.0) ≡ true) (λ (r : Row). (r.source.0 == source.0) ≡ false) rows.now result }
 {
-    if 0 < told && told < rows.len() {
-        if rows[told - 1].source.0 == source.0 && rows[told].source.0 != source.0 {
-            return told;
-        }
-    }
-    if rows.len() > 0 {
-        if rows[0].source.0 != source.0 {
-            return 0;
-        }
-    }
     count_leading(rows, |row| row.source.0 == source.0)
 }
 
-/// The rows from the source, of rows in order. They are looked for first from the one place that is told to the other.
-pub(crate) fn rows_from(rows: &[Row], told: (usize, usize), source: ObjNo) -> &[Row]
+/// The rows from the source, of rows in order.
+pub(crate) fn rows_from(rows: &[Row], source: ObjNo) -> &[Row]
     requires { Ordered RowBefore rows.now }
     ensures rows { (r : Row) → Among result.now r ↔ (Among rows.now r × (r.source.0 ≡ source.0)) }
     ensures order { Ordered RowBefore result.now }
 {
-    let begin = count_before(rows, told.0, source);
+    let begin = count_before(rows, source);
     let from = &rows[begin..];
-    let count = count_of(from, told.1.saturating_sub(begin), source);
+    let count = count_of(from, source);
     &from[..count]
 }
 

@@ -11,6 +11,7 @@ ghost use Rattle.relation_rows.specs.Times.{InTime, TimesHold, IsOneTime, OnlyFi
 ghost use Rattle.relation_rows.specs.Answers.{Gives};
 ghost use Rattle.relation_rows.specs.Resting.{AreNearTimes, StaysWithin};
 
+use crate::held::Held;
 use crate::relations::Relation;
 use crate::resting::rows_at_rest;
 use crate::rows::{RelFault, Row};
@@ -34,19 +35,20 @@ pub struct OneRow {
 /// moment, and between two of one object at least one moment is missing.
 #[derive(Drop)]
 pub struct OneTime {
-    pub(crate) rows: Vec<OneRow>,
+    pub(crate) rows: Held,
 }
 
 impl Model for OneTime {
     ghost use Rattle.std.specs.Prelude.{List};
     ghost use Rattle.relation_rows.specs.declared.times.OneRow.{OneRow};
     ghost use Rattle.relation_rows.specs.Times.{IsOneTime};
+    ghost use Rattle.relation_rows.specs.Held.{held};
 
     ghost Value = { List OneRow };
 
-    ghost view = { λ r. r.rows.items };
+    ghost view = { λ r. held r.rows };
 
-    ghost invariant = { λ r. IsOneTime r.rows.items };
+    ghost invariant = { λ r. IsOneTime (held r.rows) };
 }
 
 impl OneTime {
@@ -55,7 +57,7 @@ impl OneTime {
         ensures value { result.now ≡ self.now }
         ensures times { AreTimes (TimesHold self.now) self.now }
     {
-        &self.rows
+        self.rows.rows()
     }
 
     /// The objects at the moments of these rows, which stand by object and first moment, and between two of one object at least one
@@ -64,15 +66,25 @@ impl OneTime {
         requires { IsOneTime rows.items }
         ensures { result ≡ rows.items }
     {
-        OneTime { rows }
+        OneTime {
+            rows: Held::Own(rows),
+        }
     }
 
-    /// Equal rows of its own.
+    /// The same rows.
     pub(crate) fn copy(&self) -> Result<OneTime, AllocError>
         ensures { IfOk result (λ copy. copy ≡ self.now) }
     {
-        let rows = Vec::from_slice(*self.rows.allocator(), &self.rows)?;
-        Ok(OneTime { rows })
+        Ok(OneTime {
+            rows: self.rows.copy()?,
+        })
+    }
+
+    /// Whether the two have the same rows.
+    pub(crate) fn same(&self, other: &OneTime) -> bool
+        ensures { IsTrue result ↔ (self.now ≡ other.now) }
+    {
+        self.rows.rows() == other.rows.rows()
     }
 
     /// The relation in which each of the points leads to itself. `Wide` exactly if its normal rows, one for each row here, are more than
@@ -83,10 +95,11 @@ impl OneTime {
         requires { AreNearTimes self.now }
         ensures { Gives result (StaysWithin self.now) max_rows }
     {
-        if self.rows.len() > max_rows as usize {
+        let times = self.rows.rows();
+        if times.len() > max_rows as usize {
             return Err(RelFault::Wide);
         }
-        let rows = rows_at_rest(*self.rows.allocator(), &self.rows)?;
+        let rows = rows_at_rest(self.rows.allocator(), times)?;
         Ok(Relation { rows })
     }
 
@@ -94,8 +107,7 @@ impl OneTime {
     pub fn minus(&self, other: &OneTime) -> Result<OneTime, AllocError>
         ensures { IfOk result (λ rest. AreTimes (OnlyFirstHas self.now other.now) rest) }
     {
-        let alloc = *self.rows.allocator();
-        only_first(alloc, &self.rows, &other.rows)
+        only_first(self.rows.allocator(), self.rows.rows(), other.rows.rows())
     }
 }
 
@@ -201,7 +213,9 @@ fn runs_of(alloc: Global, mut times: Vec<OneRow>) -> Result<OneTime, AllocError>
 {
     put_in_order(&mut times);
     let rows = joined_all(alloc, &times)?;
-    Ok(OneTime { rows })
+    Ok(OneTime {
+        rows: Held::shared(alloc, rows)?,
+    })
 }
 
 // The moments at which the band arrives. Its ends move by one or stay, so they are all from its low

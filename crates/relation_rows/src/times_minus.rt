@@ -151,5 +151,5 @@ pub(crate) fn only_first(
     for row in first {
         cuts = push_left(&mut times, row, cuts)?;
     }
-    Ok(OneTime { rows: times })
+    Ok(OneTime::from_rows(times))
 }

@@ -18,7 +18,6 @@ ghost use Rattle.relation_rows.specs.Ways.{ItemThere, GoesOn, GoesOnBy, GoesThro
 use crate::gather::{Item, gathered_all, push_zones};
 use crate::offsets::Offsets;
 use crate::rows::Row;
-use crate::search::rows_from;
 use crate::timetable::{Leg, find_departing};
 use band_normal::{Band, End, zone_of};
 use itpg_base::ObjNo;
@@ -126,15 +125,14 @@ fn push_ways(
     items: &mut Vec<Item>,
     found: &mut Vec<Leg>,
     row: &Row,
-    second: &[Row],
-    begins: &Offsets,
+    second: &Offsets<'_>,
     busy: &[Leg],
 ) -> Result<(), AllocError>
     requires row { IsWellFormed row.now.band }
     requires second { AreComposed second.now busy.now }
     ensures { OnOk result ((x : Point) → (y : Point) → ItemsHold items.new.items x y ↔ (ItemsHold items.old.items x y ⊎ GoesOn row.now second.now x y)) }
 {
-    let here = rows_from(second, begins.of(row.target), row.target);
+    let here = second.from(row.target);
     if here.len() <= FEW {
         push_scanned(items, row, here)?;
         return Ok(());
@@ -162,8 +160,7 @@ pub(crate) fn with_ways(
     ways: Vec<Item>,
     found: &mut Vec<Leg>,
     rows: &[Row],
-    second: &[Row],
-    begins: &Offsets,
+    second: &Offsets<'_>,
     busy: &[Leg],
 ) -> Result<Vec<Item>, AllocError>
     requires rows { (r : PlainRow) → Among rows.now r → IsWellFormed r.band }
@@ -174,7 +171,7 @@ pub(crate) fn with_ways(
     let mut most = MANY;
     for row in rows {
         most = most.max(all.len().saturating_mul(2));
-        push_ways(&mut all, found, row, second, begins, busy)?;
+        push_ways(&mut all, found, row, second, busy)?;
         all = united_beyond(all, most)?;
     }
     Ok(all)

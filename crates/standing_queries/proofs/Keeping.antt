@@ -1,8 +1,8 @@
 -- What is kept, and the watches that it stands for.
-use Rattle.std.proofs.Common.{◌≡◌, ◌↔◌, ⊎_elim, inl, inr, ℕ, zero, suc, ◌+◌, ◌<◌, ◌≤◌, Bool, true, false, cond, List, ◌∷◌, [], ◌++◌, length, map, take, set, get_or, Option, Some, None, refl, sym, ◌∙◌, ap, subst, arith, true≢false, length-set}
+use Rattle.std.proofs.Common.{◌≡◌, ◌↔◌, ◌⊎◌, ⊎_elim, inl, inr, ℕ, zero, suc, ◌+◌, ◌<◌, ◌≤◌, Bool, true, false, cond, List, ◌∷◌, [], ◌++◌, length, map, take, drop, set, get_or, Option, Some, None, refl, sym, ◌∙◌, ap, subst, arith, true≢false, length-set}
 use Rattle.std.proofs.lemmas.List.{length-map, map-append, take_all, length-append}
 use Rattle.std.proofs.lemmas.Option.{slice_get_read}
-use Rattle.std.specs.Prelude.{nat_eq, slice_get, slice_set, option_map, is_some, IfSome, IsSome, IsNone, IsSomeAnd}
+use Rattle.std.specs.Prelude.{nat_eq, slice_get, slice_set, option_map, is_some, IfSome, IsSome, IsNone, IsSomeAnd, IsTrue}
 use Rattle.std.specs.List.{remove, zip}
 use Rattle.std.specs.Cmp.Lexicographic.{pointwise}
 use Rattle.itpg_base.specs.Words.{Word}
@@ -16,19 +16,38 @@ use Rattle.path_ast.specs.Terms.{QueryTerm, query_term}
 use Rattle.itpg_base.specs.Lists.{Among}
 use Rattle.relation_rows.specs.declared.answered.Answer.{Answer}
 use Rattle.relation_rows.specs.Answered.{pairs, times, answered}
-use Rattle.relation_rows.proofs.Partitions.{among_more}
+use Rattle.itpg_base.proofs.Lists.{among_append}
+use Rattle.relation_rows.proofs.Partitions.{among_more, front_among, rest_among}
 use Rattle.standing_queries.specs.declared.kept.Kept.{Kept}
 use Rattle.standing_queries.specs.Watches.{Watch, MayBeWatched, IsWatched, IsOnlyPlace, asks_for_both, IsOfKind, no_rows, new_watch, without, IsFresh, Keeps}
-use Rattle.standing_queries.specs.Stores.{watch_of, watches_of, IsSound, AreSound, AreStored}
+use Rattle.standing_queries.specs.Stores.{watch_of, watches_of, IsSound, AreSound, IsSettled, AreStored}
 use Rattle.standing_queries.specs.Touched.{IsTouched, IsTouchedAt}
 use Rattle.standing_queries.proofs.DecidedTouch.{decide_meets}
 use Rattle.standing_queries.proofs.Pairs.{got, zip_get, zip_length, zip_remove, zip_set, zip_push, zip_second, zip_among, zip_first}
 use Rattle.standing_queries.proofs.Named.{get_among, place_among, one_place}
 use Rattle.standing_queries.proofs.Watching.{map_among, said_at, named_at, watched_in, taken_out, changed, set_mapped, some_mapped, sound_none, sound_more, sound_without, sound_changed}
 
+-- what is among a list of which an element was set, or taken out
+set_among : {X : Type 0} (xs : List X) (i : ℕ) (z x : X) → Among (set xs i z) x → (z ≡ x) ⊎ Among xs x
+set_among [] i z x a = inr a
+set_among (y ∷ ys) zero z x a = ⊎_elim (λ e. inl e) (λ b. inr (inr b)) a
+set_among (y ∷ ys) (suc i) z x a = ⊎_elim (λ e. inr (inl e)) (λ b. ⊎_elim (λ e. inl e) (λ c. inr (inr c)) (set_among ys i z x b)) a
+
+remove_among : {X : Type 0} (xs : List X) (i : ℕ) (x : X) → Among (remove xs i) x → Among xs x
+remove_among xs i x a = ⊎_elim (λ b. front_among xs i x b) (λ b. rest_among xs (suc i) x b) (among_append (take i xs) (drop (suc i) xs) x a)
+
+pub got_among : {X : Type 0} (xs : List X) (i : ℕ) (x : X) → slice_get xs i ≡ Some x → Among xs x
+got_among [] i x e = absurd (let none : ⊥ = cc in none)
+got_among (y ∷ ys) zero x e = inl (let is : y ≡ x = cc in is)
+got_among (y ∷ ys) (suc i) x e = inr (got_among ys i x e)
+
+-- what isn't marked needs nothing
+pub unsettled : (k : Kept) → k.settled ≡ false → IsSettled k
+unsettled k e t = absurd (true≢false (sym t ∙ e))
+
 -- nothing is kept at first
 pub stored_none : AreStored [] []
-stored_none = record { paired = refl; sound = sound_none }
+stored_none = record { paired = refl; sound = sound_none; settled = λ k a. absurd a }
 
 -- what is kept stands for these watches
 module _ (qs : List Query) (ks : List Kept) (ws : List Watch) (v : watches_of qs ks ≡ ws) (s : AreStored qs ks) where
@@ -89,10 +108,11 @@ module _ (qs : List Query) (ks : List Kept) (ws : List Watch) (v : watches_of qs
         ∙ changed watch_of (zip qs ks) i (w.0, k) (w.0, z) g (zip_get qs ks i w.0 k w.1 e) (goes w.0)
         ∙ ap (λ (us : List Watch). changed_at us i g) v
 
-    pub stored_kept : ((w : Watch) → (g w).name ≡ w.name) → ((w : Watch) → slice_get ws i ≡ Some w → IsSound w → IsSound (g w)) → AreStored qs (set ks i z)
-    stored_kept named sound = record {
+    pub stored_kept : ((w : Watch) → (g w).name ≡ w.name) → ((w : Watch) → slice_get ws i ≡ Some w → IsSound w → IsSound (g w)) → IsSettled z → AreStored qs (set ks i z)
+    stored_kept named sound settled = record {
       paired = (let p = s.paired in let l = length-set ks i z in omega arith);
       sound = subst AreSound (sym set_kept) (sound_changed g named i ws (subst AreSound v s.sound) (λ w at. sound w at (sound_at i w at)));
+      settled = λ u a. ⊎_elim (λ (e : z ≡ u). subst IsSettled e settled) (λ b. s.settled u b) (set_among ks i z u a);
     }
 
   pub all_queries : map query_term qs ≡ map (λ (w : Watch). w.query) ws
@@ -106,7 +126,7 @@ module _ (qs : List Query) (ks : List Kept) (ws : List Watch) (v : watches_of qs
   each_query q a = let p = zip_among qs ks q s.paired a in (s.sound.each (watch_of (q, p.0)) (map_among watch_of (zip qs ks) (q, p.0) p.1)).asks
 
   -- where a touch was asked of what is kept at a place
-  module _ (i : ℕ) (k z : Kept) (touch : Touch) (lt : i < length ws) (e : slice_get ks i ≡ Some k) (same : z ≡ record k { now = z.now })
+  module _ (i : ℕ) (k z : Kept) (touch : Touch) (lt : i < length ws) (e : slice_get ks i ≡ Some k) (same : z ≡ record k { now = z.now; settled = z.settled })
       (gone : Meets k.foot touch → z.now ≡ None) (stays : (Meets k.foot touch → ⊥) → z.now ≡ k.now) where
     is_touched : (q : Query) → IsTouched touch (watch_of (q, k)) (watch_of (q, z))
     is_touched q = record {
@@ -125,11 +145,18 @@ module _ (qs : List Query) (ks : List Kept) (ws : List Watch) (v : watches_of qs
           ap (map watch_of) (zip_set qs ks i w.0 z w.1) ∙ set_mapped watch_of (zip qs ks) i (w.0, z) ∙ ap (λ (us : List Watch). slice_set us i (watch_of (w.0, z))) v,
         )
 
-    pub touched_stored : AreStored qs (set ks i z)
-    touched_stored =
+    pub touched_stored : (IsTrue z.settled → IsTrue k.settled × (z.now ≡ k.now)) → AreStored qs (set ks i z)
+    touched_stored settled =
         stored_kept i k z (λ (w : Watch). record w { now = option_map answered z.now }) lt e (λ q. ap (λ (u : Kept). watch_of (q, u)) same) (λ w. refl)
         (λ w at sound. record { asks = sound.asks; kind = sound.kind; kept_kind = still_of_kind w at sound (decide_meets k.foot touch) })
+        (λ t.
+        let before = settled t in
+        let base : z.base ≡ k.base = ap (λ (u : Kept). u.base) same in
+        ap (option_map answered) before.1 ∙ s.settled k (kept_among k e) before.0 ∙ ap (λ (a : Answer). Some (answered a)) (sym base))
       where
+        kept_among : (u : Kept) → slice_get ks i ≡ Some u → Among ks u
+        kept_among u at = got_among ks i u at
+
         still_of_kind : (w : Watch) → slice_get ws i ≡ Some w → IsSound w → Decided (Meets k.foot touch) → IfSome (option_map answered z.now) (IsOfKind w.query)
         still_of_kind w at sound (inl met) = subst (λ o. IfSome (option_map answered o) (IsOfKind w.query)) (sym (gone met)) tt
         still_of_kind w at sound (inr unmet) =
@@ -152,6 +179,12 @@ module _ (qs : List Query) (ks : List Kept) (ws : List Watch) (v : watches_of qs
     lent_kind (Some b) is =
         sound_kept i k (λ w. IsOfKind w.query (answered (now_of b))) lt read
         (λ q sound. let now = sym (ap (option_map answered) is) in subst (λ o. IfSome o (IsOfKind (watch_of (q, k)).query)) now sound.kept_kind)
+
+  -- the base of what is marked
+  pub settled_here : (i : ℕ) (k : Kept) → i < length ws → k ≡ get_or ks i k → IsTrue k.settled → IsSomeAnd (slice_get ws i) (λ w. (w.base ≡ answered k.base) × (w.now ≡ Some (answered k.base)))
+  settled_here i k lt read t =
+      let is = s.settled k (got_among ks i k (kept_read i k lt read)) t in
+      kept_has i k (λ w. (w.base ≡ answered k.base) × (w.now ≡ Some (answered k.base))) lt read (λ q. (refl, is))
 
   -- the search for a name
   pub found_here : (name : Word) (i : ℕ) (k : Kept) → i < length ks → k ≡ get_or ks i k → pointwise nat_eq k.name name ≡ true → IsSomeAnd (slice_get ws i) (λ w. w.name ≡ name)
@@ -179,6 +212,7 @@ module _ (qs : List Query) (ks : List Kept) (ws : List Watch) (v : watches_of qs
     removed_stored = record {
       paired = as_long qs ks i s.paired;
       sound = subst AreSound (sym removed) (sound_without name ws (subst AreSound v s.sound));
+      settled = λ k a. s.settled k (remove_among ks i k a);
     }
       where
         as_long : (xs : List Query) (ys : List Kept) (j : ℕ) → length xs ≡ length ys → length (remove xs j) ≡ length (remove ys j)
@@ -190,7 +224,7 @@ module _ (qs : List Query) (ks : List Kept) (ws : List Watch) (v : watches_of qs
         as_long (x ∷ xs) (y ∷ ys) (suc j) l = ap suc (as_long xs ys j (omega (arith, l)))
 
   -- one more
-  module _ (q : Query) (k : Kept) (base : answered k.base ≡ no_rows (query_term q)) (none : k.now ≡ None) where
+  module _ (q : Query) (k : Kept) (base : answered k.base ≡ no_rows (query_term q)) (none : k.now ≡ None) (fresh : k.settled ≡ false) where
     pub pushed : watches_of (qs ++ q ∷ []) (ks ++ k ∷ []) ≡ ws ++ new_watch k.name (query_term q) k.plan.0 k.foot ∷ []
     pushed =
         ap (map watch_of) (zip_push qs ks q k s.paired)
@@ -205,6 +239,7 @@ module _ (qs : List Query) (ks : List Kept) (ws : List Watch) (v : watches_of qs
           (sound_more ws (new_watch k.name (query_term q) k.plan.0 k.foot) (subst AreSound v s.sound)
           (record { asks = asks; kind = kind_of_none (asks_for_both (query_term q)) (query_term q) refl; kept_kind = tt })
           free (let many = as_many in omega arith));
+      settled = λ u a. ⊎_elim (λ b. s.settled u b) (λ b. ⊎_elim (λ (e : k ≡ u). subst IsSettled e (unsettled k fresh)) (λ c. absurd c) b) (among_append ks (k ∷ []) u a);
     }
       where
         kind_of_none : (b : Bool) (t : QueryTerm) → asks_for_both t ≡ b → IsOfKind t (cond b (pairs []) (times []))

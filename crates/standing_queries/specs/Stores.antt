@@ -1,5 +1,5 @@
 -- What is kept of the watches: their queries, and beside each the rest.
-use Rattle.std.specs.Prelude.{◌≡◌, ◌≤◌, IfSome, List, length, map, option_map}
+use Rattle.std.specs.Prelude.{◌≡◌, ◌≤◌, IfSome, IsTrue, List, length, map, option_map, Some}
 use Rattle.std.specs.List.{zip}
 use Rattle.itpg_base.specs.Lists.{Among, Ordered}
 use Rattle.path_ast.specs.declared.ast.Query.{Query}
@@ -27,7 +27,12 @@ pub record AreSound (watches : List Watch) : Type 0 where
   pub differ : Ordered NamesDiffer watches
   pub each : (w : Watch) → Among watches w → IsSound w
 
--- as many queries as there is kept beside them, and sound watches
+-- where it is marked so, the base is the kept answer
+abbrev pub IsSettled : Kept → Type 0
+IsSettled k = IsTrue k.settled → option_map answered k.now ≡ Some (answered k.base)
+
+-- as many queries as there is kept beside them, sound watches, and right marks
 pub record AreStored (queries : List Query) (items : List Kept) : Type 0 where
   pub paired : length queries ≡ length items
   pub sound : AreSound (watches_of queries items)
+  pub settled : (k : Kept) → Among items k → IsSettled k

@@ -80,6 +80,10 @@ rebased place base watches = changed_at watches place (λ w. record w { base = b
 abbrev pub answered_now : ℕ → Option Answered → List Watch → List Watch
 answered_now place now watches = changed_at watches place (λ w. record w { now = now })
 
+-- the same, where this answer is its base and is kept
+abbrev pub settled_at : ℕ → Answered → List Watch → List Watch
+settled_at place answer watches = changed_at watches place (λ w. record w { base = answer; now = Some answer })
+
 -- the same, where its plan's node has this number
 abbrev pub replanned : ℕ → ℕ → List Watch → List Watch
 replanned place plan watches = changed_at watches place (λ w. record w { plan = plan })

@@ -3,7 +3,7 @@ ghost use Rattle.std.specs.Prelude.{IfOk};
 ghost use Rattle.relation_rows.specs.Answered.{answered};
 ghost use Rattle.standing_queries.specs.Changes.{AreOfOneKind, IsRest};
 
-use relation_rows::Answer;
+use relation_rows::{Answer, OneTime, Relation};
 use std::alloc::{AllocError, Global};
 use std::rc::Rc;
 
@@ -31,10 +31,38 @@ pub fn changes(alloc: Global, base: &Answer, now: &Answer) -> Result<GainLoss, A
     ensures gained { IfOk result (λ c. IsRest (answered now.now) (answered base.now) (answered c.gained)) }
     ensures lost { IfOk result (λ c. IsRest (answered base.now) (answered now.now) (answered c.lost)) }
 {
+    if base.same(now) {
+        return no_changes(alloc, now);
+    }
     Ok(GainLoss {
         gained: rest(alloc, now, base)?,
         lost: rest(alloc, base, now)?,
     })
+}
+
+/// What changed between an answer and itself: nothing.
+///
+/// # Errors
+///
+/// If memory runs out.
+pub fn no_changes(alloc: Global, answer: &Answer) -> Result<GainLoss, AllocError>
+    ensures gained { IfOk result (λ c. IsRest (answered answer.now) (answered answer.now) (answered c.gained)) }
+    ensures lost { IfOk result (λ c. IsRest (answered answer.now) (answered answer.now) (answered c.lost)) }
+{
+    Ok(GainLoss {
+        gained: no_rows_like(alloc, answer)?,
+        lost: no_rows_like(alloc, answer)?,
+    })
+}
+
+// What an answer has and itself hasn't.
+fn no_rows_like(alloc: Global, answer: &Answer) -> Result<Answer, AllocError>
+    ensures { IfOk result (λ none. IsRest (answered answer.now) (answered answer.now) (answered none)) }
+{
+    match answer {
+        Answer::Pairs(_) => Ok(Answer::Pairs(Rc::new(alloc, Relation::empty(alloc))?)),
+        Answer::Times(_) => Ok(Answer::Times(OneTime::from_rows(Vec::new(alloc)))),
+    }
 }
 
 // What the first answer has and the second hasn't.

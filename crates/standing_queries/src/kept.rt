@@ -1,5 +1,5 @@
 //! What is kept of a watch beside its query.
-ghost use Rattle.std.specs.Prelude.{◌≡◌, None, IfOk};
+ghost use Rattle.std.specs.Prelude.{◌≡◌, None, IfOk, IsTrue};
 ghost use Rattle.path_ast.specs.Terms.{query_term};
 ghost use Rattle.label_scope.specs.Touching.{Meets};
 ghost use Rattle.relation_rows.specs.Answered.{answered};
@@ -21,17 +21,21 @@ pub(crate) struct Kept {
     pub(crate) foot: Footprint,
     pub(crate) base: Answer,
     pub(crate) now: Option<Answer>,
+    /// Whether it's known that the base is the kept answer.
+    pub(crate) settled: bool,
 }
 
 impl Kept {
     /// Lets the kept answer go if the footprint meets the touch.
     pub(crate) fn touch(&mut self, touch: &Touch)
-        ensures same { self.new ≡ record self.old { now = self.new.now } }
+        ensures same { self.new ≡ record self.old { now = self.new.now; settled = self.new.settled } }
         ensures gone { Meets self.old.foot touch.now → self.new.now ≡ None }
         ensures stays { (¬ Meets self.old.foot touch.now) → self.new.now ≡ self.old.now }
+        ensures settled { IsTrue self.new.settled → IsTrue self.old.settled × (self.new.now ≡ self.old.now) }
     {
         if meets(&self.foot, touch) {
             self.now = None;
+            self.settled = false;
         }
     }
 }

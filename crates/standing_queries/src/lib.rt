@@ -9,8 +9,9 @@
 mod gain_loss;
 mod kept;
 mod laws;
+mod settling;
 mod watches;
 
-pub use gain_loss::{GainLoss, changes};
+pub use gain_loss::{GainLoss, changes, no_changes};
 pub use laws::law_of_changes;
 pub use watches::{MAX_WATCHES, Unknown, WatchFault, Watches};

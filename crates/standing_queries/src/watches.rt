@@ -7,7 +7,7 @@ ghost use Rattle.path_ast.specs.Sizes.{path_size, IsPathInRange};
 ghost use Rattle.path_ast.specs.declared.counts.TheConstants.{MAX_TERMS};
 ghost use Rattle.path_ast.specs.declared.ast.Query.{Query};
 ghost use Rattle.relation_rows.specs.Answered.{answered};
-ghost use Rattle.standing_queries.specs.Watches.{most_watches, MayBeWatched, IsWatched, IsOnlyPlace, IsOfKind, new_watch, without, rebased, answered_now, replanned, IsFresh, Keeps};
+ghost use Rattle.standing_queries.specs.Watches.{most_watches, MayBeWatched, IsWatched, IsOnlyPlace, IsOfKind, new_watch, without, replanned, IsFresh, Keeps};
 ghost use Rattle.standing_queries.specs.Touched.{AreTouched, IsTouchedAt};
 
 use crate::kept::{Kept, no_rows};
@@ -59,8 +59,8 @@ pub struct Unknown;
 /// The plan is the number of the plan's node, the footprint what the answer can depend on. A contract sees the list of the watches.
 #[derive(Drop)]
 pub struct Watches {
-    queries: Vec<Query>,
-    items: Vec<Kept>,
+    pub(crate) queries: Vec<Query>,
+    pub(crate) items: Vec<Kept>,
 }
 
 impl Model for Watches {
@@ -128,6 +128,7 @@ impl Watches {
             foot,
             base,
             now: None,
+            settled: false,
         });
         Ok(())
     }
@@ -216,15 +217,6 @@ impl Watches {
         &self.items[i].base
     }
 
-    /// Puts another base, one of the query's kind, in place of that of the watch at a place.
-    pub fn set_base(&mut self, i: usize, base: Answer)
-        requires there { i < length self.old }
-        requires kind { IsSomeAnd (slice_get self.old i) (λ w. IsOfKind w.query (answered base)) }
-        ensures { self.new ≡ rebased i (answered base) self.old }
-    {
-        self.items[i].base = base;
-    }
-
     /// The kept answer of the watch at a place; `None` if none is kept. It is of the query's kind.
     pub fn kept(&self, i: usize) -> Option<&Answer>
         requires { i < length self.now }
@@ -232,23 +224,6 @@ impl Watches {
         ensures kind { IfSome result (λ a. IsSomeAnd (slice_get self.now i) (λ w. IsOfKind w.query (answered a.now))) }
     {
         self.items[i].now.as_ref()
-    }
-
-    /// Keeps the answer of the watch at a place in place of what is kept. It is of the query's kind.
-    pub fn set_now(&mut self, i: usize, now: Answer)
-        requires there { i < length self.old }
-        requires kind { IsSomeAnd (slice_get self.old i) (λ w. IsOfKind w.query (answered now)) }
-        ensures { self.new ≡ answered_now i (Some (answered now)) self.old }
-    {
-        self.items[i].now = Some(now);
-    }
-
-    /// Keeps no answer of the watch at a place.
-    pub fn drop_now(&mut self, i: usize)
-        requires { i < length self.old }
-        ensures { self.new ≡ answered_now i None self.old }
-    {
-        self.items[i].now = None;
     }
 
     /// Has the watch at a place stand for another node of the plans.

@@ -1,4 +1,4 @@
-use Rattle.std.proofs.Common.{◌≡◌, ◌<◌, List, [], ◌∷◌, ◌++◌, None, length, refl, sym, ◌∙◌, ap, subst, arith, rules}
+use Rattle.std.proofs.Common.{◌≡◌, ◌<◌, List, [], ◌∷◌, ◌++◌, None, false, length, refl, sym, ◌∙◌, ap, subst, arith, rules}
 use Rattle.path_ast.specs.declared.ast.Query.{Query}
 use Rattle.standing_queries.specs.declared.kept.Kept.{Kept}
 use Rattle.path_ast.specs.Terms.{query_term}
@@ -15,7 +15,7 @@ returns-then-is_some-clause-taken c = (
 
 pub invariant_of-self-2 : goal.invariant_of-self-2
 invariant_of-self-2 c =
-    let kept : Kept = record { name = c.args.name; plan = c.args.plan; foot = c.args.foot; base = c.in_ok-base.base; now = None } in
+    let kept : Kept = record { name = c.args.name; plan = c.args.plan; foot = c.args.foot; base = c.in_ok-base.base; now = None; settled = false } in
     let first : c.push_reserved.new.self.items ≡ c.self.inside.queries.items ++ c.args.query ∷ [] =
     c.push_reserved.ensures.items ∙ ap (λ (v : List Query). v ++ c.args.query ∷ []) c.reserve.ensures.items in
     let second : c.push_reserved-2.new.self.items ≡ c.self.inside.items.items ++ kept ∷ [] = c.push_reserved-2.ensures.items ∙ ap (λ (v : List Kept). v ++ kept ∷ []) c.reserve-2.ensures.items in
@@ -26,14 +26,14 @@ invariant_of-self-2 c =
     let asks : MayBeWatched (query_term c.args.query) = record { in_range = c.requires.in_range; terms = c.requires.terms; ends = c.requires.ends } in
     subst (λ (v : List Query). AreStored v c.push_reserved-2.new.self.items) (sym first)
     (subst (AreStored (c.self.inside.queries.items ++ c.args.query ∷ [])) (sym second)
-    (pushed_stored c.self.inside.queries.items c.self.inside.items.items c.args.self.now c.self.view_is c.self.invariant c.args.query kept c.in_ok-base.ensures refl asks (c.find.ensures.none.0 (sym c.is_some.ensures ∙ c.if-is_some.false)) few))
+    (pushed_stored c.self.inside.queries.items c.self.inside.items.items c.args.self.now c.self.view_is c.self.invariant c.args.query kept c.in_ok-base.ensures refl refl asks (c.find.ensures.none.0 (sym c.is_some.ensures ∙ c.if-is_some.false)) few))
 
 pub returns-clause-added : goal.returns-clause-added
 returns-clause-added c =
-    let kept : Kept = record { name = c.args.name; plan = c.args.plan; foot = c.args.foot; base = c.in_ok-base.base; now = None } in
+    let kept : Kept = record { name = c.args.name; plan = c.args.plan; foot = c.args.foot; base = c.in_ok-base.base; now = None; settled = false } in
     let first : c.push_reserved.new.self.items ≡ c.self.inside.queries.items ++ c.args.query ∷ [] =
     c.push_reserved.ensures.items ∙ ap (λ (v : List Query). v ++ c.args.query ∷ []) c.reserve.ensures.items in
     let second : c.push_reserved-2.new.self.items ≡ c.self.inside.items.items ++ kept ∷ [] = c.push_reserved-2.ensures.items ∙ ap (λ (v : List Kept). v ++ kept ∷ []) c.reserve-2.ensures.items in
     ap (λ (v : List Query). watches_of v c.push_reserved-2.new.self.items) first
     ∙ ap (watches_of (c.self.inside.queries.items ++ c.args.query ∷ [])) second
-    ∙ pushed c.self.inside.queries.items c.self.inside.items.items c.args.self.now c.self.view_is c.self.invariant c.args.query kept c.in_ok-base.ensures refl
+    ∙ pushed c.self.inside.queries.items c.self.inside.items.items c.args.self.now c.self.view_is c.self.invariant c.args.query kept c.in_ok-base.ensures refl refl

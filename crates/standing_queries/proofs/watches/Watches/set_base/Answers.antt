@@ -1,21 +1,21 @@
-use Rattle.std.proofs.Common.{refl, ◌<◌, length, rules}
+use Rattle.std.proofs.Common.{refl, ◌<◌, length, rules, false, sym, true≢false}
 use Rattle.relation_rows.specs.Answered.{answered}
 use Rattle.standing_queries.specs.Watches.{Watch, IsOfKind}
 use Rattle.standing_queries.proofs.Watching.{said_at}
 use Rattle.standing_queries.proofs.Keeping.{within_items, kept_read, set_kept, stored_kept}
 use Rattle.standing_queries.proofs.watches.Watches.set_base.Goals as goal
 
-pub index_mut-requires : goal.index_mut-requires
-index_mut-requires c = let within : c.args.i < length c.self.inside.items.items = within_items c.self.inside.queries.items c.self.inside.items.items c.args.self.now c.self.view_is c.self.invariant c.args.i c.requires.there in search rules
+pub index_mut-kept-requires : goal.index_mut-kept-requires
+index_mut-kept-requires c = let within : c.args.i < length c.self.inside.items.items = within_items c.self.inside.queries.items c.self.inside.items.items c.args.self.now c.self.view_is c.self.invariant c.args.i c.requires.there in search rules
 
 pub invariant_of-self : goal.invariant_of-self
 invariant_of-self c =
-    let k = c.index_mut.result.now in
-    let at = kept_read c.self.inside.queries.items c.self.inside.items.items c.args.self.now c.self.view_is c.self.invariant c.args.i k c.requires.there c.index_mut.ensures.value in
-    stored_kept c.self.inside.queries.items c.self.inside.items.items c.args.self.now c.self.view_is c.self.invariant c.args.i k (record { name = k.name; plan = k.plan; foot = k.foot; base = c.args.base; now = k.now }) (λ (w : Watch). record w { base = answered c.args.base }) c.requires.there at (λ q. refl) (λ w. refl) (λ w at sound. record { asks = sound.asks; kind = said_at c.args.self.now c.args.i w (λ u. IsOfKind u.query (answered c.args.base)) at c.requires.kind; kept_kind = sound.kept_kind })
+    let k = c.index_mut-kept.result.now in
+    let at = kept_read c.self.inside.queries.items c.self.inside.items.items c.args.self.now c.self.view_is c.self.invariant c.args.i k c.requires.there c.index_mut-kept.ensures.value in
+    stored_kept c.self.inside.queries.items c.self.inside.items.items c.args.self.now c.self.view_is c.self.invariant c.args.i k (record { name = k.name; plan = k.plan; foot = k.foot; base = c.args.base; now = k.now; settled = false }) (λ (w : Watch). record w { base = answered c.args.base }) c.requires.there at (λ q. refl) (λ w. refl) (λ w at sound. record { asks = sound.asks; kind = said_at c.args.self.now c.args.i w (λ u. IsOfKind u.query (answered c.args.base)) at c.requires.kind; kept_kind = sound.kept_kind }) (λ t. absurd (true≢false (sym t)))
 
 pub returns : goal.returns
 returns c =
-    let k = c.index_mut.result.now in
-    let at = kept_read c.self.inside.queries.items c.self.inside.items.items c.args.self.now c.self.view_is c.self.invariant c.args.i k c.requires.there c.index_mut.ensures.value in
-    set_kept c.self.inside.queries.items c.self.inside.items.items c.args.self.now c.self.view_is c.self.invariant c.args.i k (record { name = k.name; plan = k.plan; foot = k.foot; base = c.args.base; now = k.now }) (λ (w : Watch). record w { base = answered c.args.base }) c.requires.there at (λ q. refl)
+    let k = c.index_mut-kept.result.now in
+    let at = kept_read c.self.inside.queries.items c.self.inside.items.items c.args.self.now c.self.view_is c.self.invariant c.args.i k c.requires.there c.index_mut-kept.ensures.value in
+    set_kept c.self.inside.queries.items c.self.inside.items.items c.args.self.now c.self.view_is c.self.invariant c.args.i k (record { name = k.name; plan = k.plan; foot = k.foot; base = c.args.base; now = k.now; settled = false }) (λ (w : Watch). record w { base = answered c.args.base }) c.requires.there at (λ q. refl)

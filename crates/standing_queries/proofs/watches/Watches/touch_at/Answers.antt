@@ -9,7 +9,7 @@ pub invariant_of-self : goal.invariant_of-self
 invariant_of-self c =
     let k = c.index_mut.result.now in
     let at = kept_read c.self.inside.queries.items c.self.inside.items.items c.args.self.now c.self.view_is c.self.invariant c.args.i k c.requires c.index_mut.ensures.value in
-    touched_stored c.self.inside.queries.items c.self.inside.items.items c.args.self.now c.self.view_is c.self.invariant c.args.i k c.touch.new.self c.args.touch.now c.requires at c.touch.ensures.same c.touch.ensures.gone c.touch.ensures.stays
+    touched_stored c.self.inside.queries.items c.self.inside.items.items c.args.self.now c.self.view_is c.self.invariant c.args.i k c.touch.new.self c.args.touch.now c.requires at c.touch.ensures.same c.touch.ensures.gone c.touch.ensures.stays c.touch.ensures.settled
 
 pub returns : goal.returns
 returns c =
