@@ -1,14 +1,14 @@
 -- Lines of blanks and word bytes alone: with each of these a token begins, so their tokens end with the line.
-use Rattle.std.proofs.Common.{◌≡◌, ◌⊎◌, inl, inr, ◌||◌, ℕ, suc, ◌+◌, ◌<◌, ◌≤◌, List, [], ◌∷◌, Bool, true, false, Option, Some, None, length, drop, get_or, refl, sym, ap, ◌∙◌, subst, arith, true≢false, drop-cons, length-drop}
-use Rattle.std.specs.Prelude.{nat_eq, option_map}
-use Rattle.std.specs.Char.{is_ascii_alphabetic, is_ascii_digit}
+use Rattle.std.proofs.Common.{◌≡◌, ◌⊎◌, inl, inr, ℕ, suc, ◌+◌, ◌<◌, ◌≤◌, List, [], ◌∷◌, Bool, true, false, Option, Some, None, length, drop, get_or, refl, sym, ap, ◌∙◌, subst, arith, drop-cons, length-drop}
+use Rattle.std.specs.Prelude.{option_map}
+use Rattle.std.specs.Char.{is_ascii_alphabetic}
 use Rattle.std.specs.List.{prefix_len, list_all}
 use Rattle.std.proofs.lemmas.Bool.Decides.{nat_tests}
 use Rattle.std.proofs.lemmas.List.{get_or-drop}
 use Rattle.std.proofs.lemmas.List.Sums.{prefix_len_passes, prefix_len_stops}
 use Rattle.itpg_base.specs.declared.text_code.TextCode.{TextCode}
 use Rattle.script_lex.specs.Bytes.{is_blank, is_word_byte}
-use Rattle.script_lex.specs.Lexemes.{Lexeme, AMark, written}
+use Rattle.script_lex.specs.Lexemes.{AMark}
 use Rattle.script_lex.specs.Marks.{mark_of, first_mark}
 use Rattle.script_lex.specs.Table.{first_token, begins_number}
 use Rattle.script_lex.specs.Lines.{Placed, AreTokens, IsLineFault, behind_blanks}
