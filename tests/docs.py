@@ -12,8 +12,8 @@ Compared are each `examples/NAME.itpg` with its `NAME.out`, and what README.md, 
 - The page's script is the last file .itpg that it named outside a table, by a path from the top or from the page's folder. A command
   without a script has none, and its words are those of the page's script from then on.
 - A block that begins with a reply (`line 12 rows 3`, `tick w wide`) is a part of that script's output. If the paragraph directly
-  above it ends with a line `ask ..` as code, or the block directly above it is one, that is line 12 of the script. Such a question
-  has its replies directly below it.
+  above it ends with a line `ask ..`, `first ..` and so on as code, or the block directly above it is one, that is line 12 of the
+  script. Such a question has its replies directly below it.
 - A block of script lines is taken from that script, in its order, perhaps with lines left out. Otherwise it is a script of its own:
   its whole output is the next block, and a `--max-rows N` named as code under the same heading is its words.
 - A row of a table, or a sentence, may give replies as code, parted by commas: `tick w gained 1 lost 0`, `+ a 0..20`. They stand
@@ -32,8 +32,9 @@ import subprocess
 import sys
 
 TOP = pathlib.Path(__file__).resolve().parent.parent
-COMMANDS = {"graph", "extend", "node", "edge", "live", "gone", "set", "unset", "drop", "ask", "watch", "show", "unwatch", "tick"}
-REPLY = re.compile(r"(line \d+ (rows \d+|wide|bad \w+|refused \w+)|tick (?!NAME\b)\w+ (gained \d+ lost \d+|wide)|ask \d (rows|wide)\b.*)$")
+ASKS = "ask", "first", "last", "count"
+COMMANDS = {"graph", "extend", "node", "edge", "live", "gone", "set", "unset", "drop", *ASKS, "watch", "show", "unwatch", "tick"}
+REPLY = re.compile(r"(line \d+ (rows \d+|counts \d+|wide|bad \w+|refused \w+)|tick (?!NAME\b)\w+ (gained \d+ lost \d+|wide)|ask \d (rows|wide)\b.*)$")
 CODE = re.compile(r"(bad|refused) [a-z]+$")
 CODES_IN_A_ROW = re.compile(r"`[^`]+`(?:, `[^`]+`)*")
 SPAN = re.compile(r"`([^`]+)`")
@@ -205,7 +206,7 @@ class Page:
     def read_text(self, where, text):
         self.name(text)
         spans = SPAN.findall(text)
-        self.asked = spans[-1] if text.endswith("`") and spans and spans[-1].startswith("ask ") else None
+        self.asked = spans[-1] if text.endswith("`") and spans and spans[-1].split(" ")[0] in ASKS else None
         self.above = "ask" if self.asked else None
         for span in spans:
             if re.match(r"--max-rows[ =]\d+$", span):
@@ -244,7 +245,7 @@ class Page:
         if not is_script(lines):
             self.above = "lines"
             return
-        self.asked = lines[0] if len(lines) == 1 and lines[0].startswith("ask ") else None
+        self.asked = lines[0] if len(lines) == 1 and lines[0].split(" ")[0] in ASKS else None
         self.above = "ask block" if self.asked else None
         if self.script and is_taken_from(lines, self.script_lines()):
             self.report.shown += 1

@@ -44,6 +44,8 @@ def forms():
 
 RULES = forms()
 ROW = re.compile(r"\w+ -?\d+\.\.-?\d+( \w+ (t([+-]\d+)?|-?\d+)\.\.(t([+-]\d+)?|-?\d+))?")
+COUNT = re.compile(r"-?\d+\.\.-?\d+ [1-9]\d*")
+ANSWERED = {"ask": "rows", "show": "rows", "first": "rows", "last": "rows", "count": "counts"}
 
 GRAPH = """graph g 0 7
 node a P
@@ -58,7 +60,8 @@ set a p 'v' 0 3
 watch w MATCH (x:P)-/FWD/:meets/FWD/-(y)
 """
 GOOD = ["node d P", "edge k meets a b", "live b 0 7", "live k 2 3", "gone b 6 7", "set b p 'v' 2 4", "unset a p 1 2", "drop k", "drop d", "tick", "show w",
-        "unwatch w", "watch w MATCH (x)", "watch v MATCH (x:P)-/NEXT/-(y)", "ask MATCH (x)", "ask MATCH (x:P {p = 'v'})-/(FWD + NEXT*)/-(y) ON g"]
+        "unwatch w", "watch w MATCH (x)", "watch v MATCH (x:P)-/NEXT/-(y)", "ask MATCH (x)", "ask MATCH (x:P {p = 'v'})-/(FWD + NEXT*)/-(y) ON g",
+        "first MATCH (x:P)-/NEXT[1,3]/-(y)", "last MATCH (x)-/(FWD/:meets/FWD)*/NEXT*/-(y:P)", "count MATCH (x:P)", "count MATCH ()-/FWD/NEXT/-(y)"]
 WORDS = [*RULES, "MATCH", "ON", "FWD", "BWD", "NEXT", "PREV", "F", "B", "N", "P", "NOT", "AND", "OR", "NODE", "EDGE", "EXISTS", "time", *"abcmkgwvpTR",
          "meets", "x", "y", "0", "1", "7", "8", "-1", "007", "-0", "1000000000000", "1000000000001", "-1000000000001", "9" * 30, "'v'", "''", "'a b'",
          "'", "é", "n" * 64, "n" * 65, "'" + "v" * 65 + "'", "-/", "/-", ">=", *"(){}[]:,+*/?=<_", "#", "-", ">", ".", "\t", "\r", "\x00", "\x7f"]
@@ -87,7 +90,8 @@ class Hostile:
 
     def bent(self):
         """A good line, most often with a few tokens changed."""
-        line = self.random.choice([*GOOD, "ask " + self.draw.text("<query>"), "watch u " + self.draw.text("<query>")])
+        word = self.random.choice(["ask", "watch u", *kept.QUESTIONS])
+        line = self.random.choice([*GOOD, *[f"{word} {self.draw.text('<query>')}"] * 2])
         return "".join(self.bend(TOKEN.findall(line), lambda: self.random.choice(WORDS), [0, 1, 1, 2, 3])).encode()
 
     def bend(self, items, other, counts):
@@ -138,7 +142,7 @@ def is_allowed(command, line, reply):
         return code in (TEXTS if command and RULES[command][1] else OWN) and (command is not None or code in OWN[:4])
     if command is None:
         return False
-    return code in RULES[command][0] if kind == "refused" else command in ("ask", "show")
+    return code in RULES[command][0] if kind == "refused" else command in ANSWERED and kind in ("wide", ANSWERED[command])
 
 
 def replies_of(output):
@@ -149,11 +153,12 @@ def replies_of(output):
     while texts:
         head = texts.pop()
         tick = re.fullmatch(r"tick \w+ (?:wide|gained (\d+) lost (\d+))", head)
-        line = re.fullmatch(r"line (\d+) (bad \w+|refused \w+|wide|rows (\d+))", head)
+        line = re.fullmatch(r"line (\d+) (bad \w+|refused \w+|wide|(rows|counts) (\d+))", head)
         insist(tick or line, f"no reply: {head}")
-        leads = ["+ "] * int(tick[1] or 0) + ["- "] * int(tick[2] or 0) if tick else [""] * int(line[3] or 0)
+        leads = ["+ "] * int(tick[1] or 0) + ["- "] * int(tick[2] or 0) if tick else [""] * int(line[4] or 0)
+        form = COUNT if line and line[3] == "counts" else ROW
         rows = [texts.pop() if texts else "" for _ in leads]
-        insist(all(row.startswith(lead) and ROW.fullmatch(row[len(lead):]) for row, lead in zip(rows, leads)), f"no rows behind {head}")
+        insist(all(row.startswith(lead) and form.fullmatch(row[len(lead):]) for row, lead in zip(rows, leads)), f"no rows behind {head}")
         found.append((None, [head, *rows]) if tick else (int(line[1]), [line[2], *rows]))
     return found
 
@@ -174,7 +179,7 @@ def check(program, limit, script):
     answered = dict((number, head) for number, (head, *_) in replies if number)
     for number, line in enumerate(lines, 1):
         command = first_word(line)
-        allowed = is_allowed(command, line, answered[number]) if number in answered else command in {"", *RULES} - {"ask", "show"}
+        allowed = is_allowed(command, line, answered[number]) if number in answered else command in {"", *RULES} - set(ANSWERED)
         insist(allowed, f"line {number} {line[:80]!r}: {answered.get(number, 'no reply')}")
     gone = {number for number, head in answered.items() if head.startswith(("bad", "refused"))}
     left = [number for number in range(1, len(lines) + 1) if number not in gone]

@@ -4,14 +4,15 @@
     tests/kept.py PROGRAM [--scripts N] [--from SEED] [--edits M] [--long] [--sets] [--fresh OTHER]
 
 Draws N scripts (200 unless given), each of M edits (100) over few names, labels and properties, with watches of five queries, which
-are also asked, and shows and ticks between. Every second script has a small limit of rows, so that answers are wide now and then.
+are also asked by `ask`, `first`, `last` and `count`, and shows and ticks between. Every second script has a small limit of rows, so
+that answers are wide now and then.
 With --long a script has 10,000 edits unless M is given, and 32 watches of as many queries. Most edits come 600 at a time; then the
 watches tick, and one or two edits come before each of six questions. In each tenth script great questions fill the table of plans, so
 that it is made anew. With --sets objects have up to three labels.
 
 Each question that the program answers there is also asked of a fresh run, of OTHER if it is given, which reads the edits accepted so
 far and this one question. So in a fresh run nothing is kept.
-- The reply to `ask` and `show` must be that of the fresh run, line for line.
+- The reply to `ask`, `first`, `last`, `count` and `show` must be that of the fresh run, line for line.
 - A tick must be wide exactly if the fresh run is. Otherwise its rows must hold what the answer has and the base doesn't, and what
   the base has and the answer doesn't, as points. The base is the fresh run's answer at the watch's last tick that wasn't wide. In a
   long script two watches of a tick are compared so.
@@ -25,6 +26,7 @@ import sys
 
 LAST, SMALL_LIMITS = 7, [3, 6, 12, 20, 40]  # the horizon is 0..LAST at first
 QUIET, COMPARED = 600, 2  # edits at a time in a long script, and watches of a tick that are compared
+QUESTIONS = ["ask", "first", "last", "count"]
 
 
 def names(nodes, edges, watches):
@@ -97,10 +99,17 @@ class Draw:
 
     def other(self, *kinds):
         """A line that is no edit."""
-        kind = self.random.choice(kinds or ["ask"] * 8 + ["show"] * 12 + ["tick"] * 5 + ["watch"] * 3 + ["unwatch"])
+        kind = self.random.choice(kinds or ["ask"] * 8 + ["part"] * 4 + ["show"] * 12 + ["tick"] * 5 + ["watch"] * 3 + ["unwatch"])
         name = {"watch": self.declared, "unwatch": self.dropped}.get(kind, self.stands)("watch")
         query = self.random.choice(self.queries)
-        return {"ask": f"ask {query}", "tick": "tick", "watch": f"watch {name} {query}"}.get(kind, f"{kind} {name}")
+        if kind == "part":
+            kind = self.question(query)
+        return f"{kind} {query}" if kind in QUESTIONS else {"tick": "tick", "watch": f"watch {name} {query}"}.get(kind, f"{kind} {name}")
+
+    def question(self, query):
+        """The word of a line that asks for a part of the answer, or for counts if one end has a name. It is wrong now and then."""
+        both = "(x" in query and "(y" in query
+        return self.random.choice(["first", "last"] if both != (self.random.random() < 0.05) else ["count"])
 
     def script(self, edits):
         lines = [f"graph g 0 {LAST}"]
@@ -129,7 +138,7 @@ class Draw:
             lines += [*quiet, *(self.great() for _ in range(5 * great)), self.other("tick")]
             for _ in range(6):
                 lines += [*self.edits(), *self.edits()][:self.random.choice([1, 1, 2])]
-                lines += [self.other("show", "show", "ask"), *([self.other("unwatch"), self.other("watch")] * (self.random.random() < 0.1))]
+                lines += [self.other("show", "show", "ask", "part"), *([self.other("unwatch"), self.other("watch")] * (self.random.random() < 0.1))]
         return lines
 
 
@@ -172,9 +181,9 @@ class Trial:
         self.at += count
         return taken
 
-    def fresh(self, query, size):
+    def fresh(self, query, size, word="ask"):
         """The reply of a fresh run behind so many bytes of edits: that it is wide or how many rows it has, and these."""
-        head, *rows = run(self.program, self.limit, bytes(self.edits[:size]) + f"ask {query}".encode())
+        head, *rows = run(self.program, self.limit, bytes(self.edits[:size]) + f"{word} {query}".encode())
         return head.split(" ", 2)[2], rows
 
     def check(self, number, got, wanted):
@@ -182,8 +191,8 @@ class Trial:
         if got != wanted:
             raise Differs(f"line {number} {self.lines[number - 1]}: {got}, by fresh runs {wanted}")
 
-    def answer(self, number, query):
-        told, rows = self.fresh(query, len(self.edits))
+    def answer(self, number, query, word="ask"):
+        told, rows = self.fresh(query, len(self.edits), word)
         self.check(number, self.take(1 + len(rows)), [f"line {number} {told}", *rows])
 
     def tick(self, number):
@@ -210,8 +219,10 @@ class Trial:
             command, name, rest = (line + "  ").split(" ", 2)
             if "".join(self.output[self.at:self.at + 1]).startswith((f"line {number} refused ", f"line {number} bad ")):
                 self.take(1)
-            elif command in ("ask", "show"):
-                self.answer(number, line[4:] if command == "ask" else self.watches[name][0])
+            elif command in QUESTIONS:
+                self.answer(number, line[len(command) + 1:], command)
+            elif command == "show":
+                self.answer(number, self.watches[name][0])
             elif command == "tick":
                 self.tick(number)
             elif command == "watch":

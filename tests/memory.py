@@ -90,7 +90,7 @@ watch v MATCH (x)
 tick
 show w
 """
-FREE = ["", " \t ", "# a comment", "\r", "Node a T", "live a 0.5 2", "live a 0 1000000000001", f"node {'x' * 65} T", "ask", "set a p 'v", "graph h 0 9",
+FREE = ["", " \t ", "# a comment", "\r", "Node a T", "live a 0.5 2", "live a 0 1000000000001", f"node {'x' * 65} T", "ask", "count", "set a p 'v", "graph h 0 9",
         "node a T", "node m T", "edge m e a b", "edge n e a z", "edge n e a m", "live z 0 9", "live a 9 5", "live a 90 100", "live m 0 9", "gone z 0 9",
         "gone a 9 5", "gone a 90 100", "gone a 7 7", "set z p 'v' 0 9", "set a p 'v' 15 25", "set a p 'v' 9 5", "unset z p 0 9", "unset a p 0 100",
         "drop z", "drop a", "drop m", "drop k", "drop c", "unwatch z", "unwatch w", "unwatch v", "show z", "show w", "show v"]

@@ -46,6 +46,9 @@ form_moments text Command.Set (AWord id ∷ AWord prop ∷ AQuote value ∷ ANum
 form_moments text Command.Unset (AWord id ∷ AWord prop ∷ ANumber a ∷ ANumber b ∷ []) reading e none = same_moments e (two_there a b none)
 form_moments text Command.Drop (AWord id ∷ []) reading e none = same_moments e tt
 form_moments text Command.Ask parts reading e none = same_moments e tt
+form_moments text Command.First parts reading e none = same_moments e tt
+form_moments text Command.Last parts reading e none = same_moments e tt
+form_moments text Command.Count parts reading e none = same_moments e tt
 form_moments text Command.Watch (AWord name ∷ rest) reading e none = same_moments e tt
 form_moments text Command.Show (AWord name ∷ []) reading e none = same_moments e tt
 form_moments text Command.Unwatch (AWord name ∷ []) reading e none = same_moments e tt
@@ -86,6 +89,9 @@ form_labels text Command.Set (AWord id ∷ AWord prop ∷ AQuote value ∷ ANumb
 form_labels text Command.Unset (AWord id ∷ AWord prop ∷ ANumber a ∷ ANumber b ∷ []) reading e = same_labels e tt
 form_labels text Command.Drop (AWord id ∷ []) reading e = same_labels e tt
 form_labels text Command.Ask parts reading e = same_labels e tt
+form_labels text Command.First parts reading e = same_labels e tt
+form_labels text Command.Last parts reading e = same_labels e tt
+form_labels text Command.Count parts reading e = same_labels e tt
 form_labels text Command.Watch (AWord name ∷ rest) reading e = same_labels e tt
 form_labels text Command.Show (AWord name ∷ []) reading e = same_labels e tt
 form_labels text Command.Unwatch (AWord name ∷ []) reading e = same_labels e tt

@@ -1,4 +1,4 @@
--- The fourteen command words.
+-- The seventeen command words.
 use Rattle.std.specs.Prelude.{ℕ, nat_eq, List, [], ◌∷◌, codes, Option, None}
 use Rattle.std.specs.Cmp.Lexicographic.{pointwise}
 use Rattle.std.specs.List.{find}
@@ -17,6 +17,9 @@ command_word Command.Set = codes "set"
 command_word Command.Unset = codes "unset"
 command_word Command.Drop = codes "drop"
 command_word Command.Ask = codes "ask"
+command_word Command.First = codes "first"
+command_word Command.Last = codes "last"
+command_word Command.Count = codes "count"
 command_word Command.Watch = codes "watch"
 command_word Command.Show = codes "show"
 command_word Command.Unwatch = codes "unwatch"
@@ -25,7 +28,7 @@ command_word Command.Tick = codes "tick"
 -- all commands
 abbrev pub commands : List Command
 commands =
-    Command.Live ∷ Command.Set ∷ Command.Node ∷ Command.Edge ∷ Command.Gone ∷ Command.Unset ∷ Command.Drop ∷ Command.Ask ∷ Command.Show ∷ Command.Tick ∷ Command.Watch ∷ Command.Unwatch ∷ Command.Extend ∷ Command.Graph ∷ []
+    Command.Live ∷ Command.Set ∷ Command.Node ∷ Command.Edge ∷ Command.Gone ∷ Command.Unset ∷ Command.Drop ∷ Command.Ask ∷ Command.Show ∷ Command.Tick ∷ Command.Watch ∷ Command.Unwatch ∷ Command.First ∷ Command.Last ∷ Command.Count ∷ Command.Extend ∷ Command.Graph ∷ []
 
 -- the command that has this word
 unfoldable pub command_of : List ℕ → Option Command

@@ -8,7 +8,8 @@ use Rattle.script_lex.specs.Lexemes.{Lexeme, AWord, ANumber, AQuote}
 use Rattle.script_lex.specs.Lines.{Placed}
 use Rattle.script_lex.specs.Numbers.{number_value}
 use Rattle.edit_reader.specs.declared.command.Command.{Command}
-use Rattle.edit_reader.specs.Readings.{Reading, Changes, Asks, Watches, Shows, Unwatches, Ticks}
+use Rattle.edit_reader.specs.declared.line.Wanted.TheVariants.{First, Last, Count}
+use Rattle.edit_reader.specs.Readings.{Reading, Changes, Asks, Wants, Watches, Shows, Unwatches, Ticks}
 use Rattle.edit_reader.specs.Commands.{command_at}
 use Rattle.edit_reader.specs.Labels.{listed, set_of}
 
@@ -35,6 +36,9 @@ form text Command.Set (AWord id ∷ AWord prop ∷ AQuote value ∷ ANumber from
 form text Command.Unset (AWord id ∷ AWord prop ∷ ANumber from ∷ ANumber to ∷ []) = Some (Changes (Edit.Clear id prop (number_value from) (number_value to)))
 form text Command.Drop (AWord id ∷ []) = Some (Changes (Edit.Remove id))
 form text Command.Ask _ = Some (Asks (text 0))
+form text Command.First _ = Some (Wants First (text 0))
+form text Command.Last _ = Some (Wants Last (text 0))
+form text Command.Count _ = Some (Wants Count (text 0))
 form text Command.Watch (AWord name ∷ _) = Some (Watches name (text 1))
 form text Command.Show (AWord name ∷ []) = Some (Shows name)
 form text Command.Unwatch (AWord name ∷ []) = Some (Unwatches name)
@@ -58,6 +62,9 @@ form_of line (t ∷ ts) = option_and_then (λ command. form (λ n. bytes_behind 
 -- those of the tokens behind a command word that are no part of a query text
 abbrev pub before_query : Command → List Lexeme → List Lexeme
 before_query Command.Ask parts = []
+before_query Command.First parts = []
+before_query Command.Last parts = []
+before_query Command.Count parts = []
 before_query Command.Watch parts = take 1 parts
 before_query _ parts = parts
 

@@ -4,13 +4,16 @@ use Rattle.itpg_base.specs.Words.{Word}
 use Rattle.itpg_base.specs.declared.text_code.TextCode.{TextCode}
 use Rattle.itpg_edit.specs.declared.edit.Edit.{Edit}
 use Rattle.edit_reader.specs.declared.line.Line.{Line}
+use Rattle.edit_reader.specs.declared.line.Wanted.{Wanted}
+use Rattle.edit_reader.specs.declared.line.Wanted.TheVariants.{First, Last, Count}
 
--- nothing, a change of the graph, the answer to a query text, to watch a query text under a name, a watch's answer, to
--- forget a watch, or the changes of all watches
+-- nothing, a change of the graph, the answer to a query text, or its first arrivals, last departures or counts, to watch a
+-- query text under a name, a watch's answer, to forget a watch, or the changes of all watches
 pub data Reading : Type 0 where
   Nothing : Reading
   Changes : Edit → Reading
   Asks : List ℕ → Reading
+  Wants : Wanted → List ℕ → Reading
   Watches : Word → List ℕ → Reading
   Shows : Word → Reading
   Unwatches : Word → Reading
@@ -21,6 +24,9 @@ abbrev pub reading_of : Line → Reading
 reading_of Line.Blank = Nothing
 reading_of (Line.Edit edit) = Changes edit
 reading_of (Line.Ask query) = Asks query.now
+reading_of (Line.First query) = Wants First query.now
+reading_of (Line.Last query) = Wants Last query.now
+reading_of (Line.Count query) = Wants Count query.now
 reading_of (Line.Watch name query) = Watches name query.now
 reading_of (Line.Show name) = Shows name
 reading_of (Line.Unwatch name) = Unwatches name

@@ -14,6 +14,9 @@ pub(crate) enum Command {
     Unset,
     Drop,
     Ask,
+    First,
+    Last,
+    Count,
     Watch,
     Show,
     Unwatch,
@@ -21,7 +24,7 @@ pub(crate) enum Command {
 }
 
 // The words that scripts have most of stand first.
-const COMMANDS: [Command; 14] = [
+const COMMANDS: [Command; 17] = [
     Command::Live,
     Command::Set,
     Command::Node,
@@ -34,6 +37,9 @@ const COMMANDS: [Command; 14] = [
     Command::Tick,
     Command::Watch,
     Command::Unwatch,
+    Command::First,
+    Command::Last,
+    Command::Count,
     Command::Extend,
     Command::Graph,
 ];
@@ -63,6 +69,9 @@ impl Command {
             Command::Unset => b"unset",
             Command::Drop => b"drop",
             Command::Ask => b"ask",
+            Command::First => b"first",
+            Command::Last => b"last",
+            Command::Count => b"count",
             Command::Watch => b"watch",
             Command::Show => b"show",
             Command::Unwatch => b"unwatch",

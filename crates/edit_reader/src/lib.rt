@@ -15,5 +15,5 @@ mod parts;
 mod reading;
 
 pub use laws::{law_of_labels, law_of_lines, law_of_long_lines, law_of_moments};
-pub use line::Line;
+pub use line::{Line, Wanted};
 pub use reading::read_line;

@@ -7,6 +7,7 @@ use itpg_edit::Edit;
 /// ```text
 ///     node a Staff,Person              Edit: AddNode { id: a, labels: {Person, Staff} }
 ///     ask MATCH (x:Person)             Ask:  " MATCH (x:Person)"
+///     count MATCH (x:Person)           Count: " MATCH (x:Person)"
 ///     watch w MATCH (x:Person)         Watch w, " MATCH (x:Person)"
 /// ```
 #[derive(Clone, Copy)]
@@ -17,6 +18,12 @@ pub enum Line<'a> {
     Edit(Edit),
     /// The answer to a query text: the bytes behind the word `ask`, up to the end of the line.
     Ask(&'a [u8]),
+    /// The first arrivals of a query text's path: the bytes behind the word `first`.
+    First(&'a [u8]),
+    /// The last departures of a query text's path: the bytes behind the word `last`.
+    Last(&'a [u8]),
+    /// How many objects answer a query text, moment by moment: the bytes behind the word `count`.
+    Count(&'a [u8]),
     /// To watch a query text under this name: the bytes behind the name, up to the end of the line.
     Watch(Name, &'a [u8]),
     /// The answer of the watch of this name.
@@ -25,4 +32,15 @@ pub enum Line<'a> {
     Unwatch(Name),
     /// The changes of all watches.
     Tick,
+}
+
+/// What the lines `first`, `last` and `count` want of a query text.
+#[derive(Clone, Copy)]
+pub enum Wanted {
+    /// Of each departure between two objects, the first arrival.
+    First,
+    /// To each arrival between two objects, the last departure.
+    Last,
+    /// How many objects answer, moment by moment.
+    Count,
 }

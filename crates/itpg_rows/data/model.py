@@ -9,7 +9,8 @@ It shares nothing with itpg. A relation says of each object at each moment of th
 leads to, by the meaning of its path, and a repetition is walked step by step; rows are made from it and then tried against
 the five conditions of a normal list; wide is told by the rows of each worked member. So it says nothing of horizons longer
 than MOST_MOMENTS. A watch keeps the relation that the last tick worked out, and what was gained and lost are the points that
-one relation leads to and the other doesn't. Trials are worked out by `trial_model.py`, but for those with a limit of rows.
+one relation leads to and the other doesn't. A `first` or `last` tries each pair of a relation, a `count` each object at each
+moment. Trials are worked out by `trial_model.py`, but for those with a limit of rows.
 """
 import functools
 import itertools
@@ -235,7 +236,7 @@ def terms(term):
     return inner + (term[0] != "test")
 
 
-def read_query(tokens):
+def read_query(tokens, command):
     """The query, or its first fault behind those of the line."""
     depth = 0
     for _, text in (token for token in tokens if token[0] == "mark"):
@@ -252,6 +253,9 @@ def read_query(tokens):
         raise Fault("names")
     if terms(path) > 1024:
         raise Fault("terms")
+    both = bool(first and last)
+    if command in ("first", "last") and not both or command == "count" and both:
+        raise Fault("names")
     return bool(first), bool(last), path, graph
 
 
@@ -548,6 +552,41 @@ def less(relation, other):
     return {x: ends for x, ends in left.items() if ends}
 
 
+def first_arrivals(meaning, relation):
+    """Of each point the least moment at which it leads to each object."""
+    kept = {}
+    for x, ends in relation.items():
+        least = {}
+        for p, u in map(meaning.point, bits(ends)):
+            least[p] = min(u, least.get(p, u))
+        kept[x] = sum(1 << meaning.bit(p, u) for p, u in least.items())
+    return kept
+
+
+def last_departures(meaning, relation):
+    """To each point the greatest moment from which each object leads there."""
+    latest, kept = {}, {}
+    for x, ends in relation.items():
+        o, t = meaning.point(x)
+        for y in bits(ends):
+            latest[o, y] = max(t, latest.get((o, y), t))
+    for (o, y), t in latest.items():
+        kept[meaning.bit(o, t)] = kept.get(meaning.bit(o, t), 0) | 1 << y
+    return kept
+
+
+def count_rows(meaning, relation):
+    """How many objects there are, for each run of moments at which they are equally many; without those at which none is."""
+    rows = []
+    for t in meaning.moments:
+        number = sum(meaning.bit(o, t) in relation for o in meaning.numbers)
+        if rows and rows[-1][1] == t - 1 and rows[-1][2] == number:
+            rows[-1][1] = t
+        elif number:
+            rows.append([t, t, number])
+    return rows
+
+
 def normal_rows(meaning, relation):
     rows, found = [], runs_by_departure(meaning, relation)
     for (o, p), at in found.items():
@@ -683,8 +722,9 @@ def members(path, a, b):
 
 FORMS = {
     "graph": "nii", "extend": "ii", "node": "nl", "edge": "nlnn", "live": "nii", "gone": "nii", "set": "nnqii", "unset": "nnii", "drop": "n",
-    "ask": None, "watch": "n", "show": "n", "unwatch": "n", "tick": "",
+    "ask": None, "first": None, "last": None, "count": None, "watch": "n", "show": "n", "unwatch": "n", "tick": "",
 }
+QUESTIONS = [command for command in FORMS if FORMS[command] is None]
 KINDS = {"word": "n", "number": "i", "quoted": "q"}
 LABELS = "n(?:,n){0,7}"  # one to eight words parted by commas
 
@@ -730,12 +770,12 @@ class Machine:
         parts, query = self.parts(command, rest)
         fault_of_parts(parts)
         if query is not None:
-            query = read_query(query)
+            query = read_query(query, command)
         refuse("nograph", self.graph.name is None and command != "graph")
-        if command in ("ask", "watch"):
+        if command in QUESTIONS or command == "watch":
             refuse("graphname", query[3] is not None and query[3] != self.graph.name)
-        if command == "ask":
-            return self.answer(number, query)
+        if command in QUESTIONS:
+            return self.answer(number, query, command)
         values = values_of(command, parts)
         if command == "watch":
             return self.watch(*values, query)
@@ -753,7 +793,7 @@ class Machine:
 
     def parts(self, command, rest):
         """The tokens of the form, and those of the query text behind them."""
-        if command == "ask":
+        if command in QUESTIONS:
             return [], rest
         if command == "watch" and rest and rest[0][0] == "word":
             return rest[:1], rest[1:]
@@ -782,12 +822,18 @@ class Machine:
             watch.base = {moved[x]: sum(1 << moved[y] for y in bits(ends)) for x, ends in watch.base.items()}
         return []
 
-    def answer(self, number, query):
-        relation = self.relation(query)
+    def answer(self, number, query, command="ask"):
+        relation, meaning, kind = self.relation(query), Meaning(self.graph), "rows"
         if relation is None:
             return [f"line {number} wide"]
-        texts = self.rows(query, relation)
-        return [f"line {number} rows {len(texts)}", *texts]
+        if command == "count":
+            texts, kind = [f"{low}..{high} {many}" for low, high, many in count_rows(meaning, relation)], "counts"
+        else:
+            kept = {"first": first_arrivals, "last": last_departures}.get(command)
+            texts = self.rows(query, kept(meaning, relation) if kept else relation)
+        if command != "ask" and len(texts) > self.limit:
+            return [f"line {number} wide"]
+        return [f"line {number} {kind} {len(texts)}", *texts]
 
     def tick(self, watch):
         now = self.relation(watch.query)

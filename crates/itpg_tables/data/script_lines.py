@@ -3,7 +3,7 @@
 Writes script_lines.txt. A case is the pieces of its line, then `is READING`. A piece is `text COUNT TEXT`, the text
 written COUNT times, or `byte COUNT NUMBER`, this byte COUNT times.
 
-    blank                          begin NAME LO HI                   ask FROM TO
+    blank                          begin NAME LO HI                   ask FROM TO, and so first, last, count
     fault CODE                     node ID LABELS                     watch NAME FROM TO
     show NAME                      edge ID LABELS SOURCE TARGET       put ID PROP 'VALUE' FROM TO
     unwatch NAME                   live ID FROM TO                    clear ID PROP FROM TO
@@ -72,8 +72,8 @@ def reading_of(line):
     if fault == "text" or not tokens or tokens[0][0] != "w":
         return "fault text"
     command, parts = tokens[0][1], tokens[1:]
-    if command == b"ask":
-        return f"ask {tokens[0][2]} {len(line)}"
+    if command in (b"ask", b"first", b"last", b"count"):
+        return f"{command.decode()} {tokens[0][2]} {len(line)}"
     if command == b"watch":
         if not parts or parts[0][0] != "w":
             return "fault text"
@@ -111,7 +111,7 @@ by_hand = [
     ([(1, " "), (1, "\t"), (1, "# live"), (1, "\x00"), (1, "'"), (1, "\xff")], "blank"),
     ([(1, "# two"), (2, "\r")], "blank"),
     ([(1, "tick # x")], "fault byte"),
-    # the fourteen forms
+    # the seventeen forms
     ([(1, "graph g -5 100")], "begin g -5 100"),
     ([(1, "extend -5 100")], "extend -5 100"),
     ([(1, "node a Person")], "node a Person"),
@@ -122,6 +122,9 @@ by_hand = [
     ([(1, "unset a risk 3 8")], "clear a risk 3 8"),
     ([(1, "drop a")], "remove a"),
     ([(1, "ask MATCH (x:Person)")], "ask 3 20"),
+    ([(1, "first MATCH (x)-/N/-(y)")], "first 5 23"),
+    ([(1, "last MATCH (x)-/N/-(y)")], "last 4 22"),
+    ([(1, "count MATCH (x:Person)")], "count 5 22"),
     ([(1, "watch w MATCH (x:Person)")], "watch w 7 24"),
     ([(1, "show w")], "show w"),
     ([(1, "unwatch w")], "unwatch w"),
@@ -131,6 +134,7 @@ by_hand = [
     ([(1, "extend 0 1"), (1, "\r")], "extend 0 1"),
     ([(1, "node a L"), (1, "\r")], "node a L"),
     ([(1, "ask x"), (1, "\r")], "ask 3 5"),
+    ([(1, "count x"), (1, "\r")], "count 5 7"),
     ([(1, "watch w x"), (1, "\r")], "watch w 7 9"),
     ([(1, "show w"), (1, "\r")], "show w"),
     ([(1, "tick"), (1, "\r")], "tick"),
@@ -148,10 +152,12 @@ by_hand = [
     ([(1, "extend0 1")], "fault text"),
     ([(1, "live a0 1")], "fault text"),
     ([(1, "ask(x)")], "ask 3 6"),
+    ([(1, "first(x)")], "first 5 8"),
     ([(1, "watch w(x)")], "watch w 7 10"),
     ([(1, "ask'x'")], "ask 3 6"),
     ([(1, "ask")], "ask 3 3"),
     ([(1, "ask"), (1, " ")], "ask 3 4"),
+    ([(1, "count")], "count 5 5"),
     ([(1, "watch w")], "watch w 7 7"),
     # command words as names, and words that are nearly commands
     ([(1, "live live 0 9")], "live live 0 9"),
@@ -164,6 +170,7 @@ by_hand = [
     ([(1, "show show")], "show show"),
     ([(1, "unwatch watch")], "unwatch watch"),
     ([(1, "watch ask ask")], "watch ask 9 13"),
+    ([(1, "first first last")], "first 5 16"),
     ([(1, "Tick")], "fault text"),
     ([(1, "TICK")], "fault text"),
     ([(1, "ticks")], "fault text"),
@@ -173,6 +180,8 @@ by_hand = [
     ([(1, "Extend 0 9")], "fault text"),
     ([(1, "extends 0 9")], "fault text"),
     ([(1, "asks x")], "fault text"),
+    ([(1, "lasts x")], "fault text"),
+    ([(1, "Count x")], "fault text"),
     ([(1, "foo")], "fault text"),
     ([(1, "7")], "fault text"),
     ([(1, "'tick'")], "fault text"),
@@ -256,6 +265,7 @@ by_hand = [
     ([(1, "live a 0 - 9")], "fault byte"),
     ([(1, "live a 0 -")], "fault byte"),
     ([(1, "ask a-b")], "fault byte"),
+    ([(1, "last a-b")], "fault byte"),
     ([(1, "ask a>b")], "fault byte"),
     ([(1, "ask a>=b")], "ask 3 8"),
     ([(1, "ask x;")], "fault byte"),
@@ -269,6 +279,7 @@ by_hand = [
     ([(1, "ask 'a"), (1, "\r")], "fault text"),
     ([(1, "ask 'a"), (2, "\r")], "fault byte"),
     ([(1, "ask x 'open")], "fault text"),
+    ([(1, "count x 'open")], "fault text"),
     ([(1, "ask x '")], "fault text"),
     ([(1, "watch w 'open")], "fault text"),
     ([(1, "set a p 'v 0 9")], "fault text"),

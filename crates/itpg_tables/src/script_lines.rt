@@ -63,6 +63,18 @@ fn describe(alloc: Global, line: &[u8]) -> Result<String> {
             let (from, to) = places(line, query)?;
             Ok(format!(in alloc; "ask {from} {to}")?)
         }
+        Ok(Line::First(query)) => {
+            let (from, to) = places(line, query)?;
+            Ok(format!(in alloc; "first {from} {to}")?)
+        }
+        Ok(Line::Last(query)) => {
+            let (from, to) = places(line, query)?;
+            Ok(format!(in alloc; "last {from} {to}")?)
+        }
+        Ok(Line::Count(query)) => {
+            let (from, to) = places(line, query)?;
+            Ok(format!(in alloc; "count {from} {to}")?)
+        }
         Ok(Line::Watch(name, query)) => {
             let (from, to) = places(line, query)?;
             Ok(format!(in alloc; "watch {} {from} {to}", word(name)?)?)

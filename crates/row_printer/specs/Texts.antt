@@ -1,6 +1,6 @@
--- The text of an answer: a line for each row.
+-- The text of an answer, and of counts: a line for each row.
 use Rattle.std.specs.Prelude.{ℕ, ◌<◌, ℤ, pos, List, [], ◌∷◌, ◌++◌, codes, if◌then◌else◌, int_lt}
-use Rattle.std.specs.Fmt.{signed_decimal}
+use Rattle.std.specs.Fmt.{decimal, signed_decimal}
 use Rattle.itpg_base.specs.Graphs.{Graph, name_at}
 use Rattle.band_normal.specs.declared.band.End.{End}
 use Rattle.band_normal.specs.declared.band.End.TheVariants.{Fixed, Moving}
@@ -8,6 +8,7 @@ use Rattle.itpg_base.specs.Lists.{Among}
 use Rattle.relation_rows.specs.declared.rows.Row.{Row}
 use Rattle.relation_rows.specs.declared.times.OneRow.{OneRow}
 use Rattle.relation_rows.specs.Answered.{Answered, pairs, times}
+use Rattle.arrivals.specs.declared.counts.CountRow.{CountRow}
 
 -- `A..B`
 unfoldable pub span_text : ℤ → ℤ → List ℕ
@@ -42,6 +43,10 @@ time_text g r = departures_text g r.object.0 r.span.from r.span.to ++ codes "\n"
 unfoldable pub pair_text : Graph → Row → List ℕ
 pair_text g r = departures_text g r.source.0 r.band.from r.band.to ++ codes " " ++ arrivals_text g r.target.0 r.band.low r.band.high ++ codes "\n"
 
+-- `A..B C`, and the line's end
+unfoldable pub count_text : CountRow → List ℕ
+count_text r = span_text r.span.from r.span.to ++ codes " " ++ decimal r.number ++ codes "\n"
+
 -- the texts of all, one behind the other, each after its lead
 unfoldable pub led : {X : Type 0} → List ℕ → (X → List ℕ) → List X → List ℕ
 led lead text [] = []
@@ -51,6 +56,10 @@ led lead text (x ∷ xs) = (lead ++ text x) ++ led lead text xs
 abbrev pub answer_text : Graph → List ℕ → Answered → List ℕ
 answer_text g lead (pairs rows) = led lead (pair_text g) rows
 answer_text g lead (times rows) = led lead (time_text g) rows
+
+-- a line for each row of the counts
+abbrev pub counts_text : List CountRow → List ℕ
+counts_text rows = led [] count_text rows
 
 -- each object of the answer was declared in the graph: it is one of the first so many numbers
 abbrev pub AreDeclared : ℕ → Answered → Type 0

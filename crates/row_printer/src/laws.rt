@@ -2,8 +2,8 @@
 ghost use Rattle.std.specs.Prelude.{◌≡◌, [], ◌∷◌, pos, neg_ℤ, codes};
 ghost use Rattle.band_normal.specs.declared.band.End.TheVariants.{Fixed, Moving};
 ghost use Rattle.relation_rows.specs.Answered.{pairs, times};
-ghost use Rattle.row_printer.specs.Texts.{span_text, end_text, ends_text, answer_text};
-ghost use Rattle.row_printer.specs.Examples.{two_nodes, a_for_a_while, b_for_a_while, a_to_b, b_to_a};
+ghost use Rattle.row_printer.specs.Texts.{span_text, end_text, ends_text, answer_text, counts_text};
+ghost use Rattle.row_printer.specs.Examples.{two_nodes, a_for_a_while, b_for_a_while, a_to_b, b_to_a, one_at_first, twelve_then};
 
 /// How moments and ends of bands are printed.
 #[tactic(auto, unfolding(crate::specs::Texts::span_text, crate::specs::Texts::end_text, crate::specs::Texts::ends_text, crate::specs::Texts::moving_text))]
@@ -22,4 +22,10 @@ pub fn law_of_lines()
     ensures one_time { answer_text two_nodes (codes "+ ") (times (a_for_a_while ∷ b_for_a_while ∷ [])) ≡ codes "+ a 0..20\n+ b 5..30\n" }
     ensures two_times { answer_text two_nodes [] (pairs (a_to_b ∷ b_to_a ∷ [])) ≡ codes "a 0..8 b t..t+12\nb -4..-2 a t-2..20\n" }
     ensures none { answer_text two_nodes (codes "- ") (pairs []) ≡ [] }
+{}
+
+/// How counts are printed: a line for each row, in order.
+pub fn law_of_counts()
+    ensures some { counts_text (one_at_first ∷ twelve_then ∷ []) ≡ codes "-4..4 1\n5..20 12\n" }
+    ensures none { counts_text [] ≡ [] }
 {}

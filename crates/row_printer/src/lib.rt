@@ -1,15 +1,17 @@
-//! The text of an answer: a line for each of its rows.
+//! The text of an answer, and of counts: a line for each row.
 //!
-//! Stands on `itpg_graph` for the names of objects, and on `relation_rows`, whose answers are printed. It promises that each
-//! row is written as `docs/REFERENCE.md` says, in order, each after the lead that is handed in, and that no memory is taken.
-//! The page on which lines are formed is for the heads of replies too.
+//! Stands on `itpg_graph` for the names of objects, and on `relation_rows` and `arrivals`, whose answers and counts are printed. It
+//! promises that each row is written as `docs/REFERENCE.md` says, in order, that of an answer after the lead that is handed in, and
+//! that no memory is taken. The page on which lines are formed is for the heads of replies too.
 #![tactic(auto)]
 
+mod counting;
 mod laws;
 mod lines;
 mod page;
 mod printing;
 
-pub use laws::{law_of_forms, law_of_lines};
+pub use counting::print_counts;
+pub use laws::{law_of_counts, law_of_forms, law_of_lines};
 pub use page::{PAGE, Page, Piece};
 pub use printing::print_rows;

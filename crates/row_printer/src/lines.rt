@@ -1,8 +1,9 @@
 //! The lines of rows, on a page.
 ghost use Rattle.std.specs.Prelude.{◌≡◌, ◌+◌, ◌*◌, ◌≤◌, ◌<◌, ◌++◌, length};
-ghost use Rattle.row_printer.specs.Texts.{span_text, moving_text, end_text, ends_text, departures_text, arrivals_text, pair_text, time_text};
+ghost use Rattle.row_printer.specs.Texts.{span_text, moving_text, end_text, ends_text, departures_text, arrivals_text, pair_text, time_text, count_text};
 
 use crate::page::{PAGE, Page};
+use arrivals::CountRow;
 use band_normal::End;
 use itpg_base::ObjNo;
 use itpg_graph::Graph;
@@ -39,6 +40,18 @@ pub(crate) fn add_pair(page: &mut Page, graph: &Graph, row: &Row)
     add_departures(page, graph, row.source, row.band.from, row.band.to);
     page.add(b" ");
     add_arrivals(page, graph, row.target, row.band.low, row.band.high);
+    page.add(b"\n");
+}
+
+/// Puts the line of a row of counts behind what the page has.
+#[tactic(auto, unfolding(crate::specs::Texts::count_text))]
+pub(crate) fn add_count(page: &mut Page, row: &CountRow)
+    requires room { length page.old + MAX_ROW ≤ PAGE }
+    ensures { page.new ≡ page.old ++ count_text row.now }
+{
+    add_span(page, row.span.from(), row.span.to());
+    page.add(b" ");
+    page.add_number(u64::from(row.number));
     page.add(b"\n");
 }
 

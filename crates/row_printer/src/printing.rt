@@ -136,8 +136,8 @@ fn say_time<K: Sink>(
     Ok(())
 }
 
-// Says the lead, and makes room for a row.
-fn begin_line<K: Sink>(lead: &[u8], page: &mut Page, out: &mut K) -> Result<(), Failed>
+/// Says the lead, and makes room for a row.
+pub(crate) fn begin_line<K: Sink>(lead: &[u8], page: &mut Page, out: &mut K) -> Result<(), Failed>
     ensures room { OnOk result (length page.new + MAX_ROW ≤ PAGE) }
     ensures said { OnOk result (SaysTo K.Sink out.old out.new page.old page.new lead.now) }
     ensures some { OnErr result ((more : List ℕ) → SaysSomeTo K.Sink out.old out.new page.old (lead.now ++ more)) }
