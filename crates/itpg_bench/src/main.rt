@@ -5,11 +5,13 @@
 //! of the call to standard error.
 #![tactic(auto)]
 
+mod firsts;
 mod ingest;
 mod relations;
 mod zones;
 
 use anyhow::{Result, bail, ensure};
+use firsts::Lie;
 use relations::Workload;
 use std::env;
 use zones::Shape;
@@ -19,7 +21,7 @@ const MOST: u32 = 1_000_000;
 const FEW: u32 = 1_000;
 
 // All workloads.
-const NAMES: [&str; 14] = [
+const NAMES: [&str; 19] = [
     "ingest",
     "zones",
     "close_zones",
@@ -34,6 +36,11 @@ const NAMES: [&str; 14] = [
     "middle",
     "lasting",
     "lives",
+    "apart",
+    "pairs",
+    "stairs",
+    "together",
+    "wait",
 ];
 
 fn main(rt: HostRuntime) -> Result<()> {
@@ -67,6 +74,11 @@ fn measure(rt: &HostRuntime, name: &str, size: u32) -> Result<()> {
         "middle" => Workload::Middle.measure(rt, size),
         "lasting" => Workload::Lasting.measure(rt, size),
         "lives" => Workload::Lives.measure(rt, size),
+        "apart" => Lie::Apart.measure(rt, size),
+        "pairs" => Lie::Pairs.measure(rt, size),
+        "stairs" => Lie::Stairs.measure(rt, size),
+        "together" => Lie::Together.measure(rt, size),
+        "wait" => Lie::Wait.measure(rt, size),
         _ => bail!("no workload has the name {name}"),
     }
 }

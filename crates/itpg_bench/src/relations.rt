@@ -9,12 +9,14 @@ use std::time::Instant;
 use zone_compose::diagonal;
 use zone_core::{Bounds, Zone, tight};
 
-const MOST_ROWS: u32 = 2_000_000;
+/// The limit of rows of each answer.
+pub(crate) const MOST_ROWS: u32 = 2_000_000;
 
 // Above the numbers of all other objects.
 const MIDDLE: u32 = 2_000_000;
 
-type Item = (ObjNo, ObjNo, Zone);
+/// A zone from a source to a target.
+pub(crate) type Item = (ObjNo, ObjNo, Zone);
 
 /// A call, with the two relations that it is measured over.
 #[derive(Clone, Copy)]
@@ -156,8 +158,8 @@ fn add_life(items: &mut Vec<Item>, index: u32, last: u32) -> Result<()> {
     Ok(())
 }
 
-// Where spans begin that share no moment, if they last up to twenty.
-fn begin(index: u32) -> u32 {
+/// Where spans begin that share no moment, if they last up to twenty.
+pub(crate) fn begin(index: u32) -> u32 {
     index.saturating_mul(20)
 }
 
@@ -170,9 +172,10 @@ fn later(index: u32) -> u32 {
     }
 }
 
-fn given(answer: Result<Relation, RelFault>) -> Result<Relation> {
+/// The answer, if there is one.
+pub(crate) fn given<T>(answer: Result<T, RelFault>) -> Result<T> {
     match answer {
-        Ok(relation) => Ok(relation),
+        Ok(answer) => Ok(answer),
         Err(RelFault::Memory) => bail!("out of memory"),
         Err(RelFault::Wide) => bail!("more than {MOST_ROWS} rows"),
     }

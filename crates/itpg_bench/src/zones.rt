@@ -8,7 +8,7 @@ use std::alloc::Global;
 use std::time::Instant;
 use zone_core::{Bounds, Zone, tight};
 
-// A difference that all moments have.
+/// A difference that all moments have.
 pub(crate) const ANY: i64 = 8_000_000_000_000;
 
 /// How made-up zones lie.
@@ -109,8 +109,13 @@ fn spread(index: u32, moments: u32) -> Option<Zone> {
     )
 }
 
-// The zone with these departures and arrivals, and differences from the least to the most.
-fn zone(departures: (u32, u32), arrivals: (u32, u32), least: i64, most: i64) -> Option<Zone>
+/// The zone with these departures and arrivals, and differences from the least to the most.
+pub(crate) fn zone(
+    departures: (u32, u32),
+    arrivals: (u32, u32),
+    least: i64,
+    most: i64,
+) -> Option<Zone>
     requires least { Within difference_reach least }
     requires most { Within difference_reach most }
 {
@@ -124,11 +129,11 @@ fn zone(departures: (u32, u32), arrivals: (u32, u32), least: i64, most: i64) -> 
     })
 }
 
-fn times(n: u32, k: u32) -> u32 {
+pub(crate) fn times(n: u32, k: u32) -> u32 {
     n.saturating_mul(k)
 }
 
-fn plus(n: u32, k: u32) -> u32 {
+pub(crate) fn plus(n: u32, k: u32) -> u32 {
     n.saturating_add(k)
 }
 

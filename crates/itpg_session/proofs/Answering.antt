@@ -1,6 +1,6 @@
 -- The turns of lines, and the rules of queries, from their parts.
 use Rattle.std.proofs.Common.{◌≡◌, ◌⊎◌, ℕ, ◌≤◌, length, List, [], ◌∷◌, ◌++◌, inl, inr, refl, ap}
-use Rattle.std.specs.Prelude.{Ok, Err}
+use Rattle.std.specs.Prelude.{◌↔◌, Result, Ok, Err, take}
 use Rattle.itpg_base.specs.Words.{Word}
 use Rattle.itpg_base.specs.Graphs.{Graph}
 use Rattle.itpg_base.specs.declared.rule_code.RuleCode.{RuleCode}
@@ -10,7 +10,8 @@ use Rattle.itpg_edit.specs.declared.edit.Edit.{Edit}
 use Rattle.itpg_edit.specs.Rules.{FirstOf, NoneOf, Broken}
 use Rattle.itpg_base.specs.declared.touch.Touch.{Touch}
 use Rattle.itpg_edit.specs.Next.{Makes as MakesGraph}
-use Rattle.edit_reader.specs.Readings.{Reading, Nothing, Changes, Asks, Watches, Shows, Unwatches, Ticks}
+use Rattle.edit_reader.specs.Readings.{Reading, Nothing, Changes, Asks, Wants, Watches, Shows, Unwatches, Ticks}
+use Rattle.edit_reader.specs.declared.line.Wanted.{Wanted}
 use Rattle.edit_reader.specs.Lines.{LineOf}
 use Rattle.path_ast.specs.Terms.{QueryTerm}
 use Rattle.match_parser.specs.Reading.{Reads, FaultOf}
@@ -18,7 +19,8 @@ use Rattle.standing_queries.specs.Watches.{most_watches}
 use Rattle.itpg_session.specs.PlainWatches.{PlainWatch, IsWatched, new_watch, without, AreMarkedAfter}
 use Rattle.itpg_session.specs.Rules.{QueryBreaks, WatchBreaks, NameBreaks, TickBreaks, ask_rules, watch_rules, name_rules, tick_rules}
 use Rattle.itpg_session.specs.Replies.{Reply, Bad, Refused, IsReply}
-use Rattle.itpg_session.specs.Machine.{Machine, Turn, Refuses, AsksText, WatchesText, WatchesQuery, AddsWatch, ShowsName, DropsWatch, DropsName, TicksOrNot, Answers, TurnOf, Replies, quiet_turn, told}
+use Rattle.itpg_session.specs.MachineLaws.{FrontReplies}
+use Rattle.itpg_session.specs.Machine.{Machine, Turn, Refuses, AsksText, WantsText, WatchesText, WatchesQuery, AddsWatch, ShowsName, DropsWatch, DropsName, TicksOrNot, Answers, TurnOf, Replies, quiet_turn, told}
 
 module _ (limit : ℕ) (m : Machine) where
   pub turn_read : (reading : Reading) (t : Turn) → Answers limit m reading t → TurnOf limit m (Ok reading) t
@@ -47,6 +49,10 @@ module _ (limit : ℕ) (m : Machine) where
 
   pub asked_asks : (text : List ℕ) (reply : Reply) → IsReply m.graph limit text reply → (t : Turn) → t ≡ told m reply → AsksText limit m text t
   asked_asks text reply replies t is = record { reply = reply; replies = replies; is = is }
+
+  pub wants_answers : (wanted : Wanted) (text : List ℕ) (t : Turn) → WantsText limit m wanted text t → Answers limit m (Wants wanted text) t
+  unfolding Answers
+  wants_answers wanted text t a = a
 
   pub watches_answers : (name : Word) (text : List ℕ) (t : Turn) → WatchesText m name text t → Answers limit m (Watches name text) t
   unfolding Answers
@@ -112,3 +118,10 @@ module _ (m : Machine) (name : Word) (begun : NoneOf (TickBreaks m.graph) tick_r
 
   pub is_unknown : (IsWatched m.watches name → ⊥) → FirstOf (NameBreaks m.graph m.watches name) name_rules Unknown
   is_unknown unknown = inr (begun.0, inl (unknown, refl))
+
+-- a line has the turns of its front
+pub front_replies : ((line : List ℕ) (n : ℕ) (result : Result Reading TextCode) → 65538 ≤ n → LineOf (take n line) result ↔ LineOf line result) → FrontReplies
+front_replies law limit m line n t long = (
+  λ r. record { what = r.what; line_of = (law line n r.what long).0 r.line_of; turn = r.turn },
+  λ r. record { what = r.what; line_of = (law line n r.what long).1 r.line_of; turn = r.turn },
+)

@@ -7,7 +7,8 @@ use Rattle.itpg_base.specs.Lists.{Among}
 use Rattle.itpg_base.proofs.Lists.{among_append}
 use Rattle.itpg_base.specs.declared.touch.Touch.{Touch}
 use Rattle.itpg_base.specs.declared.text_code.TextCode.{TextCode}
-use Rattle.edit_reader.specs.Readings.{Reading, Nothing, Changes, Asks, Watches, Shows, Unwatches, Ticks}
+use Rattle.edit_reader.specs.Readings.{Reading, Nothing, Changes, Asks, Wants, Watches, Shows, Unwatches, Ticks}
+use Rattle.edit_reader.specs.declared.line.Wanted.{Wanted}
 use Rattle.path_ast.specs.Terms.{QueryTerm}
 use Rattle.label_scope.specs.declared.scope.Scope.TheVariants.{All}
 use Rattle.label_scope.specs.Footprints.{footprint}
@@ -18,11 +19,13 @@ use Rattle.standing_queries.specs.Watches.{Watch}
 use Rattle.itpg_session.specs.PlainWatches.{PlainWatch, all_plain, IsMarkedAfter, AreMarkedAfter, new_watch, without, marked_at}
 use Rattle.itpg_session.specs.Ticks.{Ticked, StaysWide, Moves, moved, all_moved}
 use Rattle.itpg_session.specs.declared.reply.Reply.{Reply as ReplyValue}
-use Rattle.itpg_session.specs.Replies.{Reply, line_reply, Silent, Bad, Refused, Wide, Rows, Shown, PerWatch, IsReply}
+use Rattle.itpg_session.specs.Replies.{Reply, line_reply, Silent, Bad, Refused, Wide, Rows, Counted, Shown, PerWatch, IsReply}
+use Rattle.itpg_session.specs.Wanting.{IsReplyWanted}
 use Rattle.itpg_session.specs.Keeping.{KeepsPath, KeepsFound, KeepsTicked, KeepAllTicked}
 use Rattle.itpg_session.specs.Machine.{Machine, Standing, Turn, Answers, TurnOf, WatchesText, told, after, quiet_turn}
 use Rattle.itpg_session.specs.Steps.{StandsAs, IsDecided, Decides, WasFresh, KeepsFresh, KeepsReply}
 use Rattle.itpg_session.proofs.Watching.{without_among}
+use Rattle.itpg_session.proofs.WantedReplies.{each_wanted}
 
 -- each of these fresh watches was fresh among those
 abbrev NoneFresher : List PlainWatch → List PlainWatch → Type 0
@@ -77,8 +80,13 @@ module _ (limit : ℕ) (m : Machine) where
   silent_asked n text (Refused rule) e a = let no : ⊥ = cc in no
   silent_asked n text Wide e a = let no : ⊥ = cc in no
   silent_asked n text (Rows answer) e a = let no : ⊥ = cc in no
+  silent_asked n text (Counted counts) e a = let no : ⊥ = cc in no
   silent_asked n text (Shown place found) e a = let no : ⊥ = cc in no
   silent_asked n text (PerWatch found) e a = let no : ⊥ = cc in no
+
+  silent_wanted : (wanted : Wanted) (text : List ℕ) (reply : Reply) → IsReplyWanted m.graph limit wanted text reply → Silent ≡ reply → ⊥
+  silent_wanted = each_wanted m.graph limit (λ reply. Silent ≡ reply → ⊥) (λ code e. let no : ⊥ = cc in no) (λ rule e. let no : ⊥ = cc in no) (λ e. let no : ⊥ = cc in no) (λ counts e. let no : ⊥ = cc in no)
+      (λ rows declared e. let no : ⊥ = cc in no)
 
   silent_answer : (n : Machine) (t : Turn) (reading : Reading) → told n Silent ≡ t → Answers limit m reading t → NoneFresher m.watches n.watches
   unfolding Answers
@@ -86,6 +94,7 @@ module _ (limit : ℕ) (m : Machine) where
   silent_answer n t (Changes edit) is (inl refused) = absurd (let s = says n t (Refused refused.rule) is refused.is in let no : ⊥ = cc in no)
   silent_answer n t (Changes edit) is (inr made) = same_watches n _ t is made.is (none_marked made.touch m.watches made.watches made.marked)
   silent_answer n t (Asks text) is a = absurd (silent_asked n text a.reply (says n t a.reply is a.is) a.replies)
+  silent_answer n t (Wants wanted text) is a = absurd (silent_wanted wanted text a.reply a.replies (says n t a.reply is a.is))
   silent_answer n t (Watches name text) is a = silent_text n t name text is a
   silent_answer n t (Shows name) is (inl refused) = absurd (let s = says n t (Refused refused.rule) is refused.is in let no : ⊥ = cc in no)
   silent_answer n t (Shows name) is (inr shown) = absurd (let s = says n t (Shown shown.place shown.found) is shown.is in let no : ⊥ = cc in no)
@@ -138,6 +147,7 @@ replied_fresh m table (Bad code) some s is at keeps = was_fresh m.graph table m.
 replied_fresh m table (Refused rule) some s is at keeps = was_fresh m.graph table m.watches m.watches (none_same m.watches)
 replied_fresh m table Wide some s is at keeps = was_fresh m.graph table m.watches m.watches (none_same m.watches)
 replied_fresh m table (Rows answer) some s is at keeps = was_fresh m.graph table m.watches m.watches (none_same m.watches)
+replied_fresh m table (Counted counts) some s is at keeps = was_fresh m.graph table m.watches m.watches (none_same m.watches)
 replied_fresh m table (Shown place found) some s is at keeps =
     shown_fresh m.graph table m.watches place found
     (subst (λ (t : Table). IsSomeAnd (slice_get m.watches place) (λ w. KeepsFound m.graph t w found)) at (subst (λ (n : Machine). IsSomeAnd (slice_get n.watches place) (λ w. KeepsFound n.graph s.table w found)) is keeps))
@@ -150,6 +160,7 @@ silent_is (Bad code) = inr (λ e. let no : ⊥ = cc in no)
 silent_is (Refused rule) = inr (λ e. let no : ⊥ = cc in no)
 silent_is Wide = inr (λ e. let no : ⊥ = cc in no)
 silent_is (Rows answer) = inr (λ e. let no : ⊥ = cc in no)
+silent_is (Counted counts) = inr (λ e. let no : ⊥ = cc in no)
 silent_is (Shown place found) = inr (λ e. let no : ⊥ = cc in no)
 silent_is (PerWatch found) = inr (λ e. let no : ⊥ = cc in no)
 
@@ -182,8 +193,12 @@ asked_keeps g limit s text (Bad code) a = tt
 asked_keeps g limit s text (Refused rule) a = tt
 asked_keeps g limit s text Wide a = tt
 asked_keeps g limit s text (Rows answer) a = tt
+asked_keeps g limit s text (Counted counts) (q, reads, a) = absurd a.1
 asked_keeps g limit s text (Shown place found) (q, reads, a) = absurd a.1
 asked_keeps g limit s text (PerWatch found) (q, reads, a) = absurd a.1
+
+pub wanted_keeps : (g : Graph) (limit : ℕ) (s : Standing) (wanted : Wanted) (text : List ℕ) (reply : Reply) → IsReplyWanted g limit wanted text reply → KeepsReply reply s
+wanted_keeps g limit s = each_wanted g limit (λ reply. KeepsReply reply s) (λ code. tt) (λ rule. tt) tt (λ counts. tt) (λ rows declared. tt)
 
 text_keeps : (m : Machine) (s : Standing) (name : Word) (text : List ℕ) (t : Turn) → WatchesText m name text t → KeepsReply t.reply s
 text_keeps m s name text t (inl (code, fault, is)) = replied_keeps s t _ is tt
@@ -202,6 +217,7 @@ other_keeps limit m s Nothing o t a = replied_keeps s t _ a tt
 other_keeps limit m s (Changes edit) o t (inl refused) = replied_keeps s t _ refused.is tt
 other_keeps limit m s (Changes edit) o t (inr made) = replied_keeps s t _ made.is tt
 other_keeps limit m s (Asks text) o t a = replied_keeps s t _ a.is (asked_keeps m.graph limit s text a.reply a.replies)
+other_keeps limit m s (Wants wanted text) o t a = replied_keeps s t _ a.is (wanted_keeps m.graph limit s wanted text a.reply a.replies)
 other_keeps limit m s (Watches name text) o t a = text_keeps m s name text t a
 other_keeps limit m s (Shows name) o t a = absurd o
 other_keeps limit m s (Unwatches name) o t (inl refused) = replied_keeps s t _ refused.is tt

@@ -8,16 +8,16 @@ use Rattle.itpg_edit.specs.Rules.{Unbroken, Breaks, rules_of}
 use Rattle.itpg_edit.proofs.FirstOf.{first_or_unbroken}
 use Rattle.itpg_edit.specs.Next.{Makes as MakesGraph}
 use Rattle.edit_reader.specs.declared.line.Line.{Line}
-use Rattle.edit_reader.specs.Readings.{Reading, Nothing, Changes, Asks, Watches, Shows, Unwatches, Ticks, reading_of, told as read_as}
+use Rattle.edit_reader.specs.Readings.{Reading, Nothing, Changes, Asks, Wants, Watches, Shows, Unwatches, Ticks, reading_of, told as read_as}
 use Rattle.edit_reader.specs.Lines.{LineOf}
 use Rattle.plan_cache.specs.Nodes.{Table}
 use Rattle.plan_cache.specs.Footprints.{footprints_of}
 use Rattle.plan_cache.specs.KeptRows.{Forgets}
 use Rattle.relation_rows.specs.Answered.{Answered}
-use Rattle.itpg_session.specs.Replies.{Reply, Silent, Bad, Refused, Wide, Rows, Shown, PerWatch}
+use Rattle.itpg_session.specs.Replies.{Reply, Silent, Bad, Refused, Wide, Rows, Counted, Shown, PerWatch}
 use Rattle.itpg_session.specs.Keeping.{AddsText, IsWorked, KeepsText}
 use Rattle.itpg_session.specs.Machine.{Machine, Standing, Turn, Answers, TurnOf, told, after}
-use Rattle.itpg_session.specs.Steps.{StandsAs, ForgetsEdit, LeavesTable, LeavesSo, LeavesLine, LeavesUnmade, LeavesUnmadeLine, ForgetsLine, KeepsAsked, KeepsAskedLine, ShowsKept}
+use Rattle.itpg_session.specs.Steps.{StandsAs, ForgetsEdit, LeavesTable, LeavesSo, LeavesLine, LeavesUnmade, LeavesUnmadeLine, ForgetsLine, KeepsAsked, KeepsAskedSo, KeepsAskedLine, ShowsKept}
 use Rattle.itpg_session.proofs.Accepting.{worked_none}
 
 -- ---- nothing
@@ -26,6 +26,7 @@ reading_leaves : (s : Standing) (reading : Reading) → LeavesTable reading s s
 reading_leaves s Nothing = refl
 reading_leaves s (Changes edit) = inr refl
 reading_leaves s (Asks text) = inr refl
+reading_leaves s (Wants wanted text) = inr refl
 reading_leaves s (Watches name text) = inr refl
 reading_leaves s (Shows name) = worked_none s.table
 reading_leaves s (Unwatches name) = refl
@@ -46,10 +47,18 @@ kept_forgets s line (Ok l) answer only kept = λ edit is unbroken.
 kept_forgets s line (Err code) answer only kept = absurd kept
 
 -- and no question
+shows_asks : (s : Standing) (reading : Reading) (answer : Answered) → ShowsKept s reading answer → KeepsAsked reading s s
+shows_asks s Nothing answer k = tt
+shows_asks s (Changes edit) answer k = tt
+shows_asks s (Asks text) answer k = absurd k
+shows_asks s (Wants wanted text) answer k = absurd k
+shows_asks s (Watches name text) answer k = tt
+shows_asks s (Shows name) answer k = tt
+shows_asks s (Unwatches name) answer k = tt
+shows_asks s Ticks answer k = tt
+
 pub kept_asks : (s : Standing) (line : List ℕ) (what : Result Line TextCode) (answer : Answered) → ((other : Result Reading TextCode) → LineOf line other → other ≡ read_as what) → IsOkAnd what (λ l. ShowsKept s (reading_of l) answer) → KeepsAskedLine line s s
-kept_asks s line (Ok l) answer only kept = λ other of text rows is reply.
-    let same : reading_of l ≡ Asks text = (let e = only other of in cc) in
-    absurd (subst (λ (r : Reading). ShowsKept s r answer) same kept)
+kept_asks s line (Ok l) answer only kept = λ other of. subst (λ (w : Result Reading TextCode). KeepsAskedSo w s s) (sym (only other of)) (shows_asks s (reading_of l) answer kept)
 kept_asks s line (Err code) answer only kept = absurd kept
 
 -- what is read is one reading
@@ -93,6 +102,7 @@ after_graph m (Bad code) = refl
 after_graph m (Refused rule) = refl
 after_graph m Wide = refl
 after_graph m (Rows answer) = refl
+after_graph m (Counted counts) = refl
 after_graph m (Shown place found) = refl
 after_graph m (PerWatch found) = refl
 
@@ -111,6 +121,7 @@ module _ (old mid new : Standing) (table : new.table ≡ mid.table) (graph : new
   reading_on (Changes edit) (inl a) = inl (forgets_on edit a)
   reading_on (Changes edit) (inr a) = inr (table ∙ a)
   reading_on (Asks text) a = subst (AddsText text old.machine.watches old.table) (sym table) a
+  reading_on (Wants wanted text) a = subst (AddsText text old.machine.watches old.table) (sym table) a
   reading_on (Watches name text) a = subst (AddsText text old.machine.watches old.table) (sym table) a
   reading_on (Shows name) a = subst (IsWorked old.table) (sym table) a
   reading_on (Unwatches name) a = table ∙ a
@@ -134,9 +145,23 @@ forgets_settled line what old mid new reply limit only table stands a = λ edit 
     forgets_on old mid new table (ap (λ (m : Machine). m.graph) stands.machine ∙ after_graph mid.machine reply) edit (a edit (sym (only (Ok (Changes edit)) is)) unbroken)
 
 -- what is kept of a question that was decided stays so
+module _ (old mid new : Standing) (table : new.table ≡ mid.table) (graph : new.machine.graph ≡ mid.machine.graph) where
+  text_on : (text : List ℕ) → KeepsText mid.machine.graph text mid.table → KeepsText new.machine.graph text new.table
+  text_on text kept = subst (λ (g : Graph). KeepsText g text new.table) (sym graph) (subst (KeepsText mid.machine.graph text) (sym table) kept)
+
+  asked_on : (what : Result Reading TextCode) → KeepsAskedSo what old mid → KeepsAskedSo what old new
+  asked_on (Ok Nothing) a = tt
+  asked_on (Ok (Changes edit)) a = tt
+  asked_on (Ok (Asks text)) a = λ answer rows. text_on text (a answer rows)
+  asked_on (Ok (Wants wanted text)) a = λ all rows. text_on text (a all rows)
+  asked_on (Ok (Watches name text)) a = tt
+  asked_on (Ok (Shows name)) a = tt
+  asked_on (Ok (Unwatches name)) a = tt
+  asked_on (Ok Ticks) a = tt
+  asked_on (Err code) a = tt
+
 pub asked_settled : (line : List ℕ) (what : Result Reading TextCode) (old mid new : Standing) (reply : Reply) (limit : ℕ) → ((other : Result Reading TextCode) → LineOf line other → other ≡ what)
-    → new.table ≡ mid.table → StandsAs new (after mid.machine reply) limit → KeepsAsked what old mid → KeepsAskedLine line old new
-asked_settled line what old mid new reply limit only table stands a = λ other of text answer is rows.
+    → new.table ≡ mid.table → StandsAs new (after mid.machine reply) limit → KeepsAskedSo what old mid → KeepsAskedLine line old new
+asked_settled line what old mid new reply limit only table stands a = λ other of.
     let graph : new.machine.graph ≡ mid.machine.graph = ap (λ (m : Machine). m.graph) stands.machine ∙ after_graph mid.machine reply in
-    let kept : KeepsText mid.machine.graph text mid.table = a text answer (sym (only other of) ∙ is) rows in
-    subst (λ (g : Graph). KeepsText g text new.table) (sym graph) (subst (KeepsText mid.machine.graph text) (sym table) kept)
+    subst (λ (w : Result Reading TextCode). KeepsAskedSo w old new) (sym (only other of)) (asked_on old mid new table graph what a)

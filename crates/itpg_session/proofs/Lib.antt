@@ -2,6 +2,8 @@ pub mod Written
 pub mod Told
 pub mod Decided
 pub mod Numbers
+pub mod WantedReplies
+pub mod Outcomes
 pub mod Watching
 pub mod TickSteps
 pub mod Replying

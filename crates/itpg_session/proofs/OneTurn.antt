@@ -1,6 +1,6 @@
 -- From a good machine a line has exactly one turn, and it leaves a good machine.
-use Rattle.std.proofs.Common.{◌≡◌, ℕ, ◌≤◌, List, ◌⊎◌, inl, inr, refl, sym, ap, ◌∙◌, subst}
-use Rattle.std.specs.Prelude.{◌↔◌, slice_get, Option, Some, is_some, Result, Ok, Err, take}
+use Rattle.std.proofs.Common.{◌≡◌, ℕ, List, ◌⊎◌, inl, inr, refl, sym, ap, ◌∙◌, subst}
+use Rattle.std.specs.Prelude.{slice_get, Option, Some, is_some, Result, Ok, Err}
 use Rattle.itpg_base.specs.Words.{Word}
 use Rattle.itpg_base.specs.Graphs.{Graph, Good}
 use Rattle.itpg_base.specs.declared.rule_code.RuleCode.{RuleCode}
@@ -10,9 +10,10 @@ use Rattle.itpg_edit.specs.Rules.{FirstOf, Breaks, Broken, NoneOf, Unbroken, rul
 use Rattle.itpg_edit.specs.Next.{Next, Makes as MakesGraph}
 use Rattle.itpg_edit.specs.Sites.{HasMoments, HasLabels}
 use Rattle.itpg_edit.proofs.FirstOf.{first_unique, first_or_unbroken}
-use Rattle.edit_reader.specs.Readings.{Reading, Nothing, Changes, Asks, Watches, Shows, Unwatches, Ticks}
+use Rattle.edit_reader.specs.Readings.{Reading, Nothing, Changes, Asks, Wants, Watches, Shows, Unwatches, Ticks}
 use Rattle.edit_reader.specs.Lines.{LineOf}
 use Rattle.edit_reader.specs.Moments.{AsksOfMoments, AsksForLabels}
+use Rattle.edit_reader.specs.declared.line.Wanted.{Wanted}
 use Rattle.match_parser.specs.Reading.{Reads}
 use Rattle.match_parser.proofs.InRange.{asks_for_one}
 use Rattle.path_ast.specs.Terms.{QueryTerm}
@@ -25,18 +26,19 @@ use Rattle.itpg_session.specs.PlainWatches.{PlainWatch, IsWatched, new_watch, ma
 use Rattle.itpg_session.specs.Rules.{WatchBreaks, NameBreaks, TickBreaks, watch_rules, name_rules, tick_rules}
 use Rattle.itpg_session.specs.Watching.{AsksForOne}
 use Rattle.itpg_session.specs.Ticks.{Ticked}
-use Rattle.itpg_session.specs.Replies.{Reply, Silent, Bad, Refused, Wide, Rows, Shown, PerWatch, FindsFor, IsReply}
-use Rattle.itpg_session.specs.Machine.{Machine, IsGood, Turn, Refuses, AsksText, WatchesText, WatchesQuery, AddsWatch, ShowsWatch, DropsWatch, TicksAll, Answers, TurnOf, Replies, after, told, quiet_turn}
-use Rattle.itpg_session.specs.MachineLaws.{OneReply, SomeReply, GoodReply, FrontReplies}
+use Rattle.itpg_session.specs.Replies.{Reply, Silent, Bad, Refused, Wide, Rows, Counted, Shown, PerWatch, FindsFor, IsReply}
+use Rattle.itpg_session.specs.Machine.{Machine, IsGood, Turn, Refuses, AsksText, WantsText, WatchesText, WatchesQuery, AddsWatch, ShowsWatch, DropsWatch, TicksAll, Answers, TurnOf, Replies, after, told, quiet_turn}
+use Rattle.itpg_session.specs.MachineLaws.{OneReply, SomeReply, GoodReply}
 use Rattle.itpg_session.proofs.Decided.{first_or_none, decide_watch, decide_named, decide_tick, some_watch}
 use Rattle.itpg_session.proofs.Replying.{TextLaws, one_asked, some_asked, one_finding, some_finding}
+use Rattle.itpg_session.proofs.WantedReplies.{each_wanted, one_wanted, some_wanted}
 use Rattle.standing_queries.proofs.Named.{place_among, one_place, more_ordered}
 use Rattle.itpg_session.proofs.Watching.{without_among, without_ordered, kind_at_first, each_added}
 use Rattle.itpg_session.proofs.Marks.{one_marked, some_marked, AreRemarked, remarked_at, remarked_after, differ_remarked, each_remarked}
 use Rattle.itpg_session.proofs.OneTouch.{one_touch, some_touch}
 use Rattle.itpg_session.proofs.TickSteps.{among_moved, differ_moved}
 use Rattle.itpg_session.proofs.Changing.{kinds_moved, one_tick, some_tick}
-use Rattle.itpg_session.proofs.Answering.{replies_read, replies_bad, blank_answers, asks_answers, asked_asks, watches_answers, watch_bad, watch_read, shows_answers, unwatches_answers, ticks_answers, edit_refused, refusal}
+use Rattle.itpg_session.proofs.Answering.{replies_read, replies_bad, blank_answers, asks_answers, asked_asks, wants_answers, watches_answers, watch_bad, watch_read, shows_answers, unwatches_answers, ticks_answers, edit_refused, refusal}
 
 one_refusal : (m : Machine) (broken : RuleCode → Type 0) (rules : List RuleCode) (x y : Turn) → Refuses m broken rules x → Refuses m broken rules y → x ≡ y
 one_refusal m broken rules x y a b = a.is ∙ ap (λ (r : RuleCode). told m (Refused r)) (first_unique broken rules a.rule b.rule a.first b.first) ∙ sym b.is
@@ -58,6 +60,9 @@ pub record Below : Type 0 where
 module _ (below : Below) (limit : ℕ) (m : Machine) (good : IsGood m) where
   one_ask : (text : List ℕ) (x y : Turn) → AsksText limit m text x → AsksText limit m text y → x ≡ y
   one_ask text x y a b = a.is ∙ ap (told m) (one_asked below.texts m.graph limit text a.reply b.reply a.replies b.replies) ∙ sym b.is
+
+  one_wants : (wanted : Wanted) (text : List ℕ) (x y : Turn) → WantsText limit m wanted text x → WantsText limit m wanted text y → x ≡ y
+  one_wants wanted text x y a b = a.is ∙ ap (told m) (one_wanted below.texts m.graph limit wanted text a.reply b.reply a.replies b.replies) ∙ sym b.is
 
   -- a turn is a refusal or another, and not both
   one_of : (broken : RuleCode → Type 0) (rules : List RuleCode) (Other : Turn → Type 0) → ((t : Turn) → Other t → NoneOf broken rules) → ((x y : Turn) → Other x → Other y → x ≡ y)
@@ -106,6 +111,7 @@ module _ (below : Below) (limit : ℕ) (m : Machine) (good : IsGood m) where
   one_answer Nothing x y a b = a ∙ sym b
   one_answer (Changes edit) x y a b = one_change edit x y a b
   one_answer (Asks text) x y a b = one_ask text x y a b
+  one_answer (Wants wanted text) x y a b = one_wants wanted text x y a b
   one_answer (Watches name text) x y a b = one_watch name text x y a b
   one_answer (Shows name) x y a b = one_of (NameBreaks m.graph m.watches name) name_rules (ShowsWatch limit m name) (λ t h. h.unbroken) (one_shown name) x y a b
   one_answer (Unwatches name) x y a b = one_of (NameBreaks m.graph m.watches name) name_rules (DropsWatch m name) (λ t h. h.unbroken) (λ v w h k. h.is ∙ sym k.is) x y a b
@@ -133,6 +139,7 @@ module _ (below : Below) (limit : ℕ) (m : Machine) (good : IsGood m) where
   asked_after text (Refused rule) a = refl
   asked_after text Wide a = refl
   asked_after text (Rows answer) a = refl
+  asked_after text (Counted counts) a = refl
   asked_after text (Shown place found) (q, reads, a) = absurd a.1
   asked_after text (PerWatch found) (q, reads, a) = absurd a.1
 
@@ -201,6 +208,9 @@ module _ (below : Below) (limit : ℕ) (m : Machine) (good : IsGood m) where
   good_answer Nothing t moments labels a = same_good t (sym (ap (λ (u : Turn). u.next) a))
   good_answer (Changes edit) t moments labels a = good_change edit t moments labels a
   good_answer (Asks text) t moments labels a = good_ask text t a
+  good_answer (Wants wanted text) t moments labels a =
+      let left : m ≡ after m a.reply = each_wanted m.graph limit (λ reply. m ≡ after m reply) (λ code. refl) (λ rule. refl) refl (λ counts. refl) (λ rows declared. refl) wanted text a.reply a.replies in
+      same_good t (left ∙ sym (ap (λ (u : Turn). u.next) a.is))
   good_answer (Watches name text) t moments labels a = good_watch name text t a
   good_answer (Shows name) t moments labels a = good_of (NameBreaks m.graph m.watches name) name_rules (ShowsWatch limit m name) (good_shown name) t a
   good_answer (Unwatches name) t moments labels a = good_of (NameBreaks m.graph m.watches name) name_rules (DropsWatch m name) (good_dropped name) t a
@@ -216,6 +226,9 @@ module _ (below : Below) (limit : ℕ) (m : Machine) (good : IsGood m) where
 
   some_ask : (text : List ℕ) → (t : Turn) × AsksText limit m text t
   some_ask text = let r = some_asked below.texts m.graph limit text in (told m r.0, asked_asks limit m text r.0 r.1 _ refl)
+
+  some_wants : (wanted : Wanted) (text : List ℕ) → (t : Turn) × WantsText limit m wanted text t
+  some_wants wanted text = let r = some_wanted below.texts m.graph limit wanted text in (told m r.0, record { reply = r.0; replies = r.1; is = refl })
 
   -- the first rule that is broken, or another turn where none is
   some_of : (broken : RuleCode → Type 0) (rules : List RuleCode) (Other : Turn → Type 0) → ((rule : RuleCode) × FirstOf broken rules rule) ⊎ NoneOf broken rules → (NoneOf broken rules → (t : Turn) × Other t) → (t : Turn) × (Refuses m broken rules t ⊎ Other t)
@@ -255,6 +268,7 @@ module _ (below : Below) (limit : ℕ) (m : Machine) (good : IsGood m) where
   some_answer Nothing = (quiet_turn m, blank_answers limit m)
   some_answer (Changes edit) = some_change edit
   some_answer (Asks text) = let t = some_ask text in (t.0, asks_answers limit m text t.0 t.1)
+  some_answer (Wants wanted text) = let t = some_wants wanted text in (t.0, wants_answers limit m wanted text t.0 t.1)
   some_answer (Watches name text) = let t = some_watched name text in (t.0, watches_answers limit m name text t.0 t.1)
   some_answer (Shows name) =
       let t = some_of (NameBreaks m.graph m.watches name) name_rules (ShowsWatch limit m name) (first_or_none (NameBreaks m.graph m.watches name) (decide_named m.graph m.watches name) name_rules) (some_shown name) in
@@ -281,9 +295,3 @@ some_reply below limit m line good = some_reply_of below limit m good line
 
 pub good_reply : Below → GoodReply
 good_reply below limit m line t good = good_reply_of below limit m good line t
-
-pub front_replies : ((line : List ℕ) (n : ℕ) (result : Result Reading TextCode) → 65538 ≤ n → LineOf (take n line) result ↔ LineOf line result) → FrontReplies
-front_replies law limit m line n t long = (
-  λ r. record { what = r.what; line_of = (law line n r.what long).0 r.line_of; turn = r.turn },
-  λ r. record { what = r.what; line_of = (law line n r.what long).1 r.line_of; turn = r.turn },
-)

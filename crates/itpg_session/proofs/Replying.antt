@@ -32,7 +32,7 @@ use Rattle.path_eval.proofs.Finite.{cut_rows, departures, arrivals, fit_or_wide,
 use Rattle.row_printer.specs.Texts.{AreDeclared}
 use Rattle.itpg_session.specs.Questions.{HasAnswer}
 use Rattle.itpg_session.specs.Rules.{QueryBreaks, ask_rules}
-use Rattle.itpg_session.specs.Replies.{Reply, Silent, Bad, Refused, Wide, Rows, Shown, PerWatch, IsFound, FindsFor, IsReply, IsReplyTo, NamesDeclared}
+use Rattle.itpg_session.specs.Replies.{Reply, Silent, Bad, Refused, Wide, Rows, Counted, Shown, PerWatch, IsFound, FindsFor, IsReply, IsReplyTo, NamesDeclared}
 use Rattle.itpg_session.proofs.Decided.{first_or_none, decide_ask}
 
 -- ---- what answers a query
@@ -96,11 +96,13 @@ module _ (g : Graph) (limit : ℕ) (q : QueryTerm) where
   one_found Silent y a b = absurd a
   one_found (Bad c) y a b = absurd a
   one_found (Refused r) y a b = absurd a
+  one_found (Counted c) y a b = absurd a
   one_found (Shown i f) y a b = absurd a
   one_found (PerWatch f) y a b = absurd a
   one_found Wide Silent a b = absurd b
   one_found Wide (Bad c) a b = absurd b
   one_found Wide (Refused r) a b = absurd b
+  one_found Wide (Counted c) a b = absurd b
   one_found Wide (Shown i f) a b = absurd b
   one_found Wide (PerWatch f) a b = absurd b
   one_found Wide Wide a b = refl
@@ -108,6 +110,7 @@ module _ (g : Graph) (limit : ℕ) (q : QueryTerm) where
   one_found (Rows x) Silent a b = absurd b
   one_found (Rows x) (Bad c) a b = absurd b
   one_found (Rows x) (Refused r) a b = absurd b
+  one_found (Rows x) (Counted c) a b = absurd b
   one_found (Rows x) (Shown i f) a b = absurd b
   one_found (Rows x) (PerWatch f) a b = absurd b
   one_found (Rows x) Wide a b = absurd (a.0 b)
@@ -136,6 +139,7 @@ module _ (g : Graph) (limit : ℕ) (q : QueryTerm) where
   found_declared Silent a = tt
   found_declared (Bad c) a = tt
   found_declared (Refused r) a = tt
+  found_declared (Counted c) a = tt
   found_declared (Shown i f) a = tt
   found_declared (PerWatch f) a = tt
   found_declared Wide a = tt
@@ -156,6 +160,7 @@ module _ (g : Graph) (limit : ℕ) (q : QueryTerm) where
   refused_or_found (Bad c) a = inr a
   refused_or_found Wide a = inr a
   refused_or_found (Rows x) a = inr a
+  refused_or_found (Counted c) a = inr a
   refused_or_found (Shown i f) a = inr a
   refused_or_found (PerWatch f) a = inr a
 
@@ -176,6 +181,7 @@ module _ (g : Graph) (limit : ℕ) (q : QueryTerm) where
   is_reply unbroken Silent is = absurd is
   is_reply unbroken (Bad c) is = absurd is
   is_reply unbroken (Refused r) is = absurd is
+  is_reply unbroken (Counted c) is = absurd is
   is_reply unbroken (Shown i f) is = absurd is
   is_reply unbroken (PerWatch f) is = absurd is
   is_reply unbroken Wide is = (unbroken, is)
@@ -196,6 +202,7 @@ module _ (g : Graph) (limit : ℕ) (text : List ℕ) where
   of_read q reads Silent a = (q, reads, a)
   of_read q reads Wide a = (q, reads, a)
   of_read q reads (Rows x) a = (q, reads, a)
+  of_read q reads (Counted c) a = (q, reads, a)
   of_read q reads (Shown i f) a = (q, reads, a)
   of_read q reads (PerWatch f) a = (q, reads, a)
 
@@ -205,6 +212,7 @@ module _ (g : Graph) (limit : ℕ) (text : List ℕ) where
   read_or_bad Silent a = inl a
   read_or_bad Wide a = inl a
   read_or_bad (Rows x) a = inl a
+  read_or_bad (Counted c) a = inl a
   read_or_bad (Shown i f) a = inl a
   read_or_bad (PerWatch f) a = inl a
 
@@ -213,6 +221,7 @@ module _ (g : Graph) (limit : ℕ) (text : List ℕ) where
   declared_asked (Refused r) a = tt
   declared_asked Silent a = tt
   declared_asked Wide a = tt
+  declared_asked (Counted c) a = tt
   declared_asked (Shown i f) a = tt
   declared_asked (PerWatch f) a = tt
   declared_asked (Rows x) (q, reads, a) = declared g q.path q.first q.last x a.1.1

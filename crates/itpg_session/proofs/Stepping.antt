@@ -5,7 +5,7 @@ use Rattle.itpg_base.specs.Words.{Word}
 use Rattle.itpg_base.specs.Graphs.{Graph}
 use Rattle.itpg_base.specs.declared.text_code.TextCode.{TextCode}
 use Rattle.edit_reader.specs.declared.line.Line.{Line}
-use Rattle.edit_reader.specs.Readings.{reading_of, told as read_as, Reading, Nothing, Changes, Asks, Watches, Shows, Unwatches, Ticks}
+use Rattle.edit_reader.specs.Readings.{reading_of, told as read_as, Reading, Nothing, Changes, Asks, Wants, Watches, Shows, Unwatches, Ticks}
 use Rattle.edit_reader.specs.Lines.{LineOf}
 use Rattle.relation_rows.specs.Answered.{Answered}
 use Rattle.row_printer.specs.Texts.{AreDeclared}
@@ -104,6 +104,7 @@ pub kept_turn : (s : Standing) (line : List ℕ) (reading : Reading) (answer : A
 kept_turn s line Nothing answer is k = absurd k
 kept_turn s line (Changes edit) answer is k = absurd k
 kept_turn s line (Asks text) answer is k = absurd k
+kept_turn s line (Wants wanted text) answer is k = absurd k
 kept_turn s line (Watches name text) answer is k = absurd k
 kept_turn s line (Shows name) answer is k = named_kept s line name answer is k
 kept_turn s line (Unwatches name) answer is k = absurd k

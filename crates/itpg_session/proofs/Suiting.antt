@@ -4,9 +4,10 @@ use Rattle.std.specs.Prelude.{Result, Ok, Err, Option, Some, IfOk, slice_get, Is
 use Rattle.itpg_base.specs.Words.{Word}
 use Rattle.itpg_base.specs.declared.rule_code.RuleCode.{RuleCode}
 use Rattle.itpg_base.specs.declared.text_code.TextCode.{TextCode}
-use Rattle.edit_reader.specs.Readings.{Reading, Nothing, Changes, Asks, Watches, Shows, Unwatches, Ticks}
+use Rattle.edit_reader.specs.Readings.{Reading, Nothing, Changes, Asks, Wants, Watches, Shows, Unwatches, Ticks}
+use Rattle.edit_reader.specs.declared.line.Wanted.{Wanted}
 use Rattle.path_ast.specs.Terms.{QueryTerm}
-use Rattle.itpg_session.specs.Replies.{Reply, Silent, Bad, Refused, Wide, Rows, Shown, PerWatch, FindsFor, IsReply, line_reply}
+use Rattle.itpg_session.specs.Replies.{Reply, Silent, Bad, Refused, Wide, Rows, Counted, Shown, PerWatch, FindsFor, IsReply, line_reply}
 use Rattle.relation_rows.specs.Answered.{Answered}
 use Rattle.itpg_session.specs.PlainWatches.{PlainWatch}
 use Rattle.itpg_session.specs.Machine.{Machine, Standing, Turn, Refuses, WatchesText, WatchesQuery, Answers, TurnOf}
@@ -14,7 +15,9 @@ use Rattle.row_printer.specs.Texts.{AreDeclared}
 use Rattle.itpg_session.specs.Ticks.{AreTicked}
 use Rattle.itpg_session.specs.Steps.{IsAlike, Decides, Suits}
 use Rattle.itpg_session.specs.declared.reply.Reply.{Reply as ReplyValue}
+use Rattle.itpg_session.specs.Wanting.{IsReplyWanted}
 use Rattle.itpg_session.proofs.Replying.{declared_asked}
+use Rattle.itpg_session.proofs.WantedReplies.{each_wanted}
 
 module _ (s : Standing) where
   asked_suits : (text : List ℕ) (reply : Reply) → IsReply s.machine.graph s.limit text reply → Suits s reply
@@ -23,8 +26,12 @@ module _ (s : Standing) where
   asked_suits text (Refused rule) a = tt
   asked_suits text Wide a = tt
   asked_suits text (Rows answer) a = declared_asked s.machine.graph s.limit text (Rows answer) a
+  asked_suits text (Counted counts) (q, reads, a) = absurd a.1
   asked_suits text (Shown place found) (q, reads, a) = absurd a.1
   asked_suits text (PerWatch found) (q, reads, a) = absurd a.1
+
+  wanted_suits : (wanted : Wanted) (text : List ℕ) (reply : Reply) → IsReplyWanted s.machine.graph s.limit wanted text reply → Suits s reply
+  wanted_suits wanted text reply a = each_wanted s.machine.graph s.limit (Suits s) (λ code. tt) (λ rule. tt) tt (λ counts. tt) (λ rows declared. declared) wanted text reply a
 
   shown_suits : (place : ℕ) (w : PlainWatch) (found : Option Answered) → slice_get s.machine.watches place ≡ Some w → FindsFor s.machine.graph s.limit w.query found → Suits s (Shown place found)
   shown_suits place w found at finds = subst (λ o. IsSomeAnd o (λ v. FindsFor s.machine.graph s.limit v.query found)) (sym at) finds
@@ -50,6 +57,7 @@ module _ (s : Standing) where
   answer_suits (Changes edit) t (inl a) = replied t _ a.is tt
   answer_suits (Changes edit) t (inr a) = replied t _ a.is tt
   answer_suits (Asks text) t a = replied t _ a.is (asked_suits text a.reply a.replies)
+  answer_suits (Wants wanted text) t a = replied t _ a.is (wanted_suits wanted text a.reply a.replies)
   answer_suits (Watches name text) t a = text_suits name text t a
   answer_suits (Shows name) t (inl a) = replied t _ a.is tt
   answer_suits (Shows name) t (inr a) = replied t _ a.is (shown_suits a.place a.watch a.found a.at a.finds)
@@ -69,6 +77,7 @@ silent_or_not (Bad code) = inl (λ e. let no : ⊥ = cc in no)
 silent_or_not (Refused rule) = inl (λ e. let no : ⊥ = cc in no)
 silent_or_not Wide = inl (λ e. let no : ⊥ = cc in no)
 silent_or_not (Rows answer) = inl (λ e. let no : ⊥ = cc in no)
+silent_or_not (Counted counts) = inl (λ e. let no : ⊥ = cc in no)
 silent_or_not (Shown place found) = inl (λ e. let no : ⊥ = cc in no)
 silent_or_not (PerWatch found) = inl (λ e. let no : ⊥ = cc in no)
 
@@ -79,6 +88,7 @@ suits_alike old new (Bad code) machine limit h = tt
 suits_alike old new (Refused rule) machine limit h = tt
 suits_alike old new Wide machine limit h = tt
 suits_alike old new (Rows answer) machine limit h = subst (λ (m : Machine). AreDeclared (length m.graph.objects) answer) (sym machine) h
+suits_alike old new (Counted counts) machine limit h = tt
 suits_alike old new (Shown place found) machine limit h =
     subst (λ (l : ℕ). IsSomeAnd (slice_get new.machine.watches place) (λ w. FindsFor new.machine.graph l w.query found)) (sym limit)
     (subst (λ (m : Machine). IsSomeAnd (slice_get m.watches place) (λ w. FindsFor m.graph old.limit w.query found)) (sym machine) h)

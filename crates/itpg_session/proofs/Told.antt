@@ -7,8 +7,9 @@ use Rattle.itpg_base.specs.declared.text_code.TextCode.{TextCode}
 use Rattle.itpg_session.specs.declared.reply.Seen.TheVariants.{Quiet, Answered, Refused as RefusedSeen}
 use Rattle.itpg_session.specs.declared.reply.Reply.{Reply as ReplyValue}
 use Rattle.relation_rows.specs.Answered.{Answered as Answer}
-use Rattle.itpg_session.specs.Replies.{Reply, Silent, Bad, Refused, Wide, Rows, Shown, PerWatch, line_reply}
-use Rattle.itpg_session.specs.Texts.{bad_text, refused_text, wide_text, head_text, rows_text, text_of}
+use Rattle.arrivals.specs.declared.counts.CountRow.{CountRow}
+use Rattle.itpg_session.specs.Replies.{Reply, Silent, Bad, Refused, Wide, Rows, Counted, Shown, PerWatch, line_reply}
+use Rattle.itpg_session.specs.Texts.{bad_text, refused_text, wide_text, head_text, rows_text, counts_head_text, counted_text, text_of}
 use Rattle.itpg_session.specs.Machine.{Machine, Standing, Turn, told}
 use Rattle.itpg_session.specs.Steps.{Sees, IsAlike, IsDecided, Decides}
 use Rattle.itpg_session.proofs.Planned.{alike_same}
@@ -39,6 +40,10 @@ wide_seen number = sees_refused (wide_text number) (λ e. cc)
 pub rows_seen : (g : Graph) (number : ℕ) (answer : Answer) → Sees Answered (rows_text g number answer) false
 unfolding head_text
 rows_seen g number answer = sees_answered (rows_text g number answer) (λ e. cc)
+
+pub counts_seen : (number : ℕ) (counts : List CountRow) → Sees Answered (counted_text number counts) false
+unfolding counts_head_text
+counts_seen number counts = sees_answered (counted_text number counts) (λ e. cc)
 
 -- ---- deciding
 
@@ -71,6 +76,7 @@ same_text old new number (Bad code) waits = refl
 same_text old new number (Refused rule) waits = refl
 same_text old new number Wide waits = refl
 same_text old new number (Rows answer) waits = ap (λ (m : Machine). text_of m.graph number (Rows answer)) (waits (λ e. let no : ⊥ = cc in no)).machine
+same_text old new number (Counted counts) waits = refl
 same_text old new number (Shown place None) waits = refl
 same_text old new number (Shown place (Some answer)) waits = ap (λ (m : Machine). text_of m.graph number (Shown place (Some answer))) (waits (λ e. let no : ⊥ = cc in no)).machine
 same_text old new number (PerWatch found) waits = ap (λ (m : Machine). text_of m.graph number (PerWatch found)) (waits (λ e. let no : ⊥ = cc in no)).machine

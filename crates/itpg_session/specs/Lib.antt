@@ -3,6 +3,7 @@ pub mod Rules
 pub mod Questions
 pub mod Ticks
 pub mod Replies
+pub mod Wanting
 pub mod Texts
 pub mod Watching
 pub mod Machine

@@ -7,7 +7,8 @@ use Rattle.itpg_base.specs.declared.text_code.TextCode.{TextCode}
 use Rattle.itpg_edit.specs.declared.edit.Edit.{Edit}
 use Rattle.itpg_edit.specs.Rules.{rules_of, Breaks, FirstOf, NoneOf}
 use Rattle.itpg_edit.specs.Next.{Makes as MakesGraph}
-use Rattle.edit_reader.specs.Readings.{Reading, Nothing, Changes, Asks, Watches, Shows, Unwatches, Ticks}
+use Rattle.edit_reader.specs.Readings.{Reading, Nothing, Changes, Asks, Wants, Watches, Shows, Unwatches, Ticks}
+use Rattle.edit_reader.specs.declared.line.Wanted.{Wanted}
 use Rattle.edit_reader.specs.Lines.{LineOf}
 use Rattle.path_ast.specs.Terms.{QueryTerm}
 use Rattle.relation_rows.specs.Answered.{Answered}
@@ -18,7 +19,8 @@ use Rattle.itpg_base.specs.declared.touch.Touch.{Touch}
 use Rattle.standing_queries.specs.Watches.{Watch, IsOfKind}
 use Rattle.itpg_session.specs.PlainWatches.{PlainWatch, NamesDiffer, new_watch, without, marked_at, AreMarkedAfter}
 use Rattle.itpg_session.specs.Rules.{watch_rules, name_rules, tick_rules, WatchBreaks, NameBreaks, TickBreaks}
-use Rattle.itpg_session.specs.Replies.{Reply, Silent, Bad, Refused, Wide, Rows, Shown, PerWatch, FindsFor, IsReply}
+use Rattle.itpg_session.specs.Replies.{Reply, Silent, Bad, Refused, Wide, Rows, Counted, Shown, PerWatch, FindsFor, IsReply}
+use Rattle.itpg_session.specs.Wanting.{IsReplyWanted}
 use Rattle.itpg_session.specs.Ticks.{Ticked, AreTicked, all_moved}
 use Rattle.itpg_session.specs.Watching.{AsksForOne}
 
@@ -60,6 +62,7 @@ after m (Bad code) = m
 after m (Refused rule) = m
 after m Wide = m
 after m (Rows answer) = m
+after m (Counted counts) = m
 after m (Shown place found) = record { graph = m.graph; watches = marked_at place (is_some found) m.watches }
 after m (PerWatch found) = record { graph = m.graph; watches = all_moved m.watches found }
 
@@ -90,6 +93,12 @@ pub record Makes (m : Machine) (edit : Edit) (t : Turn) : Type 0 where
 pub record AsksText (limit : ℕ) (m : Machine) (text : List ℕ) (t : Turn) : Type 0 where
   pub reply : Reply
   pub replies : IsReply m.graph limit text reply
+  pub is : t ≡ told m reply
+
+-- the first arrivals, the last departures or the counts of the text are wanted
+pub record WantsText (limit : ℕ) (m : Machine) (wanted : Wanted) (text : List ℕ) (t : Turn) : Type 0 where
+  pub reply : Reply
+  pub replies : IsReplyWanted m.graph limit wanted text reply
   pub is : t ≡ told m reply
 
 -- the query that the text reads as breaks no rule, and is watched from now on, behind the others
@@ -145,6 +154,7 @@ unfoldable pub Answers : ℕ → Machine → Reading → Turn → Type 0
 Answers limit m Nothing t = t ≡ quiet_turn m
 Answers limit m (Changes edit) t = Refuses m (Breaks m.graph edit) (rules_of edit) t ⊎ Makes m edit t
 Answers limit m (Asks text) t = AsksText limit m text t
+Answers limit m (Wants wanted text) t = WantsText limit m wanted text t
 Answers limit m (Watches name text) t = WatchesText m name text t
 Answers limit m (Shows name) t = ShowsName limit m name t
 Answers limit m (Unwatches name) t = DropsName m name t

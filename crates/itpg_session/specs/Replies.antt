@@ -7,6 +7,7 @@ use Rattle.itpg_edit.specs.Rules.{FirstOf, NoneOf}
 use Rattle.path_ast.specs.Terms.{QueryTerm}
 use Rattle.match_parser.specs.Reading.{Reads, FaultOf}
 use Rattle.relation_rows.specs.Answered.{Answered, answered}
+use Rattle.arrivals.specs.declared.counts.CountRow.{CountRow}
 use Rattle.row_printer.specs.Texts.{AreDeclared}
 use Rattle.itpg_session.specs.declared.asking.Asked.{Asked}
 use Rattle.itpg_session.specs.declared.asking.Asked.TheVariants as asked
@@ -16,14 +17,15 @@ use Rattle.itpg_session.specs.Questions.{IsTooWide, HasAnswer}
 use Rattle.itpg_session.specs.Rules.{QueryBreaks, ask_rules}
 use Rattle.itpg_session.specs.Ticks.{Ticked, ticked_of}
 
--- nothing is said; or a fault of the text, a refusal, the word that a query is too wide, the rows of its answer, what was found for
--- the watch at a place, or what a tick found of each watch
+-- nothing is said; or a fault of the text, a refusal, the word that a query is too wide, the rows of its answer or of what is wanted
+-- of it, counts, what was found for the watch at a place, or what a tick found of each watch
 pub data Reply : Type 0 where
   Silent : Reply
   Bad : TextCode → Reply
   Refused : RuleCode → Reply
   Wide : Reply
   Rows : Answered → Reply
+  Counted : List CountRow → Reply
   Shown : ℕ → Option Answered → Reply
   PerWatch : List Ticked → Reply
 
@@ -41,6 +43,7 @@ line_reply (value.Bad code) = Bad code
 line_reply (value.Refused rule) = Refused rule
 line_reply value.Wide = Wide
 line_reply (value.Rows answer) = Rows (answered answer)
+line_reply (value.Counted counts) = Counted counts
 line_reply (value.Shown place found) = Shown place (option_map answered found)
 line_reply (value.PerWatch found) = PerWatch (map ticked_of found.items)
 
@@ -51,6 +54,7 @@ IsFound g limit q (Bad code) = ⊥
 IsFound g limit q (Refused rule) = ⊥
 IsFound g limit q Wide = IsTooWide g limit q
 IsFound g limit q (Rows answer) = HasAnswer g limit q answer
+IsFound g limit q (Counted counts) = ⊥
 IsFound g limit q (Shown place found) = ⊥
 IsFound g limit q (PerWatch found) = ⊥
 

@@ -10,7 +10,7 @@ use Rattle.itpg_edit.specs.declared.edit.Edit.{Edit}
 use Rattle.itpg_edit.specs.Next.{Makes as MakesGraph, TakesMemory}
 use Rattle.plan_cache.specs.Footprints.{footprints_of}
 use Rattle.plan_cache.specs.KeptRows.{Forgets}
-use Rattle.edit_reader.specs.Readings.{Reading, Changes, Asks, Watches, Shows, Ticks}
+use Rattle.edit_reader.specs.Readings.{Reading, Changes, Asks, Wants, Watches, Shows, Ticks}
 use Rattle.edit_reader.specs.Lines.{LineOf}
 use Rattle.row_printer.specs.Texts.{AreDeclared}
 use Rattle.itpg_session.specs.Rules.{NameBreaks, TickBreaks, name_rules, tick_rules}
@@ -19,6 +19,7 @@ use Rattle.relation_rows.specs.Answered.{Answered}
 use Rattle.itpg_session.specs.Questions.{HasAnswer}
 use Rattle.itpg_session.specs.PlainWatches.{PlainWatch, IsFresh}
 use Rattle.itpg_session.specs.Replies.{Reply, Silent, Rows, Shown, PerWatch, FindsFor, IsReply, line_reply}
+use Rattle.itpg_session.specs.Wanting.{Outcome, IsReplyWanted, reply_with}
 use Rattle.itpg_session.specs.Texts.{text_of, fails}
 use Rattle.itpg_base.specs.Lists.{Among}
 use Rattle.itpg_session.specs.Keeping.{AreReplanned, AddsText, IsWorked, KeepsPath, KeepsText, KeepsFound, KeepAllTicked}
@@ -74,6 +75,7 @@ pub record ForgetsEdit (edit : Edit) (old new : Standing) : Type 0 where
 abbrev pub LeavesTable : Reading → Standing → Standing → Type 0
 LeavesTable (Changes edit) old new = ForgetsEdit edit old new ⊎ (new.table ≡ old.table)
 LeavesTable (Asks text) old new = AddsText text old.machine.watches old.table new.table
+LeavesTable (Wants wanted text) old new = AddsText text old.machine.watches old.table new.table
 LeavesTable (Watches name text) old new = AddsText text old.machine.watches old.table new.table
 LeavesTable (Shows name) old new = IsWorked old.table new.table
 LeavesTable Ticks old new = IsWorked old.table new.table
@@ -113,13 +115,21 @@ WasFresh watches w = (v : PlainWatch) × Among watches v × (v.name ≡ w.name) 
 abbrev pub KeepsFresh : Standing → Standing → Type 0
 KeepsFresh old new = (w : PlainWatch) → Among new.machine.watches w → w.fresh ≡ true → WasFresh old.machine.watches w ⊎ KeepsPath new.machine.graph w.query.path new.table
 
--- after a question that is answered with rows, the relation that was worked out for it is kept, if there is room
-abbrev pub KeepsAsked : Result Reading TextCode → Standing → Standing → Type 0
-KeepsAsked what old new = (text : List ℕ) (answer : Answered) → what ≡ Ok (Asks text) → IsReply old.machine.graph old.limit text (Rows answer) → KeepsText new.machine.graph text new.table
+-- after a question that is answered with rows, or a text of which rows or counts were wanted and told, the relation that was worked
+-- out for it is kept, if there is room
+abbrev pub KeepsAsked : Reading → Standing → Standing → Type 0
+KeepsAsked (Asks text) old new = (answer : Answered) → IsReply old.machine.graph old.limit text (Rows answer) → KeepsText new.machine.graph text new.table
+KeepsAsked (Wants wanted text) old new = (all : Outcome) → IsReplyWanted old.machine.graph old.limit wanted text (reply_with (Some all)) → KeepsText new.machine.graph text new.table
+KeepsAsked reading old new = Unit {0}
 
--- so it is if a line asks it
+-- the same of what a line is
+abbrev pub KeepsAskedSo : Result Reading TextCode → Standing → Standing → Type 0
+KeepsAskedSo (Ok reading) old new = KeepsAsked reading old new
+KeepsAskedSo (Err code) old new = Unit {0}
+
+-- and of the line
 abbrev pub KeepsAskedLine : List ℕ → Standing → Standing → Type 0
-KeepsAskedLine line old new = (what : Result Reading TextCode) → LineOf line what → KeepsAsked what old new
+KeepsAskedLine line old new = (what : Result Reading TextCode) → LineOf line what → KeepsAskedSo what old new
 
 -- the line asks to show a watch that is fresh, and breaks no rule
 abbrev pub ShowsFresh : Machine → Reading → Type 0
@@ -145,6 +155,7 @@ ShowsKept s reading answer = ⊥
 abbrev pub WantsMemory : Machine → Reading → Type 0
 WantsMemory m (Changes edit) = Unbroken m.graph edit × TakesMemory edit
 WantsMemory m (Asks text) = Unit {0}
+WantsMemory m (Wants wanted text) = Unit {0}
 WantsMemory m (Watches name text) = Unit {0}
 WantsMemory m (Shows name) = NoneOf (NameBreaks m.graph m.watches name) name_rules × (¬ IsFresh m.watches name)
 WantsMemory m Ticks = NoneOf (TickBreaks m.graph) tick_rules

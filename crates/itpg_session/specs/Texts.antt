@@ -1,5 +1,5 @@
 -- The text of a reply, and whether it fails: functions of the reply, of the line's number, and of the graph, which has the names.
-use Rattle.std.specs.Prelude.{ℕ, List, [], ◌∷◌, ◌++◌, Bool, true, false, Option, None, Some, is_none, codes}
+use Rattle.std.specs.Prelude.{ℕ, List, [], ◌∷◌, ◌++◌, length, Bool, true, false, Option, None, Some, is_none, codes}
 use Rattle.std.specs.Fmt.{decimal}
 use Rattle.itpg_base.specs.Words.{Word}
 use Rattle.itpg_base.specs.Graphs.{Graph}
@@ -8,9 +8,10 @@ use Rattle.itpg_base.specs.declared.rule_code.RuleCode.{RuleCode}
 use Rattle.itpg_base.specs.TextCodes.{text_word}
 use Rattle.itpg_base.specs.declared.text_code.TextCode.{TextCode}
 use Rattle.relation_rows.specs.Answered.{Answered, row_number}
-use Rattle.row_printer.specs.Texts.{answer_text}
+use Rattle.arrivals.specs.declared.counts.CountRow.{CountRow}
+use Rattle.row_printer.specs.Texts.{answer_text, counts_text}
 use Rattle.itpg_session.specs.Ticks.{Ticked, StaysWide, Moves, some_wide}
-use Rattle.itpg_session.specs.Replies.{Reply, Silent, Bad, Refused, Wide, Rows, Shown, PerWatch}
+use Rattle.itpg_session.specs.Replies.{Reply, Silent, Bad, Refused, Wide, Rows, Counted, Shown, PerWatch}
 
 -- `line N refused RULE`
 unfoldable pub refused_text : ℕ → RuleCode → List ℕ
@@ -28,6 +29,10 @@ wide_text number = codes "line " ++ decimal number ++ codes " wide\n"
 unfoldable pub head_text : ℕ → ℕ → List ℕ
 head_text number count = codes "line " ++ decimal number ++ codes " rows " ++ decimal count ++ codes "\n"
 
+-- `line N counts K`
+unfoldable pub counts_head_text : ℕ → ℕ → List ℕ
+counts_head_text number count = codes "line " ++ decimal number ++ codes " counts " ++ decimal count ++ codes "\n"
+
 -- `tick NAME wide`
 unfoldable pub tick_wide_text : Word → List ℕ
 tick_wide_text name = codes "tick " ++ name ++ codes " wide\n"
@@ -39,6 +44,10 @@ tick_head_text name gained lost = codes "tick " ++ name ++ codes " gained " ++ d
 -- `line N rows K`, and a line for each row of the answer
 abbrev pub rows_text : Graph → ℕ → Answered → List ℕ
 rows_text g number answer = head_text number (row_number answer) ++ answer_text g [] answer
+
+-- `line N counts K`, and a line for each count
+abbrev pub counted_text : ℕ → List CountRow → List ℕ
+counted_text number counts = counts_head_text number (length counts) ++ counts_text counts
 
 -- how many rows were gained and how many lost, and these rows, each behind its sign
 abbrev pub changes_text : Graph → Word → Answered → Answered → List ℕ
@@ -66,6 +75,7 @@ text_of g number (Bad code) = bad_text number code
 text_of g number (Refused rule) = refused_text number rule
 text_of g number Wide = wide_text number
 text_of g number (Rows answer) = rows_text g number answer
+text_of g number (Counted counts) = counted_text number counts
 text_of g number (Shown place found) = found_text g number found
 text_of g number (PerWatch found) = tick_text g found
 
@@ -76,5 +86,6 @@ fails (Bad code) = true
 fails (Refused rule) = true
 fails Wide = true
 fails (Rows answer) = false
+fails (Counted counts) = false
 fails (Shown place found) = is_none found
 fails (PerWatch found) = some_wide found

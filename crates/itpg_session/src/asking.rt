@@ -4,6 +4,7 @@ ghost use Rattle.path_ast.specs.Terms.{query_term, path_term};
 ghost use Rattle.path_ast.specs.Sizes.{path_size, IsPathInRange};
 ghost use Rattle.path_ast.specs.declared.counts.TheConstants.{MAX_TERMS};
 ghost use Rattle.itpg_session.specs.Replies.{Rows, reply_of, IsFound, IsReply, IsReplyTo};
+ghost use Rattle.itpg_session.specs.Wanting.{HasFewRows};
 ghost use Rattle.itpg_session.specs.Steps.{IsAlike};
 ghost use Rattle.itpg_session.specs.Keeping.{AddsOrRenews, AddsText, KeepsPath, KeepsText};
 ghost use Rattle.relation_rows.specs.Answered.{Answered};
@@ -47,12 +48,13 @@ impl Session {
         }
     }
 
-    // The reply to a query.
-    fn reply_to_query(&mut self, query: &Query) -> Result<Asked, AllocError>
+    /// The reply to a query.
+    pub(crate) fn reply_to_query(&mut self, query: &Query) -> Result<Asked, AllocError>
         requires in_range { IsPathInRange (path_term query.now.path) }
         requires terms { path_size (path_term query.now.path) ≤ MAX_TERMS }
         requires ends { IsTrue (query.now.first || query.now.last) }
         ensures reply { IfOk result (λ asked. IsReplyTo self.old.machine.graph self.old.limit (query_term query.now) (reply_of asked)) }
+        ensures few { IfOk result (λ asked. HasFewRows self.old.limit (reply_of asked)) }
         ensures alike { IsAlike self.old self.new }
         ensures adds { AddsOrRenews (path_term query.now.path) self.old.machine.watches self.old.table self.new.table }
         ensures keeps { IfOk result (λ asked. (answer : Answered) → reply_of asked ≡ Rows answer → KeepsPath self.new.machine.graph (path_term query.now.path) self.new.table) }
@@ -70,6 +72,7 @@ impl Session {
         requires terms { path_size (path_term query.now.path) ≤ MAX_TERMS }
         requires ends { IsTrue (query.now.first || query.now.last) }
         ensures found { IfOk result (λ asked. IsFound self.old.machine.graph self.old.limit (query_term query.now) (reply_of asked)) }
+        ensures few { IfOk result (λ asked. HasFewRows self.old.limit (reply_of asked)) }
         ensures alike { IsAlike self.old self.new }
         ensures adds { AddsOrRenews (path_term query.now.path) self.old.machine.watches self.old.table self.new.table }
         ensures keeps { IfOk result (λ asked. (answer : Answered) → reply_of asked ≡ Rows answer → KeepsPath self.new.machine.graph (path_term query.now.path) self.new.table) }

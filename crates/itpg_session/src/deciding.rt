@@ -15,7 +15,8 @@ ghost use Rattle.itpg_session.specs.Rules.{WatchBreaks, NameBreaks, TickBreaks, 
 ghost use Rattle.itpg_session.specs.Replies.{line_reply, FindsFor};
 ghost use Rattle.itpg_session.specs.Machine.{Answers, TurnOf, WatchesText, WatchesQuery, ShowsName, DropsName, TicksOrNot};
 ghost use Rattle.itpg_session.specs.Keeping.{AddsOrRenews, AddsText, IsWorked, KeepsFound};
-ghost use Rattle.itpg_session.specs.Steps.{ForgetsEdit, KeepsReply, KeepsAsked, LeavesTable, LeavesSo, LeavesUnmade, ShowsFresh, WantsMemory, WhatWants, Decides, IsAlike, IsDecided, Suits};
+ghost use Rattle.itpg_session.specs.Steps.{ForgetsEdit, KeepsReply, KeepsAsked, KeepsAskedSo, LeavesTable, LeavesSo, LeavesUnmade};
+ghost use Rattle.itpg_session.specs.Steps.{ShowsFresh, WantsMemory, WhatWants, Decides, IsAlike, IsDecided, Suits};
 
 use crate::finding::find;
 use crate::laws::law_of_graphs;
@@ -23,7 +24,7 @@ use crate::reply::Reply;
 use crate::rules::{broken_by_tick, broken_by_watch, place_of};
 use crate::session::Session;
 use crate::ticking::tick_all;
-use edit_reader::Line;
+use edit_reader::{Line, Wanted};
 use itpg_base::{Name, RuleCode, TextCode};
 use itpg_edit::{Edit, EditFault, apply, make_edit};
 use match_parser::{QueryFault, read_query};
@@ -42,7 +43,7 @@ impl Session {
         ensures decides { Decides (TurnOf self.old.limit self.old.machine (read_as what.now)) (WhatWants self.old.machine (read_as what.now)) self.old self.new result }
         ensures suits { IfOk result (λ reply. Suits self.new (line_reply reply)) }
         ensures keeps { IfOk result (λ reply. KeepsReply (line_reply reply) self.new) }
-        ensures asked { OnOk result (KeepsAsked (read_as what.now) self.old self.new) }
+        ensures asked { OnOk result (KeepsAskedSo (read_as what.now) self.old self.new) }
         ensures forgets { OnOk result ((edit : PlainEdit) → read_as what.now ≡ Ok (Changes edit) → Unbroken self.old.machine.graph edit → ForgetsEdit edit self.old self.new) }
         ensures table { LeavesSo (read_as what.now) self.old self.new }
         ensures unmade { OnErr result (LeavesUnmade (read_as what.now) self.old self.new) }
@@ -59,7 +60,7 @@ impl Session {
         requires finds { ¬ ShowsFresh self.old.machine (reading_of line.now) }
         ensures decides { Decides (Answers self.old.limit self.old.machine (reading_of line.now)) (WantsMemory self.old.machine (reading_of line.now)) self.old self.new result }
         ensures keeps { IfOk result (λ reply. KeepsReply (line_reply reply) self.new) }
-        ensures asked { OnOk result (KeepsAsked (Ok (reading_of line.now)) self.old self.new) }
+        ensures asked { OnOk result (KeepsAsked (reading_of line.now) self.old self.new) }
         ensures forgets { OnOk result ((edit : PlainEdit) → reading_of line.now ≡ Changes edit → Unbroken self.old.machine.graph edit → ForgetsEdit edit self.old self.new) }
         ensures table { LeavesTable (reading_of line.now) self.old self.new }
         ensures unmade { OnErr result (LeavesUnmade (Ok (reading_of line.now)) self.old self.new) }
@@ -68,6 +69,9 @@ impl Session {
             Line::Blank => Ok(Reply::Silent),
             Line::Edit(edit) => self.edit(edit),
             Line::Ask(text) => Ok(Reply::from(self.ask(text)?)),
+            Line::First(text) => self.reply_wanted(Wanted::First, text),
+            Line::Last(text) => self.reply_wanted(Wanted::Last, text),
+            Line::Count(text) => self.reply_wanted(Wanted::Count, text),
             Line::Watch(name, text) => self.watch(*name, text),
             Line::Show(name) => self.show(name),
             Line::Unwatch(name) => Ok(self.unwatch(name)),

@@ -1,9 +1,9 @@
 //! What is found for a query: its answer, or that it is too wide.
-ghost use Rattle.std.specs.Prelude.{◌||◌, IfOk, IsErrOf, IsSome, IsTrue};
+ghost use Rattle.std.specs.Prelude.{◌||◌, ◌≤◌, IfOk, IsErrOf, IsSome, IsTrue};
 ghost use Rattle.path_ast.specs.Terms.{query_term, path_term};
 ghost use Rattle.label_scope.specs.declared.scope.Scope.TheVariants.{All};
 ghost use Rattle.plan_cache.specs.Nodes.{IsNodeOf, narrowed_member};
-ghost use Rattle.relation_rows.specs.Answered.{answered};
+ghost use Rattle.relation_rows.specs.Answered.{answered, row_number};
 ghost use Rattle.path_eval.specs.Keeping.{KeepsOnlyReached};
 ghost use Rattle.itpg_session.specs.Questions.{IsTooWide, HasAnswer};
 ghost use Rattle.itpg_session.specs.Keeping.{IsTableRight, IsWorked, KeepsPath};
@@ -30,6 +30,7 @@ pub(crate) fn find(
     requires right { IsTableRight graph.now max_rows plans.old }
     requires ends { IsTrue (query.now.first || query.now.last) }
     ensures answer { IfOk result (λ answer. HasAnswer graph.now max_rows (query_term query.now) (answered answer)) }
+    ensures few { IfOk result (λ answer. row_number (answered answer) ≤ max_rows) }
     ensures wide { IsErrOf result EvalFault.Wide → IsTooWide graph.now max_rows (query_term query.now) }
     ensures still_right { IsTableRight graph.now max_rows plans.new }
     ensures worked { IsWorked plans.old plans.new }

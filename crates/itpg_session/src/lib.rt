@@ -18,6 +18,7 @@ mod rules;
 mod session;
 mod texts;
 mod ticking;
+mod wanting;
 
 pub use asking::Asked;
 pub use laws::{law_of_asked, law_of_fronts, law_of_replies, law_of_untouched};

@@ -9,6 +9,7 @@ ghost use Rattle.itpg_session.specs.Steps.{Sees};
 
 use crate::asking::Asked;
 use crate::ticking::{Ticked, is_some_wide};
+use arrivals::Counts;
 use itpg_base::{RuleCode, TextCode};
 use relation_rows::Answer;
 
@@ -23,8 +24,10 @@ pub(crate) enum Reply {
     Refused(RuleCode),
     /// The query is too wide.
     Wide,
-    /// The rows of its answer.
+    /// The rows of its answer, or of what is wanted of it.
     Rows(Answer),
+    /// How many objects answer it, moment by moment.
+    Counted(Counts),
     /// What was found for the watch at a place: its answer; or none, since its query is too wide.
     Shown(usize, Option<Answer>),
     /// What a tick found of each watch.
@@ -55,6 +58,7 @@ impl Reply {
         match self {
             Reply::Silent => Seen::Quiet,
             Reply::Rows(_) => Seen::Answered,
+            Reply::Counted(_) => Seen::Answered,
             Reply::Bad(_) => Seen::Refused,
             Reply::Refused(_) => Seen::Refused,
             Reply::Wide => Seen::Refused,

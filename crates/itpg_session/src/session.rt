@@ -19,7 +19,7 @@ use crate::asking::Asked;
 use crate::laws::law_of_asked;
 use crate::reply::{Reply, Seen};
 use crate::rules::broken_by_tick;
-use crate::texts::{write_bad, write_found, write_refused, write_rows, write_wide};
+use crate::texts::{write_bad, write_counts, write_found, write_refused, write_rows, write_wide};
 use crate::ticking::{move_bases, write_all};
 use edit_reader::{Line, read_line};
 use itpg_base::{Failed, Limits, Name, Sink, TextCode};
@@ -272,13 +272,13 @@ impl Session {
             Reply::Refused(rule) => write_refused(number, *rule, out),
             Reply::Wide => write_wide(number, out),
             Reply::Rows(answer) => write_rows(&self.graph, number, answer, out),
+            Reply::Counted(counts) => write_counts(number, counts, out),
             Reply::Shown(_, found) => write_found(&self.graph, number, found, out),
             Reply::PerWatch(found) => write_all(&self.graph, found, out),
         }
     }
 
-    // Keeps the answer that was found for a watch that is shown, and moves the bases of the watches to what a tick found of them. No
-    // other reply moves anything.
+    // Keeps what was found for a watch that is shown, or moves the bases to what a tick found. No other reply moves anything.
     fn settle(&mut self, reply: Reply)
         requires { Suits self.old (line_reply reply) }
         ensures stands { StandsAs self.new (after self.old.machine (line_reply reply)) self.old.limit }
@@ -288,7 +288,12 @@ impl Session {
             Reply::Shown(place, Some(answer)) => self.watches.set_now(place, answer),
             Reply::Shown(place, None) => self.watches.drop_now(place),
             Reply::PerWatch(found) => move_bases(&mut self.watches, found),
-            Reply::Silent | Reply::Bad(_) | Reply::Refused(_) | Reply::Wide | Reply::Rows(_) => {}
+            Reply::Silent
+            | Reply::Bad(_)
+            | Reply::Refused(_)
+            | Reply::Wide
+            | Reply::Rows(_)
+            | Reply::Counted(_) => {}
         }
     }
 }

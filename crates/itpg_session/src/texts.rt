@@ -3,12 +3,13 @@ ghost use Rattle.std.specs.Prelude.{◌≡◌, length, option_map, IfSome, OnOk,
 ghost use Rattle.itpg_base.specs.Sinks.{Gets, GetsSome, IsHonest};
 ghost use Rattle.relation_rows.specs.Answered.{answered};
 ghost use Rattle.row_printer.specs.Texts.{AreDeclared};
-ghost use Rattle.itpg_session.specs.Texts.{bad_text, refused_text, wide_text, head_text, rows_text, found_text, tick_wide_text, tick_head_text};
+ghost use Rattle.itpg_session.specs.Texts.{bad_text, refused_text, wide_text, head_text, rows_text, counts_head_text, counted_text, found_text, tick_wide_text, tick_head_text};
 
+use arrivals::Counts;
 use itpg_base::{Failed, Name, RuleCode, Sink, TextCode};
 use itpg_graph::Graph;
 use relation_rows::Answer;
-use row_printer::{Page, Piece, print_rows};
+use row_printer::{Page, Piece, print_counts, print_rows};
 
 // The page of `line N refused RULE`.
 #[tactic(auto, unfolding(crate::specs::Texts::refused_text))]
@@ -59,6 +60,20 @@ fn head(number: u64, count: u64) -> Page
         Piece::Text(b"line "),
         Piece::Number(number),
         Piece::Text(b" rows "),
+        Piece::Number(count),
+        Piece::Text(b"\n"),
+    ])
+}
+
+// The page of `line N counts K`.
+#[tactic(auto, unfolding(crate::specs::Texts::counts_head_text))]
+fn counts_head(number: u64, count: u64) -> Page
+    ensures { result ≡ counts_head_text number count }
+{
+    Page::of(&[
+        Piece::Text(b"line "),
+        Piece::Number(number),
+        Piece::Text(b" counts "),
         Piece::Number(count),
         Piece::Text(b"\n"),
     ])
@@ -133,6 +148,17 @@ pub(crate) fn write_rows<K: Sink>(
 {
     head(number, answer.rows()).write(out)?;
     print_rows(graph, answer, b"", out)?;
+    Ok(())
+}
+
+/// Writes counts behind `line N counts K`.
+pub(crate) fn write_counts<K: Sink>(number: u64, counts: &Counts, out: &mut K) -> Result<(), Failed>
+    ensures written { OnOk result (Gets K.Sink out.old out.new (counted_text number counts.now)) }
+    ensures some { OnErr result (GetsSome K.Sink out.old out.new (counted_text number counts.now)) }
+    ensures cause { IsHonest K.Sink out.old out.new result }
+{
+    counts_head(number, counts.rows().len() as u64).write(out)?;
+    print_counts(counts, out)?;
     Ok(())
 }
 

@@ -1,4 +1,4 @@
-use Rattle.itpg_session.proofs.OneTurn.{front_replies}
+use Rattle.itpg_session.proofs.Answering.{front_replies}
 use Rattle.itpg_session.proofs.laws.law_of_fronts.Goals as goal
 
 pub returns : goal.returns

@@ -1,4 +1,4 @@
-use Rattle.itpg_session.proofs.Told.{rows_seen, bad_seen, refused_seen, wide_seen}
+use Rattle.itpg_session.proofs.Told.{rows_seen, counts_seen, bad_seen, refused_seen, wide_seen}
 use Rattle.itpg_session.proofs.reply.Reply.seen.Goals as goal
 
 pub returns-in-Rows : goal.returns-in-Rows
@@ -12,3 +12,6 @@ returns-in-Refused c = rw (c.in-Refused.is) (λ g number. refused_seen number _)
 
 pub returns-in-Wide : goal.returns-in-Wide
 returns-in-Wide c = rw (c.in-Wide.is) (λ g number. wide_seen number)
+
+pub returns-in-Counted : goal.returns-in-Counted
+returns-in-Counted c = rw (c.in-Counted.is) (λ g number. counts_seen number _)

@@ -3,7 +3,7 @@ use Rattle.std.specs.Prelude.{Ok, IfOk, OnOk, OnErr}
 use Rattle.edit_reader.specs.Readings.{Changes, reading_of, told as read_as}
 use Rattle.edit_reader.specs.Moments.{AsksOfMoments}
 use Rattle.itpg_session.specs.Machine.{TurnOf}
-use Rattle.itpg_session.specs.Steps.{WhatWants, ShowsFresh, LeavesSo, LeavesUnmade, KeepsAsked, Decides}
+use Rattle.itpg_session.specs.Steps.{WhatWants, ShowsFresh, LeavesSo, LeavesUnmade, KeepsAskedSo, Decides}
 use Rattle.itpg_session.specs.Replies.{Bad}
 use Rattle.itpg_session.proofs.Answering.{turn_read, turn_bad}
 use Rattle.itpg_session.proofs.Told.{decides_as, said}
@@ -50,7 +50,7 @@ pub returns-in-Ok-clause-keeps : goal.returns-in-Ok-clause-keeps
 returns-in-Ok-clause-keeps c = c.decide_read.ensures.keeps
 
 pub returns-in-Ok-clause-asked : goal.returns-in-Ok-clause-asked
-returns-in-Ok-clause-asked c = subst (λ r. OnOk c.decide_read.result (KeepsAsked (read_as r) c.args.self.now c.decide_read.new.self)) (sym c.in-Ok.is) c.decide_read.ensures.asked
+returns-in-Ok-clause-asked c = subst (λ r. OnOk c.decide_read.result (KeepsAskedSo (read_as r) c.args.self.now c.decide_read.new.self)) (sym c.in-Ok.is) c.decide_read.ensures.asked
 
 pub returns-in-Ok-clause-unmade : goal.returns-in-Ok-clause-unmade
 returns-in-Ok-clause-unmade c = subst (λ r. OnErr c.decide_read.result (LeavesUnmade (read_as r) c.args.self.now c.decide_read.new.self)) (sym c.in-Ok.is) c.decide_read.ensures.unmade

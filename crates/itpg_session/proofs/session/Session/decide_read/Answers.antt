@@ -1,13 +1,13 @@
-use Rattle.std.proofs.Common.{◌≡◌, List, ℕ, refl, sym, subst}
+use Rattle.std.proofs.Common.{◌≡◌, refl, sym, subst}
 use Rattle.itpg_edit.specs.declared.edit.Edit.{Edit}
 use Rattle.itpg_edit.specs.Rules.{Unbroken}
-use Rattle.edit_reader.specs.Readings.{Changes, Asks, Watches, reading_of}
+use Rattle.edit_reader.specs.Readings.{Changes, Watches, reading_of}
+use Rattle.edit_reader.specs.declared.line.Wanted.TheVariants.{First, Last, Count}
 use Rattle.itpg_session.specs.Steps.{ForgetsEdit}
-use Rattle.itpg_session.proofs.Written.{on_ok, on_fault}
-use Rattle.itpg_session.proofs.Leaving.{one_reading}
-use Rattle.itpg_session.proofs.KeptFresh.{decided_keeps, one_keeps, asked_keeps}
-use Rattle.itpg_session.specs.Replies.{Silent, Rows, IsReply, reply_of}
-use Rattle.itpg_session.specs.Keeping.{KeepsText}
+use Rattle.itpg_session.proofs.Written.{if_ok, on_ok, on_fault}
+use Rattle.itpg_session.proofs.KeptFresh.{decided_keeps, one_keeps, asked_keeps, wanted_keeps}
+use Rattle.itpg_session.proofs.Outcomes.{wanted_decides, wanted_kept}
+use Rattle.itpg_session.specs.Replies.{Silent, Rows, reply_of}
 use Rattle.itpg_session.proofs.Answering.{blank_answers, asks_answers, asked_asks, watches_answers, shows_answers, unwatches_answers, ticks_answers}
 use Rattle.itpg_session.proofs.Told.{decided_as, decides_as, said, said_alike}
 use Rattle.itpg_session.proofs.session.Session.decide_read.Goals as goal
@@ -88,12 +88,43 @@ pub returns-in-Tick-clause-keeps : goal.returns-in-Tick-clause-keeps
 returns-in-Tick-clause-keeps c = c.tick.ensures.keeps
 
 pub returns-in_ok-ask-in-Ask-clause-asked : goal.returns-in_ok-ask-in-Ask-clause-asked
-returns-in_ok-ask-in-Ask-clause-asked c = λ text answer is rows.
-    let read : Asks c.in-Ask.text.now ≡ Asks text = subst (λ l. reading_of l ≡ Asks text) c.in-Ask.is (one_reading (reading_of c.args.line.now) (Asks text) is) in
-    let same : c.in-Ask.text.now ≡ text = cc in
-    subst (λ (t : List ℕ). KeepsText c.ask.new.self.machine.graph t c.ask.new.self.table) same
-    (c.in_ok-ask-in-Ask.ensures.keeps answer (c.in_ok-ask-in-Ask.ensures.only (Rows answer)
-    (subst (λ (t : List ℕ). IsReply c.args.self.now.machine.graph c.args.self.now.limit t (Rows answer)) (sym same) rows)))
+returns-in_ok-ask-in-Ask-clause-asked c = rw (c.in-Ask.is) (λ answer rows. c.in_ok-ask-in-Ask.ensures.keeps answer (c.in_ok-ask-in-Ask.ensures.only (Rows answer) rows))
+
+pub returns-in-First-clause-decides : goal.returns-in-First-clause-decides
+returns-in-First-clause-decides c = rw (c.in-First.is) (wanted_decides First c.in-First.text.now c.args.self.now c.reply_wanted.new.self c.reply_wanted.result c.reply_wanted.ensures.alike c.reply_wanted.ensures.reply)
+
+pub returns-in-First-clause-keeps : goal.returns-in-First-clause-keeps
+returns-in-First-clause-keeps c = if_ok (λ reply is. wanted_keeps _ _ c.reply_wanted.new.self First c.in-First.text.now _ is) c.reply_wanted.result c.reply_wanted.ensures.reply
+
+pub returns-in-First-clause-asked : goal.returns-in-First-clause-asked
+returns-in-First-clause-asked c = rw (c.in-First.is) (wanted_kept First c.in-First.text.now c.args.self.now c.reply_wanted.new.self c.reply_wanted.result c.reply_wanted.ensures.only c.reply_wanted.ensures.keeps)
+
+pub returns-in-First-clause-table : goal.returns-in-First-clause-table
+returns-in-First-clause-table c = rw (c.in-First.is) c.reply_wanted.ensures.adds
+
+pub returns-in-Last-clause-decides : goal.returns-in-Last-clause-decides
+returns-in-Last-clause-decides c = rw (c.in-Last.is) (wanted_decides Last c.in-Last.text.now c.args.self.now c.reply_wanted-in-Last.new.self c.reply_wanted-in-Last.result c.reply_wanted-in-Last.ensures.alike c.reply_wanted-in-Last.ensures.reply)
+
+pub returns-in-Last-clause-keeps : goal.returns-in-Last-clause-keeps
+returns-in-Last-clause-keeps c = if_ok (λ reply is. wanted_keeps _ _ c.reply_wanted-in-Last.new.self Last c.in-Last.text.now _ is) c.reply_wanted-in-Last.result c.reply_wanted-in-Last.ensures.reply
+
+pub returns-in-Last-clause-asked : goal.returns-in-Last-clause-asked
+returns-in-Last-clause-asked c = rw (c.in-Last.is) (wanted_kept Last c.in-Last.text.now c.args.self.now c.reply_wanted-in-Last.new.self c.reply_wanted-in-Last.result c.reply_wanted-in-Last.ensures.only c.reply_wanted-in-Last.ensures.keeps)
+
+pub returns-in-Last-clause-table : goal.returns-in-Last-clause-table
+returns-in-Last-clause-table c = rw (c.in-Last.is) c.reply_wanted-in-Last.ensures.adds
+
+pub returns-in-Count-clause-decides : goal.returns-in-Count-clause-decides
+returns-in-Count-clause-decides c = rw (c.in-Count.is) (wanted_decides Count c.in-Count.text.now c.args.self.now c.reply_wanted-in-Count.new.self c.reply_wanted-in-Count.result c.reply_wanted-in-Count.ensures.alike c.reply_wanted-in-Count.ensures.reply)
+
+pub returns-in-Count-clause-keeps : goal.returns-in-Count-clause-keeps
+returns-in-Count-clause-keeps c = if_ok (λ reply is. wanted_keeps _ _ c.reply_wanted-in-Count.new.self Count c.in-Count.text.now _ is) c.reply_wanted-in-Count.result c.reply_wanted-in-Count.ensures.reply
+
+pub returns-in-Count-clause-asked : goal.returns-in-Count-clause-asked
+returns-in-Count-clause-asked c = rw (c.in-Count.is) (wanted_kept Count c.in-Count.text.now c.args.self.now c.reply_wanted-in-Count.new.self c.reply_wanted-in-Count.result c.reply_wanted-in-Count.ensures.only c.reply_wanted-in-Count.ensures.keeps)
+
+pub returns-in-Count-clause-table : goal.returns-in-Count-clause-table
+returns-in-Count-clause-table c = rw (c.in-Count.is) c.reply_wanted-in-Count.ensures.adds
 
 pub returns-in-Edit-clause-unmade : goal.returns-in-Edit-clause-unmade
 returns-in-Edit-clause-unmade c = on_fault (λ same edit is. same) c.edit.result c.edit.ensures.unmade
