@@ -1,6 +1,6 @@
 -- What is found for a watch that stands at a place, and what a tick makes of it.
-use Rattle.std.proofs.Common.{◌≡◌, inl, ℕ, List, Option, Some, sym, ◌∙◌, ap, subst}
-use Rattle.std.specs.Prelude.{slice_get, is_some, IsSomeAnd, IfSome}
+use Rattle.std.proofs.Common.{◌≡◌, ℕ, List, Option, Some, sym, ◌∙◌, subst}
+use Rattle.std.specs.Prelude.{slice_get, IsSomeAnd, IfSome}
 use Rattle.itpg_base.specs.Words.{Word}
 use Rattle.itpg_base.specs.Graphs.{Graph}
 use Rattle.path_ast.specs.Terms.{QueryTerm}
@@ -12,7 +12,7 @@ use Rattle.standing_queries.specs.Watches.{Watch}
 use Rattle.itpg_session.specs.PlainWatches.{plain}
 use Rattle.itpg_session.specs.Ticks.{Ticked, StaysWide, Moves, IsTicked, IsUnmoved}
 use Rattle.itpg_session.specs.Questions.{HasAnswer}
-use Rattle.itpg_session.specs.Keeping.{AreWatchesRight, IsWorked, KeepsTicked}
+use Rattle.itpg_session.specs.Keeping.{AreWatchesRight, IsWorked}
 use Rattle.itpg_session.proofs.Plain.{standing_at}
 
 -- ---- one watch of those that stand well
@@ -51,14 +51,6 @@ module _ (g : Graph) (limit : ℕ) (nodes : List PlanNode) (ws : List Watch) (ri
         subst (λ (b : Answered). IsRest now b gained) (sym both.0) (subst (λ (b : Answered). IsRest b answer gained) (sym is.1) is.2),
         subst (λ (b : Answered). IsRest b now lost) (sym both.0) (subst (λ (b : Answered). IsRest answer b lost) (sym is.1) is.3),
       )
-
-  -- and it was fresh before
-  pub unmoved_keeps : (table : Table) (x : Ticked) → IsUnmoved name answer x → IsSomeAnd (slice_get ws i) (λ w. KeepsTicked g table (plain w) x)
-  unmoved_keeps table (StaysWide other) is = absurd is
-  unmoved_keeps table (Moves other now gained lost) is =
-      let at = standing_at (λ w. (w.base ≡ answer) × (w.now ≡ Some answer)) ws i settled in
-      let both = at.3 in
-      subst (λ (o : Option Watch). IsSomeAnd o (λ w. KeepsTicked g table (plain w) (Moves other now gained lost))) (sym at.2) (inl (ap is_some both.1))
 
 -- ---- a table that relations are kept in
 

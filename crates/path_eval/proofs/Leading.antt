@@ -1,5 +1,5 @@
 -- The axes, from the zones between objects.
-use Rattle.std.proofs.Common.{◌≡◌, ◌↔◌, ◌⊎◌, inl, inr, ℕ, List, [], ◌∷◌, Option, Some, None, refl, sym, ◌∙◌, ap, subst}
+use Rattle.std.proofs.Common.{◌≡◌, ◌↔◌, ◌⊎◌, inl, inr, ℕ, List, Option, Some, None, refl, sym, ◌∙◌, ap, subst}
 use Rattle.std.specs.Prelude.{IsSomeAnd, IsTrue, slice_get}
 use Rattle.itpg_base.specs.declared.object_number.ObjNo.{ObjNo}
 use Rattle.itpg_base.specs.Graphs.{Graph, Object, Ends, Good, ObjectIs, HasEnd, Stands}
@@ -9,7 +9,6 @@ use Rattle.condition_eval.proofs.Listed.{number_among, among_number}
 use Rattle.itpg_graph.specs.GraphParts.{StandingAreNumbers}
 use Rattle.itpg_graph.specs.Kinds.{ends_of}
 use Rattle.zone_core.specs.declared.Bounds.{Bounds}
-use Rattle.itpg_base.specs.Lists.{Among}
 use Rattle.label_scope.specs.declared.scope.Scope.{Scope}
 use Rattle.path_eval.specs.declared.axes.Direction.{Direction}
 use Rattle.path_eval.specs.declared.axes.Direction.TheVariants as to
