@@ -120,6 +120,7 @@ adds_none p table = record {
   grows = record { more = []; is = sym (append-nil table.nodes); few = omega arith };
   under = λ k from below. absurd (omega (arith, from, below));
   stays = λ k rows is. is;
+  only = λ k rows is. inl is;
 }
 
 pub worked_none : (table : Table) → IsWorked table table

@@ -17,8 +17,9 @@ use Rattle.path_eval.specs.Keeping.{LeadsTo, KeptOrFull, KeepsReached, KeepsOnly
 use Rattle.itpg_session.specs.declared.asking.Asked.{Asked}
 use Rattle.itpg_session.specs.Replies.{Rows, reply_of}
 use Rattle.itpg_session.specs.PlainWatches.{PlainWatch}
-use Rattle.itpg_session.specs.Keeping.{IsWorked, AddsPath, IsRootOf, IsOfPath, AddsOrRenews, KeepsPath}
+use Rattle.itpg_session.specs.Keeping.{IsWorked, IsUnderPath, AddsPath, IsRootOf, IsOfPath, AddsOrRenews, KeepsPath}
 use Rattle.itpg_session.proofs.Accepting.{adds_none}
+use Rattle.itpg_session.proofs.Planned.{kept_before}
 
 free_stays : (old new : List Kept) → AddsFree old new → Stays old new
 free_stays old new free = λ k rows at. subst (λ (kept : List Kept). slice_get kept k ≡ Some (Some rows)) (sym free.1) (get_kept old _ k (Some rows) at)
@@ -30,6 +31,7 @@ adds_path p old new (Ok number) node only grows free same = record {
   grows = grows;
   under = λ k from below. (number.0, node, only k from below);
   stays = free_stays old.kept new.kept free;
+  only = λ k rows at. inl (kept_before old.kept new.kept free k rows at);
 }
 adds_path p old new (Err e) node only grows free same = subst (AddsPath p old) (sym same) (adds_none p old)
 
@@ -60,8 +62,16 @@ adds_worked p ws old mid new number node (inr anew) worked only = inr (record {
 })
 adds_worked p ws old mid new number node (inl adds) worked only = inl (record {
   grows = subst (λ (nodes : List PlanNode). Grows (path_size p) old.nodes nodes) (sym worked.nodes) adds.grows;
-  under = subst (λ (nodes : List PlanNode). (k : ℕ) → length old.nodes ≤ k → k < length nodes → (root : ℕ) × IsNodeOf nodes root (narrowed_member p All All) × IsUnder nodes (root ∷ []) k) (sym worked.nodes) adds.under;
+  under = subst (λ (nodes : List PlanNode). (k : ℕ) → length old.nodes ≤ k → k < length nodes → IsUnderPath nodes p k) (sym worked.nodes) adds.under;
   stays = λ k rows at. worked.stays k rows (adds.stays k rows at);
+  only = λ k rows at. elim (only k rows at) [
+    | inl was ↦ elim (adds.only k rows was) [
+      | inl before ↦ inl before
+      | inr under ↦ inr (subst (λ (nodes : List PlanNode). IsUnderPath nodes p k) (sym worked.nodes) under)
+    ]
+    | inr reached ↦ inr (subst (λ (nodes : List PlanNode). IsUnderPath nodes p k) (sym worked.nodes)
+        (number, node, (number, inl refl, (reached.0, reached_under mid.nodes mid.kept number reached.0 k reached.1))))
+  ];
 })
 
 -- the relation of the path's node is kept, or is too large

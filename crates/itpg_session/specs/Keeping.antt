@@ -1,5 +1,5 @@
 -- What a session keeps beside its machine, and that it is right on the graph as it stands.
-use Rattle.std.specs.Prelude.{◌≡◌, ℕ, ◌+◌, ◌<◌, ◌≤◌, ◌⊎◌, List, [], ◌∷◌, length, true, Option, Some, None, IfSome}
+use Rattle.std.specs.Prelude.{◌≡◌, ℕ, ◌+◌, ◌<◌, ◌≤◌, ◌⊎◌, List, [], ◌∷◌, length, slice_get, true, Option, Some, None, IfSome}
 use Rattle.std.specs.List.{AllZip}
 use Rattle.itpg_base.specs.Graphs.{Graph}
 use Rattle.itpg_base.specs.Lists.{Among}
@@ -57,11 +57,17 @@ pub record IsWorked (old new : Table) : Type 0 where
   pub nodes : new.nodes ≡ old.nodes
   pub stays : Stays old.kept new.kept
 
--- the nodes of a path between all objects are added behind the others, as far as they are missing; what was kept stays at its number
+-- the node of this number is under that of the path between all objects
+abbrev pub IsUnderPath : List PlanNode → PathTerm → ℕ → Type 0
+IsUnderPath nodes p k = (root : ℕ) × IsNodeOf nodes root (narrowed_member p All All) × IsUnder nodes (root ∷ []) k
+
+-- the nodes of a path between all objects are added behind the others, as far as they are missing. What was kept stays at its number,
+-- and what is kept was kept before, or its node is one of the path's
 pub record AddsPath (p : PathTerm) (old new : Table) : Type 0 where
   pub grows : Grows (path_size p) old.nodes new.nodes
-  pub under : (k : ℕ) → length old.nodes ≤ k → k < length new.nodes → (root : ℕ) × IsNodeOf new.nodes root (narrowed_member p All All) × IsUnder new.nodes (root ∷ []) k
+  pub under : (k : ℕ) → length old.nodes ≤ k → k < length new.nodes → IsUnderPath new.nodes p k
   pub stays : Stays old.kept new.kept
+  pub only : (k : ℕ) (rows : List Row) → slice_get new.kept k ≡ Some (Some rows) → (slice_get old.kept k ≡ Some (Some rows)) ⊎ IsUnderPath new.nodes p k
 
 -- it is the node of the path of a watch's query, between all objects
 abbrev pub IsWatchRoot : List PlanNode → List PlainWatch → ℕ → Type 0
@@ -81,7 +87,7 @@ IsOfWatch watches m = (w : PlainWatch) × Among watches w × ((zs : List Member)
 
 -- the member's node is under that of the path between all objects
 abbrev pub IsOfPath : List PlanNode → PathTerm → Member → Type 0
-IsOfPath nodes p m = (k : ℕ) × IsNodeOf nodes k m × ((root : ℕ) × IsNodeOf nodes root (narrowed_member p All All) × IsUnder nodes (root ∷ []) k)
+IsOfPath nodes p m = (k : ℕ) × IsNodeOf nodes k m × IsUnderPath nodes p k
 
 -- the table was made anew, since there may be no room for as many nodes as the path has terms: each of its nodes is under that of the
 -- path, or of the path of a watch's query. What was kept of a watch's members is kept still; and what is kept was kept before, or its
