@@ -6,7 +6,7 @@ use Rattle.itpg_session.specs.Replies.{IsReplyTo, reply_of}
 use Rattle.itpg_session.specs.Wanting.{has_ends}
 use Rattle.itpg_session.proofs.Planned.{alike_same}
 use Rattle.itpg_session.proofs.Outcomes.{rows_told, wide_told, refused_told}
-use Rattle.itpg_session.proofs.session.Session.reply_wanted_of.Goals.{in-Rows+in-Pairs-1, in-Rows+in-Times-1, in-Wide, in-Bad, in-Refused}
+use Rattle.itpg_session.proofs.session.Session.reply_wanted_of.Goals.{in-Rows+in-Pairs-1, in-Rows+in-Times+in-Own-1, in-Rows+in-Times+in-Shared-1, in-Wide, in-Bad, in-Refused}
 use Rattle.itpg_session.proofs.session.Session.reply_wanted_of.Goals as goal
 
 pub returns-then-not-has_ends-clause-alike : goal.returns-then-not-has_ends-clause-alike
@@ -22,7 +22,9 @@ returns-clause-reply c =
     elim c.match-branch-2.branch [
       | in-Rows+in-Pairs-1 w ↦ rw (w.result-is) (rows_told g limit c.args.wanted q ends (answered w.in-Rows.answer) w.max_rows.result (w.max_rows.ensures.value ∙ whole)
           (subst (λ a. IsReplyTo g limit q (reply_of a)) w.in-Rows.is c.in_ok-answer.ensures.reply) w.told.result w.told.ensures)
-      | in-Rows+in-Times-1 w ↦ rw (w.result-is) (rows_told g limit c.args.wanted q ends (answered w.in-Rows.answer) w.max_rows.result (w.max_rows.ensures.value ∙ whole)
+      | in-Rows+in-Times+in-Own-1 w ↦ rw (w.result-is) (rows_told g limit c.args.wanted q ends (answered w.in-Rows.answer) w.max_rows.result (w.max_rows.ensures.value ∙ whole)
+          (subst (λ a. IsReplyTo g limit q (reply_of a)) w.in-Rows.is c.in_ok-answer.ensures.reply) w.told.result w.told.ensures)
+      | in-Rows+in-Times+in-Shared-1 w ↦ rw (w.result-is) (rows_told g limit c.args.wanted q ends (answered w.in-Rows.answer) w.max_rows.result (w.max_rows.ensures.value ∙ whole)
           (subst (λ a. IsReplyTo g limit q (reply_of a)) w.in-Rows.is c.in_ok-answer.ensures.reply) w.told.result w.told.ensures)
       | in-Wide w ↦ rw (w.result-is) (wide_told g limit c.args.wanted q ends (subst (λ a. IsReplyTo g limit q (reply_of a)) w.in-Wide.is c.in_ok-answer.ensures.reply))
       | in-Bad w ↦ absurd (subst (λ a. IsReplyTo g limit q (reply_of a)) w.in-Bad.is c.in_ok-answer.ensures.reply).1
