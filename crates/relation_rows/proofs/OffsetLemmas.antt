@@ -72,7 +72,7 @@ all_begins rows first old new place le count counted filled listed passed =
 -- the rows from an object stand from its place to the next
 module _ (rows : List Row) (o begin end : ℕ) (here : IsBegin rows o begin) (next : IsBegin rows (o + 1) end) where
   pub begin_first : begin ≤ end
-  begin_first = elim (leb_tells begin end) [ | inl e ↦ e.1 | inr n ↦ absurd (crossed (let late = n.1 in omega arith)) ]
+  begin_first = elim (leb_tells begin end) [ inl e ↦ e.1 | inr n ↦ absurd (crossed (let late = n.1 in omega arith)) ]
     where
       some : (xs : List Row) → 0 < length xs → Row
       some [] l = absurd (omega (arith, l))
