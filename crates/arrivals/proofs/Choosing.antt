@@ -1,5 +1,5 @@
 -- What is kept of rows in order, one source and target after the other.
-use Rattle.std.proofs.Common.{◌≡◌, ◌↔◌, ◌⊎◌, inl, inr, ⊎_elim, ℕ, ◌+◌, ◌<◌, ◌≤◌, ℤ, pos, neg_ℤ, ◌≤ℤ◌, ◌<ℤ◌, List, [], ◌∷◌, length, take, drop, Some, None, refl, sym, ◌∙◌, ap, subst, arith, true, false}
+use Rattle.std.proofs.Common.{◌≡◌, ◌↔◌, ◌⊎◌, inl, inr, ⊎_elim, ℕ, ℤ, pos, neg_ℤ, ◌≤ℤ◌, List, [], ◌∷◌, take, drop, None, refl, sym, ◌∙◌, subst, arith}
 use Rattle.std.specs.Prelude.{slice_get}
 use Rattle.std.proofs.lemmas.Int.{ints}
 use Rattle.zone_core.specs.Zone.{moment_reach}
@@ -9,11 +9,10 @@ use Rattle.itpg_base.specs.Lists.{Among, Ordered}
 use Rattle.band_normal.specs.Bands.{InBand, IsWellFormed}
 use Rattle.band_normal.specs.Zones.{SomeMeets}
 use Rattle.relation_rows.specs.declared.rows.Row.{Row}
-use Rattle.relation_rows.specs.Rows.{InRow, HasKey, RowBefore, RowsHold}
+use Rattle.relation_rows.specs.Rows.{HasKey, RowBefore, RowsHold}
 use Rattle.relation_rows.specs.Relations.{Item, ItemsHold}
 use Rattle.relation_rows.proofs.Partitions.{among_either, front_among, rest_among, rest_ordered}
 use Rattle.arrivals.specs.Firsts.{Least, Latest, LeastOf, LatestOf, SomeOf}
-use Rattle.arrivals.specs.declared.picking.Choice.{Choice}
 use Rattle.arrivals.specs.declared.picking.Choice.TheVariants.{First, Last}
 use Rattle.arrivals.specs.Choosing.{Beats, Unbeaten, Chosen, InBandOf}
 

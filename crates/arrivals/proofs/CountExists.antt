@@ -1,18 +1,18 @@
 -- One-time rows have a list of counts: the runs of their numbers, seen as values.
-use Rattle.std.proofs.Common.{◌≡◌, ◌⊎◌, inl, inr, ⊎_elim, ℕ, zero, suc, ◌+◌, ◌-◌, ◌<◌, ◌≤◌, ℤ, pos, ◌+ℤ◌, ◌-ℤ◌, ◌≤ℤ◌, ◌<ℤ◌, List, [], ◌∷◌, length, refl, sym, ◌∙◌, ap, subst, arith}
+use Rattle.std.proofs.Common.{◌≡◌, ◌⊎◌, inl, inr, ⊎_elim, ℕ, zero, suc, ◌-◌, ◌<◌, ℤ, pos, ◌+ℤ◌, ◌≤ℤ◌, ◌<ℤ◌, List, [], ◌∷◌, length, refl, sym, ◌∙◌, ap, subst, arith}
 use Rattle.std.specs.Int.{int_max, int_min}
 use Rattle.std.specs.List.{count_by}
-use Rattle.std.proofs.lemmas.Int.{ints, clamps, by_lt_z}
-use Rattle.itpg_base.specs.Spans.{Span, Within, IsSpan}
+use Rattle.std.proofs.lemmas.Int.{ints, clamps}
+use Rattle.itpg_base.specs.Spans.{Within, IsSpan}
 use Rattle.itpg_base.specs.Words.{Word}
 use Rattle.itpg_base.specs.Graphs.{Valued, RunsHave, RunsApart, AreRunsOfValues}
 use Rattle.interval_set.specs.Runs.{AreRunsOf}
 use Rattle.interval_set.proofs.ExistsValues.{SomeValue, runs_of_exist}
 use Rattle.itpg_base.specs.Lists.{Among, Ordered}
 use Rattle.relation_rows.specs.declared.times.OneRow.{OneRow}
-use Rattle.relation_rows.specs.Times.{InTime, TimesHold, IsOneTime}
+use Rattle.relation_rows.specs.Times.{TimesHold, IsOneTime}
 use Rattle.arrivals.specs.declared.counts.CountRow.{CountRow}
-use Rattle.arrivals.specs.Counting.{HasSize, CountBefore, SomeCount, AreCounts}
+use Rattle.arrivals.specs.Counting.{HasSize, CountBefore, AreCounts}
 use Rattle.arrivals.proofs.Sizes.{waits, ends, size_at, size_unique, fewer_wait}
 
 -- the number at a moment, if it is above 0, as a value

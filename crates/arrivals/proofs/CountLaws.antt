@@ -1,11 +1,11 @@
 -- Objects at moments have one list of counts, and no second.
-use Rattle.std.proofs.Common.{◌≡◌, ◌↔◌, ◌⊎◌, inl, inr, ⊎_elim, ℕ, zero, suc, ◌+◌, ◌<◌, ◌≤◌, ℤ, pos, ◌+ℤ◌, ◌-ℤ◌, ◌≤ℤ◌, ◌<ℤ◌, List, [], ◌∷◌, length, refl, sym, ◌∙◌, ap, subst, arith, Result, Ok, Err}
+use Rattle.std.proofs.Common.{◌≡◌, inl, inr, ⊎_elim, ℕ, ◌<◌, ℤ, pos, ◌+ℤ◌, ◌-ℤ◌, ◌≤ℤ◌, ◌<ℤ◌, List, [], ◌∷◌, length, refl, sym, ◌∙◌, subst, arith}
 use Rattle.std.proofs.lemmas.Int.{ints, by_lt_z}
-use Rattle.itpg_base.specs.Spans.{Span, Within, IsSpan}
+use Rattle.itpg_base.specs.Spans.{Within, IsSpan}
 use Rattle.itpg_base.specs.Lists.{Among, Ordered}
 use Rattle.itpg_base.proofs.Lists.{ordered_unique, ordered_either}
 use Rattle.arrivals.specs.declared.counts.CountRow.{CountRow}
-use Rattle.arrivals.specs.Counting.{HasSize, CountBefore, SomeCount, AreCounts}
+use Rattle.arrivals.specs.Counting.{HasSize, CountBefore, AreCounts}
 use Rattle.arrivals.proofs.Sizes.{size_unique}
 
 -- in a strict order: spans with their moments

@@ -1,16 +1,15 @@
 -- Rows sorted by their starts or ends, and what is left of them from a place on.
-use Rattle.std.proofs.Common.{◌≡◌, ◌⊎◌, inl, inr, ⊎_elim, ℕ, ◌+◌, ◌-◌, ◌<◌, ◌≤◌, ℤ, pos, ◌+ℤ◌, ◌≤ℤ◌, List, [], ◌∷◌, length, get_or, take, drop, refl, sym, ◌∙◌, subst, arith, true, false, Bool}
-use Rattle.std.specs.Prelude.{int_le}
+use Rattle.std.proofs.Common.{◌≡◌, inl, inr, ℕ, ◌-◌, ◌≤◌, ℤ, List, length, get_or, take, drop, sym, subst, arith, true, false, Bool}
 use Rattle.std.specs.Ordering.{int_cmp}
 use Rattle.std.specs.List.Sorted.{IsPartitionedBy, IsPartitionPoint, IsSortedByKey}
 use Rattle.std.proofs.lemmas.Int.{ints}
 use Rattle.std.proofs.lemmas.Bool.Decides.{eqb_tells}
 use Rattle.std.proofs.lemmas.List.{take_all, length-drop}
-use Rattle.itpg_base.specs.Lists.{Among, Ordered}
+use Rattle.itpg_base.specs.Lists.{Ordered}
 use Rattle.itpg_base.proofs.Lists.{ordered_by_place, ordered_from_neighbours}
 use Rattle.band_normal.proofs.Activity.{not_below}
 use Rattle.relation_rows.specs.declared.times.OneRow.{OneRow}
-use Rattle.relation_rows.proofs.Partitions.{among_before, among_behind, rest_ordered}
+use Rattle.relation_rows.proofs.Partitions.{among_before, among_behind}
 use Rattle.arrivals.specs.Sweeping.{StartsUpTo, StopsUpTo, begins_at, ends_by, IsRest}
 use Rattle.arrivals.proofs.Sizes.{is_le, le_true}
 

@@ -1,5 +1,5 @@
 -- How many objects there are at a moment, by the rows that end by it or later, less those that begin after it.
-use Rattle.std.proofs.Common.{◌≡◌, ◌↔◌, ◌⊎◌, inl, inr, ⊎_elim, ℕ, zero, suc, ◌+◌, ◌-◌, ◌<◌, ◌≤◌, ℤ, pos, ◌+ℤ◌, ◌≤ℤ◌, ◌<ℤ◌, List, [], ◌∷◌, ◌++◌, length, take, drop, Bool, true, false, ◌&&◌, cond, true≢false, refl, sym, ◌∙◌, ap, subst, arith}
+use Rattle.std.proofs.Common.{◌≡◌, inl, inr, ⊎_elim, ℕ, ◌+◌, ◌<◌, ◌≤◌, ℤ, ◌≤ℤ◌, ◌<ℤ◌, List, [], ◌∷◌, ◌++◌, length, take, drop, Bool, true, false, ◌&&◌, cond, true≢false, refl, sym, ◌∙◌, ap, subst, arith}
 use Rattle.std.specs.Prelude.{int_le, int_lt}
 use Rattle.std.specs.List.{count_by}
 use Rattle.std.specs.List.Sorted.{IsPermutation}
@@ -12,7 +12,7 @@ use Rattle.itpg_base.specs.Spans.{Within, IsSpan}
 use Rattle.itpg_base.specs.Lists.{Among, Ordered}
 use Rattle.itpg_base.proofs.Lists.{ordered_unique, permutation_among, among_permutation}
 use Rattle.relation_rows.specs.declared.times.OneRow.{OneRow}
-use Rattle.relation_rows.specs.Times.{InTime, TimesHold, TimeBefore, IsOneTime}
+use Rattle.relation_rows.specs.Times.{TimesHold, TimeBefore, IsOneTime}
 use Rattle.relation_rows.proofs.Partitions.{among_either, rest_among}
 use Rattle.arrivals.specs.Counting.{HasSize}
 use Rattle.arrivals.specs.Sweeping.{IsRest}

@@ -1,16 +1,15 @@
 -- The sweep: what a stretch says, and how the rows go on.
-use Rattle.std.proofs.Common.{◌≡◌, ◌↔◌, ◌⊎◌, inl, inr, ⊎_elim, ℕ, ◌+◌, ◌<◌, ◌≤◌, ℤ, pos, ◌+ℤ◌, ◌-ℤ◌, ◌≤ℤ◌, ◌<ℤ◌, List, [], ◌∷◌, ◌++◌, length, true, false, refl, sym, ◌∙◌, ap, subst, arith}
-use Rattle.std.specs.List.{count_by}
+use Rattle.std.proofs.Common.{◌≡◌, inl, inr, ⊎_elim, ℕ, ◌<◌, ℤ, pos, ◌+ℤ◌, ◌≤ℤ◌, ◌<ℤ◌, List, [], ◌∷◌, length, refl, sym, ◌∙◌, subst, arith}
 use Rattle.std.proofs.lemmas.Int.{ints, by_lt_z}
-use Rattle.itpg_base.specs.Spans.{Span, Within, IsSpan}
+use Rattle.itpg_base.specs.Spans.{Within, IsSpan}
 use Rattle.itpg_base.specs.Lists.{Among, Ordered}
 use Rattle.itpg_base.proofs.Lists.{among_append, append_first, append_second, append_ordered}
 use Rattle.relation_rows.specs.declared.times.OneRow.{OneRow}
-use Rattle.relation_rows.specs.Times.{InTime, TimesHold, IsOneTime}
+use Rattle.relation_rows.specs.Times.{TimesHold, IsOneTime}
 use Rattle.arrivals.specs.declared.counts.CountRow.{CountRow}
 use Rattle.arrivals.specs.Counting.{HasSize, CountBefore, SomeCount, AreCounts}
 use Rattle.arrivals.specs.Sweeping.{WithSome, IsStretch}
-use Rattle.arrivals.proofs.Sizes.{waits, ends, LeftOf, left_number, size_at, size_like, size_unique, is_le, is_lt, le_true, lt_true}
+use Rattle.arrivals.proofs.Sizes.{waits, ends, LeftOf, left_number, size_at, size_like, le_true, lt_true}
 
 -- the rows are the counts up to the last stretch, and this has its number throughout
 pub record SoFar (S : ℕ → ℤ → Type 0) (rows : List CountRow) (last : CountRow) : Type 0 where

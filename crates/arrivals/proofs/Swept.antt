@@ -1,21 +1,20 @@
 -- The loop of the sweep: what is left, and what the rows are.
-use Rattle.std.proofs.Common.{◌≡◌, ◌↔◌, ◌⊎◌, inl, inr, ⊎_elim, ℕ, zero, suc, ◌+◌, ◌-◌, ◌<◌, ◌≤◌, ◌^◌, ℤ, pos, ◌+ℤ◌, ◌-ℤ◌, ◌≤ℤ◌, ◌<ℤ◌, List, [], ◌∷◌, length, take, drop, Bool, true, false, true≢false, Option, Some, None, refl, sym, ◌∙◌, ap, subst, arith}
-use Rattle.std.specs.Prelude.{slice_get, int_le, int_lt}
-use Rattle.std.specs.List.{count_by}
+use Rattle.std.proofs.Common.{◌≡◌, ◌⊎◌, inl, inr, ⊎_elim, ℕ, zero, suc, ◌+◌, ◌<◌, ◌≤◌, ◌^◌, ℤ, pos, ◌+ℤ◌, ◌-ℤ◌, ◌≤ℤ◌, ◌<ℤ◌, List, [], ◌∷◌, length, drop, Bool, true, true≢false, Some, None, refl, sym, ◌∙◌, ap, subst, arith}
+use Rattle.std.specs.Prelude.{slice_get}
 use Rattle.std.specs.List.Sorted.{IsPermutation}
 use Rattle.std.proofs.lemmas.List.Sums.{count_by-le-length}
 use Rattle.std.proofs.lemmas.List.{length-drop}
 use Rattle.std.proofs.lemmas.Int.{ints, by_lt_z}
 use Rattle.itpg_base.specs.Spans.{Within, IsSpan}
 use Rattle.itpg_base.specs.Lists.{Among, Ordered}
-use Rattle.itpg_base.proofs.Lists.{permutation_among, among_permutation}
+use Rattle.itpg_base.proofs.Lists.{among_permutation}
 use Rattle.relation_rows.specs.declared.times.OneRow.{OneRow}
-use Rattle.relation_rows.specs.Times.{InTime, TimesHold, IsOneTime}
+use Rattle.relation_rows.specs.Times.{TimesHold, IsOneTime}
 use Rattle.relation_rows.proofs.Partitions.{first_among, first_before, rest_ordered}
 use Rattle.arrivals.specs.declared.counts.CountRow.{CountRow}
 use Rattle.arrivals.specs.Counting.{HasSize, AreCounts}
 use Rattle.arrivals.specs.Sweeping.{StartsUpTo, StopsUpTo, begins_by, begins_at, ends_by, IsRest, IsStretchEnd, IsStretch, WithSome, Added}
-use Rattle.arrivals.proofs.Sizes.{waits, ends, LeftOf, left_all, left_rest, left_number, size_at, is_le, is_lt, not_le, le_true, le_false, lt_true, lt_false, fewer_wait}
+use Rattle.arrivals.proofs.Sizes.{waits, ends, LeftOf, left_all, left_rest, left_number, is_le, is_lt, not_le, le_true, le_false, lt_true, lt_false, fewer_wait}
 use Rattle.arrivals.proofs.Sweep.{SoFar, begin, same_on, other_on, counted, stretch_here}
 
 -- ---- the end of a stretch

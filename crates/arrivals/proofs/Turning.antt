@@ -1,11 +1,11 @@
 -- Time turned round.
-use Rattle.std.proofs.Common.{◌≡◌, ◌↔◌, ◌⊎◌, inl, inr, ⊎_elim, ℕ, ◌<◌, ◌≤◌, ℤ, pos, neg_ℤ, ◌+ℤ◌, ◌-ℤ◌, ◌≤ℤ◌, ◌<ℤ◌, List, [], refl, sym, subst, arith}
+use Rattle.std.proofs.Common.{◌≡◌, ◌↔◌, ℤ, pos, neg_ℤ, ◌≤ℤ◌, List, [], sym, subst, arith}
 use Rattle.std.proofs.lemmas.Int.{ints}
 use Rattle.zone_core.specs.declared.Bounds.{Bounds}
 use Rattle.zone_core.specs.Zone.{Meets, IsNear, IsTight, SomePair, moment_reach}
 use Rattle.zone_core.proofs.Pairs.{tight-from}
 use Rattle.band_normal.specs.Zones.{SomeMeets}
-use Rattle.arrivals.specs.Firsts.{LeastOf, LatestOf, SomeOf, Reversed}
+use Rattle.arrivals.specs.Firsts.{LeastOf, LatestOf, Reversed}
 use Rattle.arrivals.proofs.Pushing.{some_meets, meets_some, Pushed, pushed_alone}
 
 abbrev pub reversed_of : Bounds → Bounds

@@ -1,8 +1,7 @@
 -- What arrives at or above the first arrivals, and the first arrivals read back from it.
-use Rattle.std.proofs.Common.{◌≡◌, ◌↔◌, ◌⊎◌, inl, inr, ⊎_elim, ℕ, ◌<◌, ◌≤◌, ◌/◌, ℤ, pos, ◌+ℤ◌, ◌-ℤ◌, ◌≤ℤ◌, ◌<ℤ◌, List, [], length, take, drop, refl, sym, subst, arith}
+use Rattle.std.proofs.Common.{◌≡◌, ◌↔◌, ℤ, pos, ◌+ℤ◌, ◌≤ℤ◌, ◌<ℤ◌, List, [], sym, subst, arith}
 use Rattle.std.specs.Int.{int_max}
 use Rattle.std.proofs.lemmas.Int.{ints, clamps, by_lt_z}
-use Rattle.std.proofs.lemmas.List.{take-append-drop, length-take, length-drop}
 use Rattle.zone_core.specs.declared.Bounds.{Bounds}
 use Rattle.zone_core.specs.Zone.{Meets, IsNear, IsTight, SomePair, moment_reach}
 use Rattle.zone_core.proofs.Pairs.{tight-from}
@@ -11,9 +10,8 @@ use Rattle.itpg_base.specs.Lists.{Among}
 use Rattle.band_normal.specs.Bands.{end_at, InBand, IsWellFormed}
 use Rattle.band_normal.specs.Normal.{IsRun, Normal}
 use Rattle.band_normal.specs.Zones.{SomeMeets}
-use Rattle.band_normal.proofs.Zoning.{normal-holds}
 use Rattle.arrivals.specs.Firsts.{LeastOf, IsAbove, SomeOf, OnLow}
-use Rattle.arrivals.proofs.Pushing.{some_meets, meets_some, meets_append, Pushed, pushed_alone}
+use Rattle.arrivals.proofs.Pushing.{some_meets, meets_some, Pushed, pushed_alone}
 
 -- the bounds without those that limit arrivals from above
 abbrev pub relaxed : Bounds → Bounds

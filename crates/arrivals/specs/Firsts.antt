@@ -1,6 +1,6 @@
 -- The first arrivals and the last departures of a relation.
 use Rattle.std.specs.Prelude.{◌≡◌, ℤ, pos, neg_ℤ, ◌≤ℤ◌, ◌<ℤ◌, List}
-use Rattle.itpg_base.specs.Points.{Point, Relation}
+use Rattle.itpg_base.specs.Points.{Relation}
 use Rattle.zone_core.specs.Zone.{moment_reach}
 use Rattle.band_normal.specs.declared.band.Band.{Band}
 use Rattle.itpg_base.specs.Lists.{Among}

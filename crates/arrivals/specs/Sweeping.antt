@@ -1,7 +1,6 @@
 -- A sweep over one-time rows by their starts and ends.
-use Rattle.std.specs.Prelude.{◌≡◌, ◌⊎◌, ℕ, ◌+◌, ◌<◌, ◌≤◌, ℤ, pos, ◌+ℤ◌, ◌≤ℤ◌, ◌<ℤ◌, int_le, Bool, true, false, List, [], ◌∷◌, ◌++◌, length, take, drop, slice_get, Some}
-use Rattle.itpg_base.specs.Spans.{Within, IsSpan}
-use Rattle.itpg_base.specs.Lists.{Among, Ordered}
+use Rattle.std.specs.Prelude.{◌≡◌, ◌⊎◌, ℕ, ◌+◌, ◌<◌, ℤ, pos, ◌+ℤ◌, ◌≤ℤ◌, ◌<ℤ◌, int_le, Bool, true, false, List, [], ◌∷◌, ◌++◌, length, take, drop, slice_get, Some}
+use Rattle.itpg_base.specs.Lists.{Among}
 use Rattle.relation_rows.specs.declared.times.OneRow.{OneRow}
 use Rattle.arrivals.specs.declared.counts.CountRow.{CountRow}
 

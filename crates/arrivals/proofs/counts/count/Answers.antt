@@ -1,4 +1,4 @@
-use Rattle.std.proofs.Common.{◌<◌, List, length, sym, ap, subst, arith}
+use Rattle.std.proofs.Common.{◌<◌, List, length, subst, arith}
 use Rattle.relation_rows.specs.declared.times.OneRow.{OneRow}
 use Rattle.relation_rows.specs.Times.{TimesHold}
 use Rattle.arrivals.specs.declared.counts.CountRow.{CountRow}

@@ -1,4 +1,4 @@
-use Rattle.std.proofs.Common.{ℤ, pos, ◌+ℤ◌, ◌<ℤ◌, ◌≡◌, SFits, w64, to_z, of_z, to_z-of_z, rules, arith, subst}
+use Rattle.std.proofs.Common.{ℤ, pos, ◌+ℤ◌, ◌≡◌, SFits, w64, to_z, of_z, to_z-of_z, rules, arith, subst}
 use Rattle.std.proofs.lemmas.Int.{ints}
 use Rattle.arrivals.specs.Sweeping.{IsStretch}
 use Rattle.arrivals.proofs.counts.next_stretch.Goals as goal

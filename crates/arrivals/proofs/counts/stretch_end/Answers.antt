@@ -1,4 +1,4 @@
-use Rattle.std.proofs.Common.{ℤ, pos, ◌-ℤ◌, ◌≤ℤ◌, ◌<ℤ◌, ◌≡◌, SFits, FitsSigned, w64, to_z, of_z, to_z-of_z, rules, arith, sym, ◌∙◌, subst}
+use Rattle.std.proofs.Common.{ℤ, pos, ◌-ℤ◌, ◌≡◌, SFits, w64, to_z, of_z, to_z-of_z, rules, arith, sym, ◌∙◌, subst}
 use Rattle.std.proofs.lemmas.Int.{ints}
 use Rattle.arrivals.specs.Sweeping.{IsStretchEnd}
 use Rattle.arrivals.proofs.Swept.{ends_at_stop, ends_before_start, first_waits}

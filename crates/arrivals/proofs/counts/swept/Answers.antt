@@ -1,5 +1,4 @@
-use Rattle.std.proofs.Common.{◌+◌}
-use Rattle.arrivals.proofs.Swept.{AreLeft, at_first, left_waits, left_stops, left_fewer, left_few, sweeping_first, sweeping_next, before_next, shorter, all_counted, none_counted}
+use Rattle.arrivals.proofs.Swept.{at_first, left_stops, left_fewer, left_few, sweeping_first, sweeping_next, shorter, all_counted, none_counted}
 use Rattle.arrivals.proofs.counts.swept.Goals as goal
 
 pub returns-in_default : goal.returns-in_default

@@ -2,8 +2,7 @@ use Rattle.std.proofs.Common.{◌↔◌, ℤ, List, sym, subst}
 use Rattle.zone_core.specs.declared.Bounds.{Bounds}
 use Rattle.band_normal.specs.Zones.{SomeMeets}
 use Rattle.arrivals.specs.declared.picking.Choice.{Choice}
-use Rattle.arrivals.specs.declared.picking.Choice.TheVariants.{First, Last}
-use Rattle.arrivals.specs.Firsts.{LeastOf, LatestOf, SomeOf}
+use Rattle.arrivals.specs.Firsts.{SomeOf}
 use Rattle.arrivals.specs.Choosing.{Beats, Unbeaten, InBandOf}
 use Rattle.arrivals.proofs.Choosing.{first_kept, last_kept, rows_reach, rows_late}
 use Rattle.arrivals.proofs.picking.chosen_of.Goals as goal

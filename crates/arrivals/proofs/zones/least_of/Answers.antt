@@ -1,7 +1,7 @@
 use Rattle.std.proofs.Common.{List, subst}
 use Rattle.band_normal.specs.declared.band.Band.{Band}
 use Rattle.band_normal.specs.Zones.{SomeMeets}
-use Rattle.arrivals.specs.Firsts.{OnLow, LeastOf}
+use Rattle.arrivals.specs.Firsts.{OnLow}
 use Rattle.arrivals.proofs.Pushing.{Pushed, pushed_alone}
 use Rattle.arrivals.proofs.Ups.{least_lines}
 use Rattle.arrivals.proofs.zones.least_of.Goals as goal

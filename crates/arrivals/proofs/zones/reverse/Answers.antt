@@ -1,4 +1,3 @@
-use Rattle.zone_core.proofs.Pairs.{tight-from}
 use Rattle.arrivals.proofs.Turning.{reversed_some}
 use Rattle.arrivals.proofs.zones.reverse.Goals as goal
 

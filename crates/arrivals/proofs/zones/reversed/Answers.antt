@@ -1,6 +1,4 @@
-use Rattle.std.proofs.Common.{rules, w64, to_z-of_z, sym, subst}
-use Rattle.zone_core.specs.declared.Bounds.{Bounds}
-use Rattle.zone_core.specs.Zone.{IsNear}
+use Rattle.std.proofs.Common.{rules, w64, to_z-of_z}
 use Rattle.zone_core.proofs.Pairs.{bounds_ext}
 use Rattle.zone_core.proofs.ReadBack.{moment-difference}
 use Rattle.zone_compose.proofs.Turned.{neg_back}
