@@ -36,7 +36,7 @@ adds_path p old new (Ok number) node only grows free same = record {
 adds_path p old new (Err e) node only grows free same = subst (AddsPath p old) (sym same) (adds_none p old)
 
 -- what is reached from a node is under it
-reached_under : (nodes : List PlanNode) (kept : List Kept) (n : ℕ) (zs : List ℕ) (k : ℕ) → IsWalk (LeadsTo nodes kept) n zs k → IsWalk (IsChild nodes) n zs k
+pub reached_under : (nodes : List PlanNode) (kept : List Kept) (n : ℕ) (zs : List ℕ) (k : ℕ) → IsWalk (LeadsTo nodes kept) n zs k → IsWalk (IsChild nodes) n zs k
 reached_under nodes kept n [] k w = w
 reached_under nodes kept n (z ∷ zs) k w = (w.0.0, reached_under nodes kept z zs k w.1)
 

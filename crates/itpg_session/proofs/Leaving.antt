@@ -15,10 +15,10 @@ use Rattle.plan_cache.specs.Footprints.{footprints_of}
 use Rattle.plan_cache.specs.KeptRows.{Forgets}
 use Rattle.relation_rows.specs.Answered.{Answered}
 use Rattle.itpg_session.specs.Replies.{Reply, Silent, Bad, Refused, Wide, Rows, Counted, Shown, PerWatch}
-use Rattle.itpg_session.specs.Keeping.{AddsText, IsWorked, KeepsText}
+use Rattle.itpg_session.specs.Keeping.{AddsText, IsWorkedFor, IsStale, KeepsText}
 use Rattle.itpg_session.specs.Machine.{Machine, Standing, Turn, Answers, TurnOf, told, after}
 use Rattle.itpg_session.specs.Steps.{StandsAs, ForgetsEdit, LeavesTable, LeavesSo, LeavesLine, LeavesUnmade, LeavesUnmadeLine, ForgetsLine, KeepsAsked, KeepsAskedSo, KeepsAskedLine, ShowsKept}
-use Rattle.itpg_session.proofs.Accepting.{worked_none}
+use Rattle.itpg_session.proofs.WorkedFor.{none_for}
 
 -- ---- nothing
 
@@ -28,9 +28,9 @@ reading_leaves s (Changes edit) = inr refl
 reading_leaves s (Asks text) = inr refl
 reading_leaves s (Wants wanted text) = inr refl
 reading_leaves s (Watches name text) = inr refl
-reading_leaves s (Shows name) = worked_none s.table
+reading_leaves s (Shows name) = none_for (λ w. IsStale s.machine.watches w × (w.name ≡ name)) s.table
 reading_leaves s (Unwatches name) = refl
-reading_leaves s Ticks = worked_none s.table
+reading_leaves s Ticks = none_for (IsStale s.machine.watches) s.table
 
 so_leaves : (s : Standing) (what : Result Reading TextCode) → LeavesSo what s s
 so_leaves s (Ok reading) = reading_leaves s reading
@@ -123,9 +123,9 @@ module _ (old mid new : Standing) (table : new.table ≡ mid.table) (graph : new
   reading_on (Asks text) a = subst (AddsText text old.machine.watches old.table) (sym table) a
   reading_on (Wants wanted text) a = subst (AddsText text old.machine.watches old.table) (sym table) a
   reading_on (Watches name text) a = subst (AddsText text old.machine.watches old.table) (sym table) a
-  reading_on (Shows name) a = subst (IsWorked old.table) (sym table) a
+  reading_on (Shows name) a = subst (IsWorkedFor (λ w. IsStale old.machine.watches w × (w.name ≡ name)) old.table) (sym table) a
   reading_on (Unwatches name) a = table ∙ a
-  reading_on Ticks a = subst (IsWorked old.table) (sym table) a
+  reading_on Ticks a = subst (IsWorkedFor (IsStale old.machine.watches) old.table) (sym table) a
 
   so_on : (what : Result Reading TextCode) → LeavesSo what old mid → LeavesSo what old new
   so_on (Ok reading) a = reading_on reading a

@@ -28,3 +28,4 @@ pub mod Found
 pub mod Settled
 pub mod KeptTicks
 pub mod FirstEdits
+pub mod WorkedFor

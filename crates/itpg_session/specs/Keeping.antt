@@ -1,5 +1,5 @@
 -- What a session keeps beside its machine, and that it is right on the graph as it stands.
-use Rattle.std.specs.Prelude.{◌≡◌, ℕ, ◌+◌, ◌<◌, ◌≤◌, ◌⊎◌, List, [], ◌∷◌, length, slice_get, true, Option, Some, None, IfSome}
+use Rattle.std.specs.Prelude.{◌≡◌, ℕ, ◌+◌, ◌<◌, ◌≤◌, ◌⊎◌, List, [], ◌∷◌, length, slice_get, true, false, Option, Some, None, IfSome}
 use Rattle.std.specs.List.{AllZip}
 use Rattle.itpg_base.specs.Graphs.{Graph}
 use Rattle.itpg_base.specs.Lists.{Among}
@@ -60,6 +60,22 @@ pub record IsWorked (old new : Table) : Type 0 where
 -- the node of this number is under that of the path between all objects
 abbrev pub IsUnderPath : List PlanNode → PathTerm → ℕ → Type 0
 IsUnderPath nodes p k = (root : ℕ) × IsNodeOf nodes root (narrowed_member p All All) × IsUnder nodes (root ∷ []) k
+
+-- it is so for the path of a watch of which this holds
+pub record IsUnderSome (Holds : PlainWatch → Type 0) (nodes : List PlanNode) (k : ℕ) : Type 0 where
+  pub watch : PlainWatch
+  pub holds : Holds watch
+  pub under : IsUnderPath nodes watch.query.path k
+
+-- relations are worked out for watches of which this holds, and for nothing else: what is kept was kept before, or its node is one of
+-- such a watch's path
+pub record IsWorkedFor (Holds : PlainWatch → Type 0) (old new : Table) : Type 0 where
+  pub worked : IsWorked old new
+  pub only : (k : ℕ) (rows : List Row) → slice_get new.kept k ≡ Some (Some rows) → (slice_get old.kept k ≡ Some (Some rows)) ⊎ IsUnderSome Holds new.nodes k
+
+-- one of the watches, which isn't fresh
+abbrev pub IsStale : List PlainWatch → PlainWatch → Type 0
+IsStale watches w = Among watches w × (w.fresh ≡ false)
 
 -- the nodes of a path between all objects are added behind the others, as far as they are missing. What was kept stays at its number,
 -- and what is kept was kept before, or its node is one of the path's

@@ -22,7 +22,7 @@ use Rattle.itpg_session.specs.Replies.{Reply, Silent, Rows, Shown, PerWatch, Fin
 use Rattle.itpg_session.specs.Wanting.{Outcome, IsReplyWanted, reply_with}
 use Rattle.itpg_session.specs.Texts.{text_of, fails}
 use Rattle.itpg_base.specs.Lists.{Among}
-use Rattle.itpg_session.specs.Keeping.{AreReplanned, AddsText, IsWorked, KeepsPath, KeepsText, KeepsFound, KeepAllTicked}
+use Rattle.itpg_session.specs.Keeping.{AreReplanned, AddsText, IsWorkedFor, IsStale, KeepsPath, KeepsText, KeepsFound, KeepAllTicked}
 use Rattle.itpg_session.specs.Machine.{Machine, Standing, Turn, told}
 use Rattle.itpg_session.specs.declared.reply.Reply.{Reply as ReplyValue}
 use Rattle.itpg_session.specs.declared.reply.Seen.{Seen}
@@ -77,8 +77,8 @@ LeavesTable (Changes edit) old new = ForgetsEdit edit old new ⊎ (new.table ≡
 LeavesTable (Asks text) old new = AddsText text old.machine.watches old.table new.table
 LeavesTable (Wants wanted text) old new = AddsText text old.machine.watches old.table new.table
 LeavesTable (Watches name text) old new = AddsText text old.machine.watches old.table new.table
-LeavesTable (Shows name) old new = IsWorked old.table new.table
-LeavesTable Ticks old new = IsWorked old.table new.table
+LeavesTable (Shows name) old new = IsWorkedFor (λ w. IsStale old.machine.watches w × (w.name ≡ name)) old.table new.table
+LeavesTable Ticks old new = IsWorkedFor (IsStale old.machine.watches) old.table new.table
 LeavesTable reading old new = new.table ≡ old.table
 
 -- the same of what a line is

@@ -1,5 +1,5 @@
 //! Deciding the reply to a line. An edit, a watch or an unwatch that is accepted is made here; nothing is written.
-ghost use Rattle.std.specs.Prelude.{◌≡◌, ◌<◌, ◌≤◌, ◌⊎◌, ◌||◌, length, slice_get, option_map, Ok, IfOk, OnOk, OnErr, IsSome, IsSomeAnd, IsTrue};
+ghost use Rattle.std.specs.Prelude.{◌≡◌, ◌<◌, ◌≤◌, ◌⊎◌, ◌||◌, length, slice_get, option_map, Some, Ok, IfOk, OnOk, OnErr, IsSome, IsSomeAnd, IsTrue};
 ghost use Rattle.itpg_edit.specs.declared.edit.Edit.{Edit as PlainEdit};
 ghost use Rattle.itpg_edit.specs.Rules.{NoneOf, Unbroken};
 ghost use Rattle.itpg_edit.specs.Sites.{HasMoments};
@@ -14,7 +14,7 @@ ghost use Rattle.relation_rows.specs.Answered.{answered};
 ghost use Rattle.itpg_session.specs.Rules.{WatchBreaks, NameBreaks, TickBreaks, watch_rules, name_rules, tick_rules};
 ghost use Rattle.itpg_session.specs.Replies.{line_reply, FindsFor};
 ghost use Rattle.itpg_session.specs.Machine.{Answers, TurnOf, WatchesText, WatchesQuery, ShowsName, DropsName, TicksOrNot};
-ghost use Rattle.itpg_session.specs.Keeping.{AddsOrRenews, AddsText, IsWorked, KeepsFound};
+ghost use Rattle.itpg_session.specs.Keeping.{AddsOrRenews, AddsText, IsWorkedFor, IsStale, KeepsFound};
 ghost use Rattle.itpg_session.specs.Steps.{ForgetsEdit, KeepsReply, KeepsAsked, KeepsAskedSo, LeavesTable, LeavesSo, LeavesUnmade};
 ghost use Rattle.itpg_session.specs.Steps.{ShowsFresh, WantsMemory, WhatWants, Decides, IsAlike, IsDecided, Suits};
 
@@ -196,7 +196,7 @@ impl Session {
         requires { ¬ ShowsFresh self.old.machine (Shows name.now) }
         ensures decides { Decides (ShowsName self.old.limit self.old.machine name.now) (WantsMemory self.old.machine (Shows name.now)) self.old self.new result }
         ensures keeps { IfOk result (λ reply. KeepsReply (line_reply reply) self.new) }
-        ensures table { IsWorked self.old.table self.new.table }
+        ensures table { IsWorkedFor (λ w. IsStale self.old.machine.watches w × (w.name ≡ name.now)) self.old.table self.new.table }
     {
         match place_of(&self.graph, &self.watches, name) {
             Ok(place) => Ok(Reply::Shown(place, self.find_at(place)?)),
@@ -210,7 +210,7 @@ impl Session {
         requires there { place < length self.old.machine.watches }
         ensures found { IfOk result (λ found. IsSomeAnd (slice_get self.old.machine.watches place) (λ w. FindsFor self.old.machine.graph self.old.limit w.query (option_map answered found))) }
         ensures alike { IsAlike self.old self.new }
-        ensures worked { IsWorked self.old.table self.new.table }
+        ensures worked { IsWorkedFor (λ w. slice_get self.old.machine.watches place ≡ Some w) self.old.table self.new.table }
         ensures keeps { IfOk result (λ found. IsSomeAnd (slice_get self.old.machine.watches place) (λ w. KeepsFound self.old.machine.graph self.new.table w (option_map answered found))) }
     {
         match find(
@@ -245,7 +245,7 @@ impl Session {
     fn tick(&mut self) -> Result<Reply, AllocError>
         ensures decides { Decides (TicksOrNot self.old.limit self.old.machine) (NoneOf (TickBreaks self.old.machine.graph) tick_rules) self.old self.new result }
         ensures keeps { IfOk result (λ reply. KeepsReply (line_reply reply) self.new) }
-        ensures table { IsWorked self.old.table self.new.table }
+        ensures table { IsWorkedFor (IsStale self.old.machine.watches) self.old.table self.new.table }
     {
         if let Some(rule) = broken_by_tick(&self.graph) {
             return Ok(Reply::Refused(rule));

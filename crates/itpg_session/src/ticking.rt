@@ -8,7 +8,7 @@ ghost use Rattle.relation_rows.specs.Answered.{answered};
 ghost use Rattle.row_printer.specs.Texts.{AreDeclared};
 ghost use Rattle.itpg_session.specs.Questions.{IsTooWide, HasAnswer};
 ghost use Rattle.itpg_session.specs.PlainWatches.{plain, all_plain};
-ghost use Rattle.itpg_session.specs.Keeping.{IsKeptRight, IsTableRight, IsWorked, KeepsPath, KeepsTicked, KeepAllTicked};
+ghost use Rattle.itpg_session.specs.Keeping.{IsKeptRight, IsTableRight, IsWorkedFor, IsStale, KeepsPath, KeepsTicked, KeepAllTicked};
 ghost use Rattle.itpg_session.specs.Ticks.{ticked_of, IsTicked, AreTicked, IsUnmoved, stays_wide, settled_at, all_settled};
 ghost use Rattle.itpg_session.specs.Texts.{changes_text, ticked_text, tick_text};
 ghost use Rattle.itpg_session.specs.Watching.{IsTickDeclared, AreTicksDeclared, IsMoveOfKind, AreMovesOfKind};
@@ -90,7 +90,7 @@ pub(crate) fn tick_all(
     requires right { IsKeptRight graph.now max_rows plans.old watches.now }
     ensures found { IfOk result (λ found. AreTicked graph.now max_rows (all_plain watches.now) (map ticked_of found.items)) }
     ensures still_right { IsTableRight graph.now max_rows plans.new }
-    ensures worked { IsWorked plans.old plans.new }
+    ensures worked { IsWorkedFor (IsStale (all_plain watches.now)) plans.old plans.new }
     ensures keeps { IfOk result (λ found. KeepAllTicked graph.now plans.new (all_plain watches.now) (map ticked_of found.items)) }
 {
     let mut found = Vec::new(alloc);
@@ -114,7 +114,7 @@ fn tick_one(
     requires there { place < length watches.now }
     ensures found { IfOk result (λ found. IsSomeAnd (slice_get watches.now place) (λ w. IsTicked graph.now max_rows (plain w) (ticked_of found))) }
     ensures still_right { IsTableRight graph.now max_rows plans.new }
-    ensures worked { IsWorked plans.old plans.new }
+    ensures worked { IsWorkedFor (IsStale (all_plain watches.now)) plans.old plans.new }
     ensures keeps { IfOk result (λ found. IsSomeAnd (slice_get watches.now place) (λ w. KeepsTicked graph.now plans.new (plain w) (ticked_of found))) }
 {
     let name = watches.name(place);
@@ -156,7 +156,7 @@ fn answer_now(
     ensures answer { IfOk result (λ answer. IsSomeAnd (slice_get watches.now place) (λ w. HasAnswer graph.now max_rows w.query (answered answer))) }
     ensures wide { IsErrOf result EvalFault.Wide → IsSomeAnd (slice_get watches.now place) (λ w. IsTooWide graph.now max_rows w.query) }
     ensures still_right { IsTableRight graph.now max_rows plans.new }
-    ensures worked { IsWorked plans.old plans.new }
+    ensures worked { IsWorkedFor (IsStale (all_plain watches.now)) plans.old plans.new }
     ensures keeps { IfOk result (λ _. IsSomeAnd (slice_get watches.now place) (λ w. ((plain w).fresh ≡ true) ⊎ KeepsPath graph.now w.query.path plans.new)) }
 {
     match watches.kept(place) {

@@ -1,14 +1,17 @@
-use Rattle.std.proofs.Common.{ℕ, None, Some, ap, subst}
+use Rattle.std.proofs.Common.{◌≡◌, ℕ, None, Some, sym, ap, subst}
 use Rattle.std.specs.Prelude.{Option, Err, slice_get, IsSomeAnd}
-use Rattle.path_ast.specs.Terms.{query_term}
+use Rattle.path_ast.specs.Terms.{QueryTerm, query_term}
+use Rattle.label_scope.specs.declared.scope.Scope.TheVariants.{All}
+use Rattle.plan_cache.specs.Nodes.{IsNodeOf, narrowed_member}
 use Rattle.relation_rows.specs.Answered.{Answered, answered}
 use Rattle.itpg_session.specs.Questions.{IsTooWide, HasAnswer}
 use Rattle.itpg_session.specs.Replies.{FindsFor}
 use Rattle.itpg_session.specs.PlainWatches.{all_plain}
-use Rattle.itpg_session.specs.Keeping.{IsWorked, KeepsPath, KeepsFound}
+use Rattle.itpg_session.specs.Keeping.{IsWorkedFor, KeepsPath, KeepsFound}
 use Rattle.itpg_session.specs.Machine.{Standing}
 use Rattle.itpg_session.proofs.Found.{planned_at}
 use Rattle.itpg_session.proofs.KeptFresh.{query_at}
+use Rattle.itpg_session.proofs.WorkedFor.{found_for, asking_at}
 use Rattle.itpg_session.proofs.Settled.{found_at, worked_alike}
 use Rattle.itpg_session.proofs.session.Session.find_at.Goals as goal
 use Rattle.itpg_session.proofs.session.Session.find_at.Goals.{in-Ok, in-Err-Wide, in-Err-Memory}
@@ -34,7 +37,15 @@ pub returns-clause-alike : goal.returns-clause-alike
 returns-clause-alike c = worked_alike c.self.inside.graph c.self.inside.limits c.self.inside.plans c.self.inside.watches c.args.self.now c.self.view_is c.find.new.plans
 
 pub returns-clause-worked : goal.returns-clause-worked
-returns-clause-worked c = subst (λ (s : Standing). IsWorked s.table c.find.new.plans) c.self.view_is c.find.ensures.worked
+returns-clause-worked c =
+    let q = query_term c.query.result.now in
+    let ws = c.self.inside.watches in
+    let table = c.self.inside.plans in
+    let here = asking_at ws c.args.place q c.query.ensures.query in
+    let node = planned_at c.self.inside.graph c.self.inside.limits table.nodes ws c.self.invariant.watches_right c.args.place c.plan.result.0 q c.plan.ensures c.query.ensures.query in
+    subst (λ (s : Standing). IsWorkedFor (λ w. slice_get s.machine.watches c.args.place ≡ Some w) s.table c.find.new.plans) c.self.view_is
+    (found_for (λ w. slice_get (all_plain ws) c.args.place ≡ Some w) table c.find.new.plans c.plan.result.0 here.0 here.1
+    (subst (λ (r : QueryTerm). IsNodeOf table.nodes c.plan.result.0 (narrowed_member r.path All All)) (sym here.2) node) c.find.ensures.worked c.find.ensures.only)
 
 pub returns-clause-keeps : goal.returns-clause-keeps
 returns-clause-keeps c =

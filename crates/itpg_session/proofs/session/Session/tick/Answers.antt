@@ -8,8 +8,8 @@ use Rattle.itpg_session.specs.Replies.{Refused}
 use Rattle.itpg_session.specs.Machine.{Standing, TicksAll}
 use Rattle.itpg_session.proofs.Answering.{refusal}
 use Rattle.itpg_session.proofs.Told.{said}
-use Rattle.itpg_session.specs.Keeping.{IsWorked}
-use Rattle.itpg_session.proofs.Accepting.{worked_none}
+use Rattle.itpg_session.specs.Keeping.{IsWorkedFor, IsStale}
+use Rattle.itpg_session.proofs.WorkedFor.{none_for}
 use Rattle.itpg_session.proofs.Settled.{worked_alike, told_tick}
 use Rattle.itpg_session.proofs.session.Session.tick.Goals as goal
 
@@ -32,10 +32,10 @@ returns-in-Some-clause-decides c =
     said c.args.self.now (Refused c.in-Some.rule) (refusal m (TickBreaks m.graph) tick_rules (TicksAll c.args.self.now.limit m) c.in-Some.rule first _ refl)
 
 pub returns-in-Some-clause-table : goal.returns-in-Some-clause-table
-returns-in-Some-clause-table c = worked_none c.args.self.now.table
+returns-in-Some-clause-table c = none_for (IsStale c.args.self.now.machine.watches) c.args.self.now.table
 
 pub returns-in_err-found-clause-table : goal.returns-in_err-found-clause-table
-returns-in_err-found-clause-table c = subst (λ (s : Standing). IsWorked s.table c.tick_all.new.plans) c.self.view_is c.tick_all.ensures.worked
+returns-in_err-found-clause-table c = subst (λ (s : Standing). IsWorkedFor (IsStale s.machine.watches) s.table c.tick_all.new.plans) c.self.view_is c.tick_all.ensures.worked
 
 pub returns-clause-table : goal.returns-clause-table
-returns-clause-table c = subst (λ (s : Standing). IsWorked s.table c.tick_all.new.plans) c.self.view_is c.tick_all.ensures.worked
+returns-clause-table c = subst (λ (s : Standing). IsWorkedFor (IsStale s.machine.watches) s.table c.tick_all.new.plans) c.self.view_is c.tick_all.ensures.worked
