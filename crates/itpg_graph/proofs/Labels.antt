@@ -1,10 +1,9 @@
 -- The lists of objects by label after each change.
-use Rattle.std.proofs.Common.{◌≡◌, ◌≢◌, ℕ, List, [], ◌∷◌, ◌++◌, inl, inr, length, Option, Some, false, sym, ap, ◌∙◌, subst, arith}
+use Rattle.std.proofs.Common.{◌≡◌, ◌≢◌, ℕ, List, [], ◌∷◌, ◌++◌, inl, inr, length, Option, Some, sym, ap, ◌∙◌, subst, arith}
 use Rattle.std.specs.Prelude.{slice_get, slice_set, IsTrue, Contains}
 use Rattle.std.proofs.lemmas.Option.{slice_get_within}
 use Rattle.itpg_base.specs.Words.{Word}
-use Rattle.itpg_base.specs.Spans.{Span}
-use Rattle.itpg_base.specs.Graphs.{Graph, Object, Property}
+use Rattle.itpg_base.specs.Graphs.{Graph, Object}
 use Rattle.itpg_base.specs.declared.object_number.ObjNo.{ObjNo}
 use Rattle.itpg_base.proofs.Objects.{there, here, get_last, same_some}
 use Rattle.itpg_base.proofs.Searches.{contains}
@@ -13,11 +12,9 @@ use Rattle.itpg_graph.specs.Edges.{HasNumber, AreNumbers}
 use Rattle.itpg_graph.specs.Links.{LosesIfRising}
 use Rattle.itpg_graph.specs.WithLabel.{StandsWith}
 use Rattle.itpg_graph.specs.LabelLists.{AreHeld}
-use Rattle.itpg_graph.specs.Stores.{object_of, graph_of}
-use Rattle.itpg_graph.specs.declared.stored.Stored.{Stored}
+use Rattle.itpg_graph.specs.Stores.{graph_of}
 use Rattle.itpg_graph.specs.declared.stored.Opened.{Opened}
 use Rattle.itpg_graph.proofs.Goodness.{KeepsShape, pushed, push_is, push_keeps, changed_is, changed_keeps, changed_old, changed_other}
-use Rattle.itpg_graph.proofs.Lists.{at_mapped}
 use Rattle.itpg_graph.proofs.Linked.{numbers_alike, no_numbers}
 use Rattle.itpg_graph.proofs.Rising.{pushed_has, has_pushed, pushed_rising}
 use Rattle.itpg_graph.proofs.Views.{written, dropped_view}
@@ -70,7 +67,7 @@ labels_changed g o f lists shape held = record {
 pub labels_same : (g : Graph) (was lists : Word → List ObjNo) → AreHeld g was → ((label : Word) → lists label ≡ was label) → AreHeld g lists
 labels_same g was lists held same = record { each = λ label. subst (AreNumbers (StandsWith g label)) (sym (same label)) (held.each label) }
 
-pub labels_written : (opened : Option Opened) (objects : List Stored) (o : ℕ) (s new : Stored) (f : Object → Object) (lists : Word → List ObjNo) → slice_get objects o ≡ Some s → object_of new ≡ f (object_of s) → KeepsShape f
+pub labels_written : (opened : Option Opened) (objects : List Object) (o : ℕ) (s new : Object) (f : Object → Object) (lists : Word → List ObjNo) → slice_get objects o ≡ Some s → new ≡ f s → KeepsShape f
     → AreHeld (graph_of opened objects) lists → AreHeld (graph_of opened (slice_set objects o new)) lists
 labels_written opened objects o s new f lists at is shape held = subst (λ g. AreHeld g lists) (sym (written opened objects o s new f at is)) (labels_changed (graph_of opened objects) o f lists shape held)
 
@@ -99,8 +96,8 @@ module _ (g : Graph) (o : ℕ) (x : Object) (at : slice_get g.objects o ≡ Some
     ];
   }
 
-pub gone_labels : (opened : Option Opened) (objects : List Stored) (o : ℕ) (s : Stored) → slice_get objects o ≡ Some s → (live : List Span) (properties : List Property) → live ≡ [] → properties ≡ [] → (was lists : Word → List ObjNo)
+pub gone_labels : (opened : Option Opened) (objects : List Object) (o : ℕ) (s : Object) → slice_get objects o ≡ Some s → (gone : Object) → gone ≡ dropped s → (was lists : Word → List ObjNo)
     → AreHeld (graph_of opened objects) was → ((label : Word) → Contains s.labels label → LosesIfRising (was label) o (lists label)) → ((label : Word) → (Contains s.labels label → ⊥) → lists label ≡ was label)
-    → AreHeld (graph_of opened (slice_set objects o (record s { standing = false; live = live; properties = properties }))) lists
-gone_labels opened objects o s at live properties nowhere nothing was lists held loses others =
-    subst (λ g. AreHeld g lists) (sym (dropped_view opened objects o s at live properties nowhere nothing)) (labels_dropped (graph_of opened objects) o (object_of s) (at_mapped object_of objects o s at) was lists held loses others)
+    → AreHeld (graph_of opened (slice_set objects o gone)) lists
+gone_labels opened objects o s at gone falls was lists held loses others =
+    subst (λ g. AreHeld g lists) (sym (dropped_view opened objects o s at gone falls)) (labels_dropped (graph_of opened objects) o s at was lists held loses others)

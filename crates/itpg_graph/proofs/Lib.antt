@@ -1,4 +1,5 @@
 pub mod Asked
+pub mod Copied
 pub mod Cutting
 pub mod Families
 pub mod Goodness

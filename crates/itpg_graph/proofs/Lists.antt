@@ -26,6 +26,15 @@ module _ {X Y : Type 0} (f : X → Y) where
       ap (λ z. z ∷ map f xs) (same ∙ ap (λ z. h (f z)) (sym is))
   map_changed (y ∷ xs) (suc i) x new h e same = ap (λ ys. f y ∷ ys) (map_changed xs i x new h e same)
 
+-- an element that is written in its place is changed there
+pub set_changed : {X : Type 0} (xs : List X) (i : ℕ) (x new : X) (h : X → X) → slice_get xs i ≡ Some x → new ≡ h x → slice_set xs i new ≡ changed_at xs i h
+set_changed [] i x new h e same = let none : ⊥ = cc in absurd none
+set_changed (y ∷ xs) zero x new h e same =
+    let g : Some y ≡ Some x = e in
+    let is : y ≡ x = cc in
+    ap (λ z. z ∷ xs) (same ∙ ap h (sym is))
+set_changed (y ∷ xs) (suc i) x new h e same = ap (λ ys. y ∷ ys) (set_changed xs i x new h e same)
+
 -- a change that leaves the element as it was
 pub changed_same : {X : Type 0} (xs : List X) (i : ℕ) → changed_at xs i (λ x. x) ≡ xs
 changed_same [] i = refl

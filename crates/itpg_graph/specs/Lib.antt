@@ -5,6 +5,8 @@ pub mod GraphParts
 pub mod Kinds
 pub mod LabelLists
 pub mod Links
+pub mod Objects
+pub mod Records
 pub mod Stores
 pub mod Tables
 pub mod WithLabel

@@ -1,5 +1,5 @@
 -- What a store is seen as.
-use Rattle.std.specs.Prelude.{◌≡◌, ℕ, List, map, Option, Some, option_map, nat_eq}
+use Rattle.std.specs.Prelude.{◌≡◌, ℕ, List, Option, Some, option_map, nat_eq}
 use Rattle.std.specs.Cmp.Lexicographic.{pointwise}
 use Rattle.std.specs.declared.hash.FoldHasher.{FoldHasher}
 use Rattle.std.specs.declared.hash.BuildHasherDefault.{BuildHasherDefault}
@@ -7,19 +7,14 @@ use Rattle.indexmap.specs.IndexMap.{get, IndexMap}
 use Rattle.itpg_base.specs.Words.{Word}
 use Rattle.itpg_base.specs.Graphs.{Graph, Object, Begun, Good, Named, ObjectIs}
 use Rattle.itpg_base.specs.declared.object_number.ObjNo.{ObjNo}
-use Rattle.itpg_graph.specs.Kinds.{ends_of}
 use Rattle.itpg_graph.specs.Links.{AreLinks}
-use Rattle.itpg_graph.specs.declared.stored.Stored.{Stored}
 use Rattle.itpg_graph.specs.declared.stored.Opened.{Opened}
-
-abbrev pub object_of : Stored → Object
-object_of s = record { name = s.name; labels = s.labels; ends = ends_of s.ends; standing = s.standing; live = s.live; properties = s.properties }
 
 abbrev pub begun_of : Opened → Begun
 begun_of b = record { name = b.name; horizon = b.horizon }
 
-abbrev pub graph_of : Option Opened → List Stored → Graph
-graph_of opened objects = record { begun = option_map begun_of opened; objects = map object_of objects }
+abbrev pub graph_of : Option Opened → List Object → Graph
+graph_of opened objects = record { begun = option_map begun_of opened; objects = objects }
 
 -- the number that the table has for a name
 abbrev pub Table : Type 0

@@ -1,5 +1,5 @@
 //! The objects with each label.
-ghost use Rattle.std.specs.Prelude.{◌≡◌, ◌≢◌, ◌∷◌, ◌++◌, [], Contains, OnOk};
+ghost use Rattle.std.specs.Prelude.{◌≡◌, ◌≢◌, ◌∷◌, ◌++◌, [], Contains, IfOk, OnOk};
 ghost use Rattle.itpg_base.specs.Words.{Word};
 ghost use Rattle.itpg_graph.specs.LabelLists.{held, kept_for, HasNone, HasRoomWith, HasRoomFor};
 ghost use Rattle.itpg_graph.specs.Links.{LosesIfRising};
@@ -24,6 +24,14 @@ impl ByLabel {
         ByLabel {
             lists: IndexMap::new(alloc),
         }
+    }
+
+    /// An equal table of its own.
+    pub(crate) fn copy(&self) -> Result<ByLabel, AllocError>
+        ensures { IfOk result (λ copy. (label : Word) → held copy label ≡ held self.now label) }
+    {
+        let lists = self.lists.clone()?;
+        Ok(ByLabel { lists })
     }
 
     /// The objects with a label.

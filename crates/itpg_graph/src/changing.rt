@@ -7,9 +7,8 @@ ghost use Rattle.itpg_graph.specs.Changes.{begun_as, widened, with_node, with_ed
 
 use crate::graph::Graph;
 use crate::numbers::list;
-use crate::properties::Properties;
 use crate::stored::{Opened, Stored};
-use interval_set::{IntervalSet, Span};
+use interval_set::Span;
 use itpg_base::{LabelSet, MAX_LABELS, MAX_OBJECTS, Name, ObjNo};
 use std::alloc::AllocError;
 
@@ -56,12 +55,12 @@ impl Graph {
         self.into.reserve()?;
         let alloc = *self.objects.allocator();
         let shared = self.sets.shared(alloc, &labels)?;
+        let node = Stored::new(alloc, name, shared, None)?;
         self.by_label.reserve(alloc, &labels)?;
         list(&mut self.numbers, name, number.0)?;
         self.out.push();
         self.into.push();
         self.by_label.push(&labels, number);
-        let node = Stored::new(alloc, name, shared, None);
         self.objects.push_reserved(node);
         Ok(number)
     }
@@ -90,13 +89,13 @@ impl Graph {
         self.into.reserve_at(target)?;
         let alloc = *self.objects.allocator();
         let shared = self.sets.shared(alloc, &labels)?;
+        let ends = Some((source, target));
+        let edge = Stored::new(alloc, name, shared, ends)?;
         self.by_label.reserve(alloc, &labels)?;
         list(&mut self.numbers, name, number.0)?;
         self.out.push_at(source, number);
         self.into.push_at(target, number);
         self.by_label.push(&labels, number);
-        let ends = Some((source, target));
-        let edge = Stored::new(alloc, name, shared, ends);
         self.objects.push_reserved(edge);
         Ok(number)
     }
@@ -111,7 +110,7 @@ impl Graph {
         ensures err { OnErr result (self.new ≡ self.old) }
     {
         let object = &mut self.objects[o.0 as usize];
-        object.live.join_span(s)?;
+        object.join_live(s)?;
         Ok(())
     }
 
@@ -132,9 +131,7 @@ impl Graph {
         ensures err { OnErr result (self.new ≡ self.old) }
     {
         let object = &mut self.objects[o.0 as usize];
-        let properties = object.properties.cut(s)?;
-        object.live.cut_span(s)?;
-        object.properties = properties;
+        object.cut_live(s)?;
         Ok(())
     }
 
@@ -154,7 +151,7 @@ impl Graph {
         ensures err { OnErr result (self.new ≡ self.old) }
     {
         let object = &mut self.objects[o.0 as usize];
-        object.properties.put(prop, value, s)?;
+        object.put_value(prop, value, s)?;
         Ok(())
     }
 
@@ -167,7 +164,7 @@ impl Graph {
         ensures err { OnErr result (self.new ≡ self.old) }
     {
         let object = &mut self.objects[o.0 as usize];
-        object.properties.clear(&prop, s)?;
+        object.clear_value(&prop, s)?;
         Ok(())
     }
 
@@ -180,11 +177,9 @@ impl Graph {
     {
         let alloc = *self.objects.allocator();
         let object = &mut self.objects[o.0 as usize];
-        let ends = object.ends;
-        object.standing = false;
-        object.live = IntervalSet::new(alloc);
-        object.properties = Properties::new(alloc);
-        self.by_label.remove(object.labels.set(), o);
+        let ends = object.as_record().ends;
+        self.by_label.remove(object.as_record().labels.set(), o);
+        object.fall(alloc);
         if let Some((source, target)) = ends {
             self.out.remove(source, o);
             self.into.remove(target, o);

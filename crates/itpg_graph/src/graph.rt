@@ -1,5 +1,5 @@
 //! The store.
-ghost use Rattle.std.specs.Prelude.{◌≡◌, ℤ, ◌<◌, ◌≤◌, ◌↔◌, [], length, ℕ, None, Some, option_map, IsTrue, IsNone, IfSome};
+ghost use Rattle.std.specs.Prelude.{◌≡◌, ℤ, ◌<◌, ◌≤◌, ◌↔◌, [], length, ℕ, None, Some, option_map, IsTrue, IsNone, IfSome, IfOk};
 ghost use Rattle.itpg_base.specs.Words.{Word};
 ghost use Rattle.itpg_base.specs.Graphs.{Good, Named, Stands, Val, ObjectIs, name_at};
 ghost use Rattle.interval_set.specs.Runs.{AreRunsOf};
@@ -16,7 +16,7 @@ use crate::stored::{Opened, Stored};
 use indexmap::IndexMap;
 use interval_set::{IntervalSet, Span, ValuedSet};
 use itpg_base::{LabelSet, MAX_PROPERTIES, MAX_SPANS, Name, ObjNo};
-use std::alloc::Global;
+use std::alloc::{AllocError, Global};
 use std::marker::Model;
 
 /// What an object is.
@@ -73,19 +73,40 @@ impl Graph {
         }
     }
 
+    /// An equal graph. It shares what each object has until one of the two changes it, so it takes no memory for families.
+    pub fn copy(&self) -> Result<Graph, AllocError>
+        ensures { IfOk result (λ copy. copy ≡ self.now) }
+    {
+        let alloc = *self.objects.allocator();
+        let mut objects = Vec::with_capacity(alloc, self.objects.len())?;
+        for object in &self.objects {
+            let shared = object.share()?;
+            objects.push(shared)?;
+        }
+        Ok(Graph {
+            opened: self.opened,
+            objects,
+            numbers: self.numbers.clone()?,
+            out: self.out.copy()?,
+            into: self.into.copy()?,
+            by_label: self.by_label.copy()?,
+            sets: LabelSets::new(alloc),
+        })
+    }
+
     /// The graph's span of moments; `None` exactly if it isn't begun.
     pub fn horizon(&self) -> Option<Span>
         ensures value { result ≡ option_map (λ b. b.horizon) self.now.begun }
         ensures good { Good self.now }
     {
-        self.opened.as_ref().map(|opened| opened.horizon)
+        Some(self.opened?.horizon)
     }
 
     /// The graph's name; `None` exactly if it isn't begun.
     pub fn name(&self) -> Option<Name>
         ensures { result ≡ option_map (λ b. b.name) self.now.begun }
     {
-        self.opened.as_ref().map(|opened| opened.name)
+        Some(self.opened?.name)
     }
 
     /// The number of the standing object with this name; `None` exactly if no standing object has it.
@@ -95,7 +116,7 @@ impl Graph {
         ensures good { Good self.now }
     {
         let number = number_of(&self.numbers, name)?;
-        if self.objects[number as usize].standing {
+        if self.objects[number as usize].stands() {
             Some(ObjNo(number))
         } else {
             None
@@ -115,7 +136,7 @@ impl Graph {
         ensures { IsTrue result ↔ Stands self.now o.0 }
     {
         match self.objects.get(o.0 as usize) {
-            Some(object) => object.standing,
+            Some(object) => object.stands(),
             None => false,
         }
     }
@@ -140,7 +161,7 @@ impl Graph {
         requires { Stands self.now o.0 }
         ensures { ObjectIs self.now o.0 (λ x. result ≡ kind_of x) }
     {
-        match self.objects[o.0 as usize].ends {
+        match self.objects[o.0 as usize].as_record().ends {
             Some(_) => Kind::Edge,
             None => Kind::Node,
         }
@@ -152,7 +173,7 @@ impl Graph {
         ensures ends { ObjectIs self.now o.0 (λ x. ends_of result ≡ x.ends) }
         ensures nodes { IfSome result (λ n. IsNode self.now n.0.0 × IsNode self.now n.1.0) }
     {
-        self.objects[o.0 as usize].ends
+        self.objects[o.0 as usize].as_record().ends
     }
 
     /// The labels of the object.
@@ -168,7 +189,7 @@ impl Graph {
         requires { Stands self.now o.0 }
         ensures { ObjectIs self.now o.0 (λ x. result.now ≡ x.labels) }
     {
-        self.objects[o.0 as usize].labels.set()
+        self.objects[o.0 as usize].as_record().labels.set()
     }
 
     // Whether the object has the label.
@@ -197,7 +218,7 @@ impl Graph {
         ensures family { ObjectIs self.now o.0 (λ x. result.now ≡ x.live) }
         ensures few { length result.now ≤ MAX_SPANS }
     {
-        &self.objects[o.0 as usize].live
+        &self.objects[o.0 as usize].as_record().live
     }
 
     /// The values of a property over time, in at most `MAX_SPANS` runs; `None` exactly if the object has no value of it at any
@@ -208,7 +229,7 @@ impl Graph {
         ensures none { IsNone result ↔ ((t : ℤ) (value : Word) → ¬ Val self.now o.0 prop.now t value) }
         ensures few { IfSome result (λ values. length values.now ≤ MAX_SPANS) }
     {
-        self.objects[o.0 as usize].properties.get(prop)
+        self.objects[o.0 as usize].as_record().properties.get(prop)
     }
 
     /// How many properties the object has, each of which has a value at some moment: at most `MAX_PROPERTIES`.
@@ -217,7 +238,7 @@ impl Graph {
         ensures count { ObjectIs self.now o.0 (λ x. result ≡ length x.properties) }
         ensures few { result ≤ MAX_PROPERTIES }
     {
-        self.objects[o.0 as usize].properties.count()
+        self.objects[o.0 as usize].as_record().properties.count()
     }
 
     /// The standing edges whose source is the object, by rising number.
@@ -255,7 +276,7 @@ impl Graph {
         ensures some { HasCutFamily self.now o.0 s result }
         ensures most { (n : ℕ) → HasCutFamily self.now o.0 s n → n ≤ result }
     {
-        let object = &self.objects[o.0 as usize];
+        let object = self.objects[o.0 as usize].as_record();
         object
             .properties
             .widest_cut(s)
@@ -267,6 +288,6 @@ impl Graph {
         requires { o.0 < length self.now.objects }
         ensures { result ≡ name_at self.now o.0 }
     {
-        self.objects[o.0 as usize].name
+        self.objects[o.0 as usize].name()
     }
 }

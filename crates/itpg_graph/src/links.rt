@@ -1,5 +1,5 @@
 //! The edges at each object.
-ghost use Rattle.std.specs.Prelude.{◌≡◌, ◌<◌, ◌∷◌, ◌++◌, [], length, slice_get, Some, OnOk};
+ghost use Rattle.std.specs.Prelude.{◌≡◌, ◌<◌, ◌∷◌, ◌++◌, [], length, slice_get, Some, IfOk, OnOk};
 ghost use Rattle.itpg_base.specs.Graphs.{changed_at};
 ghost use Rattle.itpg_graph.specs.Links.{links_of, HasRoom, HasRoomAt, LosesNumber, LosesIfRising};
 
@@ -20,6 +20,19 @@ impl Links {
         Links {
             lists: Vec::new(alloc),
         }
+    }
+
+    /// An equal table of its own.
+    pub(crate) fn copy(&self) -> Result<Links, AllocError>
+        ensures { IfOk result (λ copy. links_of copy ≡ links_of self.now) }
+    {
+        let alloc = *self.lists.allocator();
+        let mut lists = Vec::with_capacity(alloc, self.lists.len())?;
+        for list in &self.lists {
+            let copy = Vec::from_slice(alloc, list)?;
+            lists.push(copy)?;
+        }
+        Ok(Links { lists })
     }
 
     /// The edges at an object.

@@ -57,6 +57,21 @@ impl Properties {
         }
     }
 
+    /// An equal list of its own.
+    pub(crate) fn copy(&self) -> Result<Properties, AllocError>
+        ensures { IfOk result (λ copy. copy ≡ self.now) }
+    {
+        let mut list = Vec::with_capacity(*self.list.allocator(), self.list.len())?;
+        for property in &self.list {
+            let values = property.values.copy()?;
+            list.push(Property {
+                name: property.name,
+                values,
+            })?;
+        }
+        Ok(Properties { list })
+    }
+
     /// How many properties have a value.
     pub(crate) fn count(&self) -> usize
         ensures { result ≡ length self.now }

@@ -26,13 +26,6 @@ impl Model for SharedLabels {
 }
 
 impl SharedLabels {
-    fn new(alloc: Global, labels: &LabelSet) -> Result<SharedLabels, AllocError>
-        ensures { IfOk result (λ shared. shared ≡ labels.now) }
-    {
-        let set = Rc::new(alloc, *labels)?;
-        Ok(SharedLabels { set })
-    }
-
     /// The set, where it lies.
     pub(crate) fn set(&self) -> &LabelSet
         ensures { result.now ≡ self.now }
@@ -40,8 +33,8 @@ impl SharedLabels {
         &self.set
     }
 
-    // The same place once more.
-    fn share(&self) -> Result<SharedLabels, AllocError>
+    /// The same place once more.
+    pub(crate) fn share(&self) -> Result<SharedLabels, AllocError>
         ensures { IfOk result (λ shared. shared ≡ self.now) }
     {
         let set = self.set.clone()?;
@@ -78,7 +71,8 @@ impl LabelSets {
         {
             return shared.share();
         }
-        let made = SharedLabels::new(alloc, labels)?;
+        let set = Rc::new(alloc, *labels)?;
+        let made = SharedLabels { set };
         let shared = made.share()?;
         self.sets.insert(number, made)?;
         Ok(shared)

@@ -1,51 +1,182 @@
 //! What is kept of a graph and of an object.
-ghost use Rattle.std.specs.Prelude.{◌≡◌};
-ghost use Rattle.itpg_graph.specs.Changes.{new_object};
+ghost use Rattle.std.specs.Prelude.{◌≡◌, IsTrue, IfOk, OnOk, OnErr};
+ghost use Rattle.itpg_graph.specs.Changes.{new_object, dropped};
 ghost use Rattle.itpg_graph.specs.Kinds.{ends_of};
-ghost use Rattle.itpg_graph.specs.Stores.{object_of};
+ghost use Rattle.itpg_graph.specs.Objects.{ObjectJoins, ObjectCuts, ObjectPuts, ObjectClears};
 
 use crate::properties::Properties;
 use crate::shared_labels::SharedLabels;
 use interval_set::{IntervalSet, Span};
 use itpg_base::{Name, ObjNo};
-use std::alloc::Global;
+use std::alloc::{AllocError, Global};
+use std::marker::Model;
+use std::rc::Rc;
 
 /// The name and the horizon of a graph that is begun.
-#[derive(Drop)]
+#[derive(Clone, Copy)]
 pub(crate) struct Opened {
     pub(crate) name: Name,
     pub(crate) horizon: Span,
 }
 
-/// An object that was declared.
+/// What equal graphs share of an object, until one of them changes it.
 #[derive(Drop)]
-pub(crate) struct Stored {
-    pub(crate) name: Name,
+pub(crate) struct Record {
+    pub(crate) live: IntervalSet,
+    pub(crate) properties: Properties,
     pub(crate) labels: SharedLabels,
     /// Of an edge, its source and its target.
     pub(crate) ends: Option<(ObjNo, ObjNo)>,
-    pub(crate) standing: bool,
-    pub(crate) live: IntervalSet,
-    pub(crate) properties: Properties,
+    pub(crate) name: Name,
+}
+
+impl Clone for Record {
+    ghost is_clone = { λ old copy. copy ≡ old };
+
+    fn clone(&self) -> Result<Record, AllocError> {
+        let labels = self.labels.share()?;
+        let live = self.live.copy()?;
+        let properties = self.properties.copy()?;
+        Ok(Record {
+            name: self.name,
+            labels,
+            ends: self.ends,
+            live,
+            properties,
+        })
+    }
+}
+
+/// An object that was declared. Equal graphs share its record: the one that changes it makes a record of its own first.
+///
+/// A contract sees it as an object of the plain graph. Whether it stands isn't shared, so a drop takes no memory.
+#[derive(Drop)]
+pub(crate) struct Stored {
+    standing: bool,
+    shared: Rc<Record>,
+}
+
+impl Model for Stored {
+    ghost use Rattle.itpg_base.specs.Graphs.{Object};
+    ghost use Rattle.itpg_graph.specs.Records.{object_by};
+
+    ghost Value = { Object };
+
+    ghost view = { λ s. object_by s.standing s.shared.value };
 }
 
 impl Stored {
-    /// A new object, which exists at no moment. It takes no memory.
+    /// A new object, which exists at no moment.
     pub(crate) fn new(
         alloc: Global,
         name: Name,
         labels: SharedLabels,
         ends: Option<(ObjNo, ObjNo)>,
-    ) -> Stored
-        ensures { object_of result ≡ new_object name labels (ends_of ends) }
+    ) -> Result<Stored, AllocError>
+        ensures { IfOk result (λ object. object ≡ new_object name labels (ends_of ends)) }
     {
-        Stored {
+        let first = Record {
             name,
             labels,
             ends,
-            standing: true,
             live: IntervalSet::new(alloc),
             properties: Properties::new(alloc),
+        };
+        Ok(Stored {
+            standing: true,
+            shared: Rc::new(alloc, first)?,
+        })
+    }
+
+    /// An equal object, which shares the record.
+    pub(crate) fn share(&self) -> Result<Stored, AllocError>
+        ensures { IfOk result (λ object. object ≡ self.now) }
+    {
+        Ok(Stored {
+            standing: self.standing,
+            shared: self.shared.clone()?,
+        })
+    }
+
+    /// Whether it stands.
+    pub(crate) fn stands(&self) -> bool
+        ensures { result ≡ self.now.standing }
+    {
+        self.standing
+    }
+
+    /// The name, also after a drop.
+    pub(crate) fn name(&self) -> Name
+        ensures { result ≡ self.now.name }
+    {
+        self.shared.name
+    }
+
+    /// The record of an object that stands.
+    pub(crate) fn as_record(&self) -> &Record
+        requires { IsTrue self.now.standing }
+        ensures labels { result.now.labels ≡ self.now.labels }
+        ensures ends { ends_of result.now.ends ≡ self.now.ends }
+        ensures live { result.now.live ≡ self.now.live }
+        ensures properties { result.now.properties ≡ self.now.properties }
+    {
+        &self.shared
+    }
+
+    /// Lets the object exist at the moments of the span too. Without memory nothing changes.
+    pub(crate) fn join_live(&mut self, s: Span) -> Result<(), AllocError>
+        requires { IsTrue self.old.standing }
+        ensures ok { OnOk result (ObjectJoins self.old s self.new) }
+        ensures err { OnErr result (self.new ≡ self.old) }
+    {
+        let own = Rc::make_mut(&mut self.shared)?;
+        own.live.join_span(s)?;
+        Ok(())
+    }
+
+    /// Ends the object's life and its values in the span. Without memory nothing changes.
+    pub(crate) fn cut_live(&mut self, s: Span) -> Result<(), AllocError>
+        requires { IsTrue self.old.standing }
+        ensures ok { OnOk result (ObjectCuts self.old s self.new) }
+        ensures err { OnErr result (self.new ≡ self.old) }
+    {
+        let own = Rc::make_mut(&mut self.shared)?;
+        let properties = own.properties.cut(s)?;
+        own.live.cut_span(s)?;
+        own.properties = properties;
+        Ok(())
+    }
+
+    /// Gives the property the value at each moment of the span. Without memory nothing changes.
+    pub(crate) fn put_value(&mut self, prop: Name, value: Name, s: Span) -> Result<(), AllocError>
+        requires { IsTrue self.old.standing }
+        ensures ok { OnOk result (ObjectPuts self.old prop value s self.new) }
+        ensures err { OnErr result (self.new ≡ self.old) }
+    {
+        let own = Rc::make_mut(&mut self.shared)?;
+        own.properties.put(prop, value, s)?;
+        Ok(())
+    }
+
+    /// Takes the values of the property in the span away. Without memory nothing changes.
+    pub(crate) fn clear_value(&mut self, prop: &Name, s: Span) -> Result<(), AllocError>
+        requires { IsTrue self.old.standing }
+        ensures ok { OnOk result (ObjectClears self.old prop.now s self.new) }
+        ensures err { OnErr result (self.new ≡ self.old) }
+    {
+        let own = Rc::make_mut(&mut self.shared)?;
+        own.properties.clear(prop, s)?;
+        Ok(())
+    }
+
+    /// Drops the object. It takes no memory, and gives the families back if no other graph has the record.
+    pub(crate) fn fall(&mut self, alloc: Global)
+        ensures { self.new ≡ dropped self.old }
+    {
+        self.standing = false;
+        if let Some(own) = Rc::get_mut(&mut self.shared) {
+            own.live = IntervalSet::new(alloc);
+            own.properties = Properties::new(alloc);
         }
     }
 }

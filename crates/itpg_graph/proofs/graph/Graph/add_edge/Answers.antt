@@ -1,9 +1,8 @@
-use Rattle.std.proofs.Common.{◌≡◌, ◌∷◌, ◌++◌, [], ℕ, Some, refl, List, length, map, ap, ◌∙◌, ◌<◌, sym, subst, rules}
-use Rattle.std.proofs.lemmas.List.{length-map}
+use Rattle.std.proofs.Common.{◌≡◌, ◌∷◌, ◌++◌, [], ℕ, Some, refl, List, length, ap, ◌∙◌, ◌<◌, sym, subst, rules}
 use Rattle.itpg_base.specs.Graphs.{Graph, Ends, Named}
 use Rattle.itpg_base.specs.declared.object_number.ObjNo.{ObjNo}
 use Rattle.itpg_graph.specs.Links.{links_of}
-use Rattle.itpg_graph.specs.Stores.{object_of, graph_of, IsStore, listed}
+use Rattle.itpg_graph.specs.Stores.{graph_of, IsStore, listed}
 use Rattle.itpg_base.specs.Graphs.{changed_at}
 use Rattle.itpg_graph.specs.Kinds.{IsNode}
 use Rattle.itpg_graph.specs.Changes.{with_edge, new_object}
@@ -18,12 +17,12 @@ invariant_of-self-2 c =
     let is = sym c.self.view_is in
     let old = c.self.inside.objects.items in
     let g : Graph = graph_of c.self.inside.opened old in
-    let edge = c.new-edge.result in
+    let edge = c.in_ok-edge.edge in
     let number : ObjNo = record { 0 = c.len-2.result } in
     let items : c.push_reserved.new.self.items ≡ old ++ edge ∷ [] = search rules in
     let count : c.len-2.result ≡ length old = search rules in
-    let next : number.0 ≡ length (map object_of old) = count ∙ sym (length-map old object_of) in
-    let table : listed c.list.new.numbers c.args.name ≡ Some (length (map object_of old)) = c.in_ok-list.ensures.ok ∙ ap Some next in
+    let next : number.0 ≡ length old = count in
+    let table : listed c.list.new.numbers c.args.name ≡ Some (length old) = c.in_ok-list.ensures.ok ∙ ap Some next in
     let out = links_of c.self.inside.out in
     let into = links_of c.self.inside.into in
     let add : List ObjNo → List ObjNo = λ list. list ++ number ∷ [] in
@@ -40,7 +39,7 @@ invariant_of-self-2 c =
     let lists = held c.push.new.self in
     let labels = labels_push g (new_object c.args.name c.args.labels (Some ends)) refl number next was lists c.self.invariant.labels
     (λ label has. c.push.ensures.own label has ∙ ap (λ l. l ++ number ∷ []) (c.reserve-2.ensures.same label)) (λ label out. c.push.ensures.others label out ∙ c.reserve-2.ensures.same label) in
-    let view : graph_of c.self.inside.opened c.push_reserved.new.self.items ≡ pushed g (new_object c.args.name c.args.labels (Some (record { source = c.args.source.0; target = c.args.target.0 }))) = ap (graph_of c.self.inside.opened) items ∙ added c.self.inside.opened old edge ∙ ap (pushed g) (c.new-edge.ensures ∙ ap (λ ls. new_object c.args.name ls (Some ends)) c.in_ok-shared.ensures) in
+    let view : graph_of c.self.inside.opened c.push_reserved.new.self.items ≡ pushed g (new_object c.args.name c.args.labels (Some (record { source = c.args.source.0; target = c.args.target.0 }))) = ap (graph_of c.self.inside.opened) items ∙ added c.self.inside.opened old edge ∙ ap (pushed g) (c.in_ok-edge.ensures ∙ ap (λ ls. new_object c.args.name ls (Some ends)) c.in_ok-shared.ensures) in
     record {
       store = subst (λ h. IsStore h c.list.new.numbers (links_of c.push_at.new.self) (links_of c.push_at-2.new.self)) (sym view)
           (subst (λ ls. IsStore now c.list.new.numbers ls (links_of c.push_at-2.new.self)) (sym more_out)

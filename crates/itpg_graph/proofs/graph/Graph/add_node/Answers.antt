@@ -1,10 +1,9 @@
-use Rattle.std.proofs.Common.{◌≡◌, ◌∷◌, ◌++◌, [], ℕ, Some, None, refl, length, map, ap, ◌∙◌, ◌<◌, sym, subst, rules}
-use Rattle.std.proofs.lemmas.List.{length-map}
+use Rattle.std.proofs.Common.{◌≡◌, ◌∷◌, ◌++◌, [], ℕ, Some, None, refl, length, ap, ◌∙◌, ◌<◌, sym, subst, rules}
 use Rattle.std.specs.Prelude.{IsSome}
 use Rattle.itpg_base.specs.Graphs.{Graph, Named}
 use Rattle.itpg_base.specs.declared.object_number.ObjNo.{ObjNo}
 use Rattle.itpg_graph.specs.Links.{links_of}
-use Rattle.itpg_graph.specs.Stores.{object_of, graph_of, IsStore, listed}
+use Rattle.itpg_graph.specs.Stores.{graph_of, IsStore, listed}
 use Rattle.itpg_graph.specs.Changes.{with_node, new_object}
 use Rattle.itpg_graph.specs.LabelLists.{held, AreHeld}
 use Rattle.itpg_graph.proofs.Goodness.{pushed}
@@ -17,12 +16,12 @@ invariant_of-self-2 c =
     let is = sym c.self.view_is in
     let old = c.self.inside.objects.items in
     let g : Graph = graph_of c.self.inside.opened old in
-    let node = c.new-node.result in
+    let node = c.in_ok-node.node in
     let items : c.push_reserved.new.self.items ≡ old ++ node ∷ [] = search rules in
     let number : ObjNo = record { 0 = c.len-2.result } in
     let count : c.len-2.result ≡ length old = search rules in
-    let next : number.0 ≡ length (map object_of old) = count ∙ sym (length-map old object_of) in
-    let table : listed c.list.new.numbers c.args.name ≡ Some (length (map object_of old)) = c.in_ok-list.ensures.ok ∙ ap Some next in
+    let next : number.0 ≡ length old = count in
+    let table : listed c.list.new.numbers c.args.name ≡ Some (length old) = c.in_ok-list.ensures.ok ∙ ap Some next in
     let out = links_of c.self.inside.out in
     let into = links_of c.self.inside.into in
     let more_out : links_of c.push.new.self ≡ out ++ [] ∷ [] = c.push.ensures ∙ ap (λ ls. ls ++ [] ∷ []) c.reserve-2.ensures.same in
@@ -34,7 +33,7 @@ invariant_of-self-2 c =
     let lists = held c.push-3.new.self in
     let labels = labels_push g (new_object c.args.name c.args.labels None) refl number next was lists c.self.invariant.labels
     (λ label has. c.push-3.ensures.own label has ∙ ap (λ l. l ++ number ∷ []) (c.reserve-4.ensures.same label)) (λ label out. c.push-3.ensures.others label out ∙ c.reserve-4.ensures.same label) in
-    let view : graph_of c.self.inside.opened c.push_reserved.new.self.items ≡ pushed g (new_object c.args.name c.args.labels None) = ap (graph_of c.self.inside.opened) items ∙ added c.self.inside.opened old node ∙ ap (pushed g) (c.new-node.ensures ∙ ap (λ ls. new_object c.args.name ls None) c.in_ok-shared.ensures) in
+    let view : graph_of c.self.inside.opened c.push_reserved.new.self.items ≡ pushed g (new_object c.args.name c.args.labels None) = ap (graph_of c.self.inside.opened) items ∙ added c.self.inside.opened old node ∙ ap (pushed g) (c.in_ok-node.ensures ∙ ap (λ ls. new_object c.args.name ls None) c.in_ok-shared.ensures) in
     record {
       store = subst (λ h. IsStore h c.list.new.numbers (links_of c.push.new.self) (links_of c.push-2.new.self)) (sym view)
           (subst (λ ls. IsStore (with_node g c.args.name c.args.labels) c.list.new.numbers ls (links_of c.push-2.new.self)) (sym more_out)

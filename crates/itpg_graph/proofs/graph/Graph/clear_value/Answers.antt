@@ -20,9 +20,10 @@ invariant_of-self-2 c =
     let is = sym c.self.view_is in
     let stands = subst (λ g. Stands g o) is c.requires.stands in
     let at : slice_get items o ≡ Some s = slice_get_read items (length items) o s refl (is_within c.self.inside.opened items o _ stands) c.index_mut-object.ensures.value in
-    let store = clear_store c.self.inside.opened items o s at c.args.s c.clear.new.self c.args.prop c.in_ok-clear.ensures.ok c.self.inside.numbers (links_of c.self.inside.out) (links_of c.self.inside.into) c.self.invariant.store stands
+    let clear = c.in_ok-clear_value.ensures.ok in
+    let store = clear_store c.self.inside.opened items o s at c.args.s c.clear_value.new.self c.args.prop clear c.self.inside.numbers (links_of c.self.inside.out) (links_of c.self.inside.into) c.self.invariant.store stands
     (subst (λ g. FitClear g o c.args.prop c.args.s) is c.requires.room) in
-    record { store = store; labels = labels_written c.self.inside.opened c.self.inside.objects.items o s (record s { properties = c.clear.new.self }) (λ x. record x { properties = c.clear.new.self }) (held c.self.inside.by_label) at refl (properties_shape c.clear.new.self) c.self.invariant.labels }
+    record { store = store; labels = labels_written c.self.inside.opened c.self.inside.objects.items o s c.clear_value.new.self (λ x. record x { properties = clear.properties }) (held c.self.inside.by_label) at clear.is (properties_shape clear.properties) c.self.invariant.labels }
 
 pub returns-clause-ok : goal.returns-clause-ok
 returns-clause-ok c =
@@ -32,5 +33,5 @@ returns-clause-ok c =
     let is = sym c.self.view_is in
     let stands = subst (λ g. Stands g o) is c.requires.stands in
     let at : slice_get items o ≡ Some s = slice_get_read items (length items) o s refl (is_within c.self.inside.opened items o _ stands) c.index_mut-object.ensures.value in
-    let new : Graph = graph_of c.self.inside.opened (slice_set items o (record s { properties = c.clear.new.self })) in
-    subst (λ g. ClearsValue g o c.args.prop c.args.s new) c.self.view_is (clears c.self.inside.opened items o s at c.args.s c.clear.new.self c.args.prop c.in_ok-clear.ensures.ok)
+    let new : Graph = graph_of c.self.inside.opened (slice_set items o c.clear_value.new.self) in
+    subst (λ g. ClearsValue g o c.args.prop c.args.s new) c.self.view_is (clears c.self.inside.opened items o s at c.args.s c.clear_value.new.self c.args.prop c.in_ok-clear_value.ensures.ok)

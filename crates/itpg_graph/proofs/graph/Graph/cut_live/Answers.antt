@@ -21,10 +21,11 @@ invariant_of-self-2 c =
     let is = sym c.self.view_is in
     let stands = subst (λ g. Stands g o) is c.requires.stands in
     let at : slice_get items o ≡ Some s = slice_get_read items (length items) o s refl (is_within c.self.inside.opened items o _ stands) c.index_mut-object.ensures.value in
-    let store = cut_store c.self.inside.opened items o s at c.args.s c.in_ok-properties.properties c.cut_span.new.self c.in_ok-cut_span.ensures.ok c.in_ok-properties.ensures c.self.inside.numbers (links_of c.self.inside.out) (links_of c.self.inside.into) c.self.invariant.store stands
+    let cut = c.in_ok-cut_live.ensures.ok in
+    let store = cut_store c.self.inside.opened items o s at c.args.s c.cut_live.new.self cut c.self.inside.numbers (links_of c.self.inside.out) (links_of c.self.inside.into) c.self.invariant.store stands
     (subst (λ g. (e : ℕ) (t : ℤ) → HasEnd g e o → Within t c.args.s → Exists g e t → ⊥) is c.requires.held)
     (subst (λ g. FitCut g o c.args.s) is c.requires.room) in
-    record { store = store; labels = labels_written c.self.inside.opened c.self.inside.objects.items o s (record s { live = c.cut_span.new.self; properties = c.in_ok-properties.properties }) (λ x. record x { live = c.cut_span.new.self; properties = c.in_ok-properties.properties }) (held c.self.inside.by_label) at refl (families_shape c.cut_span.new.self c.in_ok-properties.properties) c.self.invariant.labels }
+    record { store = store; labels = labels_written c.self.inside.opened c.self.inside.objects.items o s c.cut_live.new.self (λ x. record x { live = cut.live; properties = cut.properties }) (held c.self.inside.by_label) at cut.is (families_shape cut.live cut.properties) c.self.invariant.labels }
 
 pub returns-clause-ok : goal.returns-clause-ok
 returns-clause-ok c =
@@ -34,5 +35,5 @@ returns-clause-ok c =
     let is = sym c.self.view_is in
     let stands = subst (λ g. Stands g o) is c.requires.stands in
     let at : slice_get items o ≡ Some s = slice_get_read items (length items) o s refl (is_within c.self.inside.opened items o _ stands) c.index_mut-object.ensures.value in
-    let new : Graph = graph_of c.self.inside.opened (slice_set items o (record s { live = c.cut_span.new.self; properties = c.in_ok-properties.properties })) in
-    subst (λ g. CutsLive g o c.args.s new) c.self.view_is (cuts c.self.inside.opened items o s at c.args.s c.in_ok-properties.properties c.cut_span.new.self c.in_ok-cut_span.ensures.ok c.in_ok-properties.ensures)
+    let new : Graph = graph_of c.self.inside.opened (slice_set items o c.cut_live.new.self) in
+    subst (λ g. CutsLive g o c.args.s new) c.self.view_is (cuts c.self.inside.opened items o s at c.args.s c.cut_live.new.self c.in_ok-cut_live.ensures.ok)

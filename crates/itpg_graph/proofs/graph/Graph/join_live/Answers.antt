@@ -16,15 +16,16 @@ invariant_of-self-2 c =
     let at : slice_get c.self.inside.objects.items c.args.o.0 ≡ Some c.index_mut-object.result.now = slice_get_read c.self.inside.objects.items (length c.self.inside.objects.items) c.args.o.0 c.index_mut-object.result.now refl (is_within c.self.inside.opened c.self.inside.objects.items c.args.o.0 _ (subst (λ g. Stands g c.args.o.0) (sym c.self.view_is) c.requires.stands)) c.index_mut-object.ensures.value in
     let is = sym c.self.view_is in
     let o = c.args.o.0 in
-    let store = joined_store c.self.inside.opened c.self.inside.objects.items o c.index_mut-object.result.now at c.args.s c.join_span.new.self c.in_ok-join_span.ensures.ok c.self.inside.numbers (links_of c.self.inside.out) (links_of c.self.inside.into) c.self.invariant.store
+    let join = c.in_ok-join_live.ensures.ok in
+    let store = joined_store c.self.inside.opened c.self.inside.objects.items o c.index_mut-object.result.now at c.args.s c.join_live.new.self join c.self.inside.numbers (links_of c.self.inside.out) (links_of c.self.inside.into) c.self.invariant.store
     (subst (λ g. Stands g o) is c.requires.stands)
     (subst (λ g. (t : ℤ) → Within t c.args.s → InHorizon g t) is c.requires.within)
     (subst (λ g. (a : ℕ) → HasEnd g o a → (t : ℤ) → Within t c.args.s → Exists g a t) is c.requires.ends)
     (subst (λ g. FitFamily g o c.args.s) is c.requires.room) in
-    record { store = store; labels = labels_written c.self.inside.opened c.self.inside.objects.items o c.index_mut-object.result.now (record (c.index_mut-object.result.now) { live = c.join_span.new.self }) (λ x. record x { live = c.join_span.new.self }) (held c.self.inside.by_label) at refl (live_shape c.join_span.new.self) c.self.invariant.labels }
+    record { store = store; labels = labels_written c.self.inside.opened c.self.inside.objects.items o c.index_mut-object.result.now c.join_live.new.self (λ x. record x { live = join.live }) (held c.self.inside.by_label) at join.is (live_shape join.live) c.self.invariant.labels }
 
 pub returns-clause-ok : goal.returns-clause-ok
 returns-clause-ok c =
     let at : slice_get c.self.inside.objects.items c.args.o.0 ≡ Some c.index_mut-object.result.now = slice_get_read c.self.inside.objects.items (length c.self.inside.objects.items) c.args.o.0 c.index_mut-object.result.now refl (is_within c.self.inside.opened c.self.inside.objects.items c.args.o.0 _ (subst (λ g. Stands g c.args.o.0) (sym c.self.view_is) c.requires.stands)) c.index_mut-object.ensures.value in
-    let new : Graph = graph_of c.self.inside.opened (slice_set c.self.inside.objects.items c.args.o.0 (record (c.index_mut-object.result.now) { live = c.join_span.new.self })) in
-    subst (λ g. JoinsLive g c.args.o.0 c.args.s new) c.self.view_is (joins c.self.inside.opened c.self.inside.objects.items c.args.o.0 c.index_mut-object.result.now at c.args.s c.join_span.new.self c.in_ok-join_span.ensures.ok)
+    let new : Graph = graph_of c.self.inside.opened (slice_set c.self.inside.objects.items c.args.o.0 c.join_live.new.self) in
+    subst (λ g. JoinsLive g c.args.o.0 c.args.s new) c.self.view_is (joins c.self.inside.opened c.self.inside.objects.items c.args.o.0 c.index_mut-object.result.now at c.args.s c.join_live.new.self c.in_ok-join_live.ensures.ok)

@@ -21,11 +21,12 @@ invariant_of-self-2 c =
     let is = sym c.self.view_is in
     let stands = subst (λ g. Stands g o) is c.requires.stands in
     let at : slice_get items o ≡ Some s = slice_get_read items (length items) o s refl (is_within c.self.inside.opened items o _ stands) c.index_mut-object.ensures.value in
-    let store = put_store c.self.inside.opened items o s at c.args.s c.put.new.self c.args.prop c.args.value c.in_ok-put.ensures.ok c.self.inside.numbers (links_of c.self.inside.out) (links_of c.self.inside.into) c.self.invariant.store stands
+    let put = c.in_ok-put_value.ensures.ok in
+    let store = put_store c.self.inside.opened items o s at c.args.s c.put_value.new.self c.args.prop c.args.value put c.self.inside.numbers (links_of c.self.inside.out) (links_of c.self.inside.into) c.self.invariant.store stands
     (subst (λ g. (t : ℤ) → Within t c.args.s → Exists g o t) is c.requires.present)
     (subst (λ g. FitPut g o c.args.prop c.args.value c.args.s) is c.requires.room)
     (subst (λ g. HasPlace g o c.args.prop) is c.requires.place) in
-    record { store = store; labels = labels_written c.self.inside.opened c.self.inside.objects.items o s (record s { properties = c.put.new.self }) (λ x. record x { properties = c.put.new.self }) (held c.self.inside.by_label) at refl (properties_shape c.put.new.self) c.self.invariant.labels }
+    record { store = store; labels = labels_written c.self.inside.opened c.self.inside.objects.items o s c.put_value.new.self (λ x. record x { properties = put.properties }) (held c.self.inside.by_label) at put.is (properties_shape put.properties) c.self.invariant.labels }
 
 pub returns-clause-ok : goal.returns-clause-ok
 returns-clause-ok c =
@@ -35,5 +36,5 @@ returns-clause-ok c =
     let is = sym c.self.view_is in
     let stands = subst (λ g. Stands g o) is c.requires.stands in
     let at : slice_get items o ≡ Some s = slice_get_read items (length items) o s refl (is_within c.self.inside.opened items o _ stands) c.index_mut-object.ensures.value in
-    let new : Graph = graph_of c.self.inside.opened (slice_set items o (record s { properties = c.put.new.self })) in
-    subst (λ g. PutsValue g o c.args.prop c.args.value c.args.s new) c.self.view_is (puts c.self.inside.opened items o s at c.args.s c.put.new.self c.args.prop c.args.value c.in_ok-put.ensures.ok)
+    let new : Graph = graph_of c.self.inside.opened (slice_set items o c.put_value.new.self) in
+    subst (λ g. PutsValue g o c.args.prop c.args.value c.args.s new) c.self.view_is (puts c.self.inside.opened items o s at c.args.s c.put_value.new.self c.args.prop c.args.value c.in_ok-put_value.ensures.ok)

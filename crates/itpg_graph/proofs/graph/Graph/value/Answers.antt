@@ -1,10 +1,10 @@
-use Rattle.std.proofs.Common.{◌≡◌, ◌↔◌, ℤ, Some, length, refl, sym, subst}
-use Rattle.std.specs.Prelude.{slice_get, IsNone}
+use Rattle.std.proofs.Common.{◌≡◌, ◌↔◌, ℤ, List, Some, length, refl, sym, subst}
+use Rattle.std.specs.Prelude.{slice_get, IsNone, IfSome}
 use Rattle.std.proofs.lemmas.Option.{slice_get_read, IfSome_then}
 use Rattle.itpg_base.specs.Words.{Word}
-use Rattle.itpg_base.specs.Graphs.{Stands, Val}
-use Rattle.itpg_graph.specs.Stores.{object_of, graph_of}
-use Rattle.itpg_graph.proofs.Lists.{at_mapped}
+use Rattle.itpg_base.specs.Graphs.{Stands, Val, Property, PropertiesHave}
+use Rattle.interval_set.specs.Runs.{AreRunsOf}
+use Rattle.itpg_graph.specs.Stores.{graph_of}
 use Rattle.itpg_graph.proofs.Kept.{val_at, at_val}
 use Rattle.itpg_graph.proofs.Families.{few_runs}
 use Rattle.itpg_graph.proofs.Views.{is_within}
@@ -19,10 +19,10 @@ returns-clause-none c =
     let stands = subst (λ g. Stands g o) is c.requires in
     let at : slice_get items o ≡ Some s = slice_get_read items (length items) o s refl (is_within c.self.inside.opened items o _ stands) c.index.ensures in
     let g = graph_of c.self.inside.opened items in
-    let place = at_mapped object_of items o s at in
     let name = c.args.prop.now in
+    let none = subst (λ (p : List Property). IsNone c.get.result ↔ ((t : ℤ) (value : Word) → ¬ PropertiesHave p name t value)) c.as_record.ensures.properties c.get.ensures.none in
     subst (λ h. IsNone c.get.result ↔ ((t : ℤ) (value : Word) → ¬ Val h o name t value)) c.self.view_is
-    (λ none t v has. c.get.ensures.none.0 none t v (val_at g o (object_of s) place name t v has), λ never. c.get.ensures.none.1 (λ t v has. never t v (at_val g o (object_of s) place name t v has)))
+    (λ nothing t v has. none.0 nothing t v (val_at g o s at name t v has), λ never. none.1 (λ t v has. never t v (at_val g o s at name t v has)))
 
 pub returns-clause-few : goal.returns-clause-few
 returns-clause-few c =
@@ -32,6 +32,6 @@ returns-clause-few c =
     let is = sym c.self.view_is in
     let stands = subst (λ g. Stands g o) is c.requires in
     let at : slice_get items o ≡ Some s = slice_get_read items (length items) o s refl (is_within c.self.inside.opened items o _ stands) c.index.ensures in
-    let place = at_mapped object_of items o s at in
-    let kept = c.self.invariant.store.good.objects o (object_of s) place in
-    IfSome_then c.get.result c.get.ensures.some (λ values runs. few_runs s.properties c.args.prop.now values.now kept.properties kept.differ runs)
+    let kept = c.self.invariant.store.good.objects o s at in
+    let some = subst (λ (p : List Property). IfSome c.get.result (λ values. AreRunsOf (PropertiesHave p c.args.prop.now) values.now)) c.as_record.ensures.properties c.get.ensures.some in
+    IfSome_then c.get.result some (λ values runs. few_runs s.properties c.args.prop.now values.now kept.properties kept.differ runs)
