@@ -9,7 +9,8 @@ use Rattle.label_scope.specs.declared.scope.Scope.{Scope}
 use Rattle.label_scope.specs.Narrowing.{Cut}
 use Rattle.label_scope.specs.Members.{Member, worked}
 use Rattle.plan_cache.specs.Nodes.{PlanNode, narrowed_member}
-use Rattle.path_eval.specs.Evaluated.{AllFit, SomeIsWide, IsRight, NeedsWide}
+use Rattle.plan_cache.specs.RightRows.{AllFit, IsRight}
+use Rattle.path_eval.specs.Evaluated.{SomeIsWide, NeedsWide}
 use Rattle.path_eval.proofs.Working.{members_are, unnarrowed}
 
 module _ (g : Graph) (limit : ℕ) (p : PathTerm) (a b : Scope) where

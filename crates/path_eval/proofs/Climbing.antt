@@ -10,7 +10,7 @@ use Rattle.label_scope.specs.declared.scope.Scope.{Scope}
 use Rattle.label_scope.specs.declared.scope.Scope.TheVariants.{All}
 use Rattle.label_scope.specs.Members.{Member, worked, worked_conditions, middle, passed, powers_within, unions_within, further, members_between}
 use Rattle.plan_cache.specs.Nodes.{PlanNode, Kept, AreShared, AreNodesOf, IsNodeOf, narrowed_member, conditions, parts, parts_of}
-use Rattle.path_eval.specs.Evaluated.{members_of}
+use Rattle.plan_cache.specs.RightRows.{members_of}
 use Rattle.path_eval.specs.Keeping.{LeadsTo}
 use Rattle.path_eval.proofs.Working.{members_are}
 

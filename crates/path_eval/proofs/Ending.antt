@@ -21,7 +21,8 @@ use Rattle.label_scope.specs.Scopes.{IsWithin}
 use Rattle.label_scope.specs.Narrowing.{Cut, Scopes}
 use Rattle.label_scope.specs.Members.{passed, powers_within, unions_within, further}
 use Rattle.repeat_engine.proofs.ChainLaws.{chain_zero}
-use Rattle.path_eval.specs.Evaluated.{AllFit, SomeIsWide}
+use Rattle.plan_cache.specs.RightRows.{AllFit}
+use Rattle.path_eval.specs.Evaluated.{SomeIsWide}
 use Rattle.path_eval.specs.Powers.{SameWithinBoth, PassesWithin, IsBody, HeldBetween, HoldsFitting, GivesPairs, GivesMember, left_over, repetition_members, repetition_member}
 use Rattle.label_scope.proofs.Inner.{inner_within, ends_within}
 use Rattle.path_eval.proofs.Walking.{WalksInside, walks_of, of_cut, cut_of, repeats_of, ends_inside, in_two, in_one}

@@ -13,7 +13,7 @@ use Rattle.plan_cache.specs.Nodes.{PlanNode, Kept, Table, AreShared, AreNodesOf,
 use Rattle.plan_cache.specs.KeptRows.{rows_kept}
 use Rattle.plan_cache.specs.declared.shelf.TheConstants.{MAX_KEPT_ROWS}
 use Rattle.path_eval.specs.declared.basis.Ground.{Ground}
-use Rattle.path_eval.specs.Evaluated.{member_relation, IsRight}
+use Rattle.plan_cache.specs.RightRows.{member_relation, IsRight}
 use Rattle.path_eval.specs.Keeping.{LeadsTo, IsReached, KeptOrFull, KeepsReached}
 use Rattle.path_eval.specs.Made.{MaybeRows, IsMade, AreMade, HasParts}
 use Rattle.path_eval.specs.Filled.{KeepsRight, IsRightAt, IsWideAt, HasPartsAt, KeepsAt, KeepsRows, KeepsWell, IsFilling}

@@ -27,7 +27,8 @@ use Rattle.label_scope.specs.declared.scope.Scope.{Scope}
 use Rattle.label_scope.specs.Narrowing.{Cut}
 use Rattle.label_scope.specs.Members.{Member}
 use Rattle.label_scope.proofs.Within.{decide_within_scope}
-use Rattle.path_eval.specs.Evaluated.{member_relation, AllFit, SomeIsWide, CutToPicked}
+use Rattle.plan_cache.specs.RightRows.{member_relation, AllFit}
+use Rattle.path_eval.specs.Evaluated.{SomeIsWide, CutToPicked}
 use Rattle.path_eval.specs.Answering.{DepartsAt, ArrivesAt}
 
 -- the moments between which all points lie

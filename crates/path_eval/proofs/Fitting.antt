@@ -9,7 +9,8 @@ use Rattle.relation_rows.specs.Rows.{Fits}
 use Rattle.relation_rows.specs.Answers.{Gives}
 use Rattle.relation_rows.proofs.Alike.{rows_alike, wide_alike}
 use Rattle.label_scope.specs.Members.{Member}
-use Rattle.path_eval.specs.Evaluated.{member_relation, AllFit, SomeIsWide}
+use Rattle.plan_cache.specs.RightRows.{member_relation, AllFit}
+use Rattle.path_eval.specs.Evaluated.{SomeIsWide}
 use Rattle.path_eval.proofs.MembersWithin.{wide_own}
 use Rattle.path_eval.specs.Working.{WorksOutAs}
 

@@ -7,7 +7,7 @@ use Rattle.label_scope.specs.Members.{Member}
 use Rattle.plan_cache.specs.Nodes.{PlanNode, Kept, Table}
 use Rattle.plan_cache.specs.KeptRows.{rows_in, rows_kept, AllKept, Stays}
 use Rattle.path_eval.specs.declared.basis.Ground.{Ground}
-use Rattle.path_eval.specs.Evaluated.{IsRight}
+use Rattle.plan_cache.specs.RightRows.{IsRight}
 use Rattle.path_eval.specs.Keeping.{IsReached, KeepsOnlyReached, KeptOrFull}
 use Rattle.path_eval.specs.Filled.{IsRightAt, KeepsRight, KeepsAt}
 

@@ -9,7 +9,8 @@ use Rattle.path_ast.specs.Terms.{PathTerm, Repetition}
 use Rattle.label_scope.specs.declared.scope.Scope.{Scope}
 use Rattle.label_scope.specs.Narrowing.{Cut}
 use Rattle.label_scope.specs.Members.{Member, powers_within, unions_within, doubles}
-use Rattle.path_eval.specs.Evaluated.{member_relation, AllFit, SomeIsWide}
+use Rattle.plan_cache.specs.RightRows.{member_relation, AllFit}
+use Rattle.path_eval.specs.Evaluated.{SomeIsWide}
 use Rattle.path_eval.proofs.Finite.{fit_or_wide}
 
 module _ (g : Graph) (limit : ℕ) where

@@ -17,7 +17,7 @@ use Rattle.label_scope.specs.Narrowing.{Cut}
 use Rattle.label_scope.specs.Members.{Member, worked, worked_conditions, middle, passed, member}
 use Rattle.plan_cache.specs.Operations.{OpTerm, InTurn, OneOf, Times, PartTerm, Asks, Leads, BothHold, EitherHolds as EitherIs, Fails, op_children, part_children}
 use Rattle.plan_cache.specs.Nodes.{PlanNode, IsOperation, IsWalkScope, narrowed_member, conditions, parts, parts_of, path_at, read_back, test_read_back}
-use Rattle.path_eval.specs.Evaluated.{AllFit, IsRight, members_of, member_relation}
+use Rattle.plan_cache.specs.RightRows.{AllFit, IsRight, members_of, member_relation}
 use Rattle.path_eval.specs.Made.{MaybeRows, IsMade, AreMade, HasParts}
 use Rattle.path_eval.specs.Working.{WorksOutAs}
 use Rattle.path_eval.proofs.MembersWithin.{none_fit, fit_both}

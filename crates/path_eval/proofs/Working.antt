@@ -21,7 +21,7 @@ use Rattle.label_scope.proofs.Within.{narrowed_cut, widened_cut}
 use Rattle.condition_eval.specs.Combined.{MarkedToItself}
 use Rattle.condition_eval.specs.Marking.{AreMarks}
 use Rattle.condition_eval.specs.Tested.{HoldsAt}
-use Rattle.path_eval.specs.Evaluated.{AllFit}
+use Rattle.plan_cache.specs.RightRows.{AllFit}
 use Rattle.path_eval.specs.WithinBoth.{AreWithinBoth}
 use Rattle.path_eval.specs.Powers.{GivesMember, repetition_member, repetition_members}
 use Rattle.path_eval.specs.Working.{WorksOutAs}

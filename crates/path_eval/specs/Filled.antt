@@ -5,7 +5,8 @@ use Rattle.plan_cache.specs.Nodes.{PlanNode, Kept, Table}
 use Rattle.plan_cache.specs.KeptRows.{rows_kept, AllKept, Stays}
 use Rattle.plan_cache.specs.declared.shelf.TheConstants.{MAX_KEPT_ROWS}
 use Rattle.path_eval.specs.declared.basis.Ground.{Ground}
-use Rattle.path_eval.specs.Evaluated.{IsRight, NeedsWide}
+use Rattle.plan_cache.specs.RightRows.{IsRight}
+use Rattle.path_eval.specs.Evaluated.{NeedsWide}
 use Rattle.path_eval.specs.Keeping.{IsReached, KeepsOnlyReached, KeptOrFull}
 use Rattle.path_eval.specs.Made.{MaybeRows, IsMade, HasParts}
 

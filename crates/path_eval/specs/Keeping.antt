@@ -9,7 +9,7 @@ use Rattle.plan_cache.specs.Nodes.{PlanNode, Kept, Table}
 use Rattle.plan_cache.specs.Growing.{IsChild}
 use Rattle.plan_cache.specs.KeptRows.{rows_kept}
 use Rattle.plan_cache.specs.declared.shelf.TheConstants.{MAX_KEPT_ROWS}
-use Rattle.path_eval.specs.Evaluated.{member_relation}
+use Rattle.plan_cache.specs.RightRows.{member_relation}
 
 -- nothing is kept at the node x, and y is a child of it
 abbrev pub LeadsTo : List PlanNode → List Kept → ℕ → ℕ → Type 0

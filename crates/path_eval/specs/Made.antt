@@ -5,7 +5,7 @@ use Rattle.relation_rows.specs.declared.rows.Row.{Row}
 use Rattle.path_ast.specs.Sizes.{IsPathInRange}
 use Rattle.label_scope.specs.Members.{Member}
 use Rattle.plan_cache.specs.Nodes.{PlanNode, parts_of}
-use Rattle.path_eval.specs.Evaluated.{IsRight}
+use Rattle.plan_cache.specs.RightRows.{IsRight}
 
 -- what is there of a node: its rows, or nothing
 abbrev pub MaybeRows : Type 0

@@ -15,7 +15,8 @@ use Rattle.label_scope.specs.Scopes.{IsWithin}
 use Rattle.label_scope.specs.Narrowing.{Cut}
 use Rattle.label_scope.specs.Members.{Member, powers_within, unions_within, further}
 use Rattle.repeat_engine.specs.Relations.{RelationTerm, Relates, RelatesAlike, IsBetween}
-use Rattle.path_eval.specs.Evaluated.{member_relation, AllFit, SomeIsWide}
+use Rattle.plan_cache.specs.RightRows.{member_relation, AllFit}
+use Rattle.path_eval.specs.Evaluated.{SomeIsWide}
 pub mod Lawful
 
 -- it is a point of the graph, which is a good one, and its object is within the scope

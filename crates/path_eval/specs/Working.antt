@@ -12,7 +12,8 @@ use Rattle.label_scope.specs.Narrowing.{Cut}
 use Rattle.label_scope.specs.Members.{Member}
 use Rattle.plan_cache.specs.Operations.{PartTerm, Asks, Leads, BothHold, EitherHolds, Fails}
 use Rattle.path_eval.specs.declared.basis.Ground.{Ground}
-use Rattle.path_eval.specs.Evaluated.{AllFit, SomeIsWide, members_of}
+use Rattle.plan_cache.specs.RightRows.{AllFit, members_of}
+use Rattle.path_eval.specs.Evaluated.{SomeIsWide}
 
 -- the normal rows of the relation, where each of the members fits; `Wide` where one of them doesn't; memory may run out
 abbrev pub WorksOutAs : Result (List Row) RelFault → Relation → Graph → ℕ → List Member → Type 0

@@ -7,7 +7,8 @@ ghost use Rattle.std.specs.Prelude.{◌≡◌, ◌<◌, ◌⊎◌, length, slice
 ghost use Rattle.itpg_base.specs.Graphs.{Good};
 ghost use Rattle.plan_cache.specs.Nodes.{AreShared};
 ghost use Rattle.plan_cache.specs.KeptRows.{AllKept, Stays};
-ghost use Rattle.path_eval.specs.Evaluated.{IsRight, NeedsWide};
+ghost use Rattle.plan_cache.specs.RightRows.{IsRight};
+ghost use Rattle.path_eval.specs.Evaluated.{NeedsWide};
 ghost use Rattle.path_eval.specs.Keeping.{KeepsOnlyReached, KeepsReached};
 ghost use Rattle.path_eval.specs.Filled.{IsRightAt, IsWideAt, HasPartsAt, KeepsRight, KeepsAt, KeepsRows, KeepsWell, IsFilling};
 

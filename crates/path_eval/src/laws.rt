@@ -10,7 +10,8 @@ ghost use Rattle.path_ast.specs.Meaning.{Rel};
 ghost use Rattle.label_scope.specs.declared.scope.Scope.{Scope};
 ghost use Rattle.label_scope.specs.Narrowing.{Cut};
 ghost use Rattle.label_scope.specs.Members.{Member};
-ghost use Rattle.path_eval.specs.Evaluated.{AllFit, SomeIsWide, CutToPicked};
+ghost use Rattle.plan_cache.specs.RightRows.{AllFit};
+ghost use Rattle.path_eval.specs.Evaluated.{SomeIsWide, CutToPicked};
 ghost use Rattle.path_eval.specs.Answering.{DepartsAt, ArrivesAt};
 
 /// On every graph the relation of a path, repetitions among them, between two scopes has exactly one normal list of rows.

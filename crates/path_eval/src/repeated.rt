@@ -17,7 +17,8 @@ ghost use Rattle.path_ast.specs.Terms.{Repetition};
 ghost use Rattle.path_ast.specs.Sizes.{AreInRange};
 ghost use Rattle.label_scope.specs.Narrowing.{Cut};
 ghost use Rattle.label_scope.specs.Members.{passed as passed_scope, unions_within, further};
-ghost use Rattle.path_eval.specs.Evaluated.{AllFit, SomeIsWide};
+ghost use Rattle.plan_cache.specs.RightRows.{AllFit};
+ghost use Rattle.path_eval.specs.Evaluated.{SomeIsWide};
 ghost use Rattle.path_eval.specs.Ready.{IsReady, body_of};
 ghost use Rattle.path_eval.specs.Powers.{GivesPairs, GivesMember, HoldsFitting, IsRest, left_over, repetition_member, repetition_members};
 

@@ -33,18 +33,34 @@ all_in_whole nodes x [] (m ∷ ms) h = h
 all_in_whole nodes x (k ∷ ks) [] h = h
 all_in_whole nodes x (k ∷ ks) (m ∷ ms) h = (in_whole nodes x k m h.0, all_in_whole nodes x ks ms h.1)
 
-same_member : (m n : Member) → m.path ≡ n.path → m.sources ≡ n.sources → m.targets ≡ n.targets → m ≡ n
+pub same_member : (m n : Member) → m.path ≡ n.path → m.sources ≡ n.sources → m.targets ≡ n.targets → m ≡ n
 same_member m n e f g = of m.path n.path m.sources n.sources m.targets n.targets e f g
   where
     of : (p q : PathTerm) (s a t b : Scope) → p ≡ q → s ≡ a → t ≡ b → (let x : Member = record { path = p; sources = s; targets = t } in x) ≡ record { path = q; sources = a; targets = b }
     of p q s a t b e f g = cc
 
 -- nodes of the same members have the same paths
-agree : (old nodes : List PlanNode) (f : ℕ → ℕ) (ks : List ℕ) (ms : List Member) → AreNodesOf old (map f ks) ms → AreNodesOf nodes ks ms → (k : ℕ) → Among ks k → path_at old (f k) ≡ path_at nodes k
+pub agree : (old nodes : List PlanNode) (f : ℕ → ℕ) (ks : List ℕ) (ms : List Member) → AreNodesOf old (map f ks) ms → AreNodesOf nodes ks ms → (k : ℕ) → Among ks k → path_at old (f k) ≡ path_at nodes k
 agree old nodes f [] ms h g k i = absurd i
 agree old nodes f (j ∷ ks) [] h g k i = absurd g
 agree old nodes f (j ∷ ks) (m ∷ ms) h g k (inl e) = subst (λ (v : ℕ). path_at old (f v) ≡ path_at nodes v) e (path_of_node old (f j) m h.0 ∙ sym (path_of_node nodes j m g.0))
 agree old nodes f (j ∷ ks) (m ∷ ms) h g k (inr i) = agree old nodes f ks ms h.1 g.1 k i
+
+-- a number that is put behind others
+pub at_end : (k e : ℕ) → k < suc e → (k < e) ⊎ (k ≡ e)
+at_end zero zero l = inr refl
+at_end zero (suc e) l = inl (omega arith)
+at_end (suc k) zero l = absurd (let none : ⊥ = omega arith in none)
+at_end (suc k) (suc e) l = elim (at_end k e (omega arith)) [ inl h ↦ inl (omega arith) | inr f ↦ inr (ap suc f) ]
+
+pub first_number : (was : PlanNo) (xs : List PlanNo) (k : ℕ) → k < length xs → number_at (xs ++ was ∷ []) k ≡ number_at xs k
+first_number was [] k l = absurd (let none : ⊥ = omega arith in none)
+first_number was (y ∷ xs) zero l = refl
+first_number was (y ∷ xs) (suc k) l = first_number was xs k (omega arith)
+
+pub last_number : (was : PlanNo) (xs : List PlanNo) → number_at (xs ++ was ∷ []) (length xs) ≡ was.0
+last_number was [] = refl
+last_number was (y ∷ xs) = last_number was xs
 
 module _ (old nodes : List PlanNode) (shared : AreShared old) where
   -- the first nodes, below x, have these former numbers
@@ -137,29 +153,14 @@ module _ (old nodes : List PlanNode) (shared : AreShared old) where
   pub one_more_former : (former : List PlanNo) (was : PlanNo) → AreFormer old nodes former → IsSomeAnd (slice_get nodes (length former)) (λ n. IsFormerOf old n.member was.0) → AreFormer old nodes (former ++ was ∷ [])
   one_more_former former was are h = λ k m l g. (let long = length-append former (was ∷ []) in by k m (at_end k (length former) (omega arith)) g)
     where
-      at_end : (k e : ℕ) → k < suc e → (k < e) ⊎ (k ≡ e)
-      at_end zero zero l = inr refl
-      at_end zero (suc e) l = inl (omega arith)
-      at_end (suc k) zero l = absurd (let none : ⊥ = omega arith in none)
-      at_end (suc k) (suc e) l = elim (at_end k e (omega arith)) [ inl h ↦ inl (omega arith) | inr f ↦ inr (ap suc f) ]
-
-      first_number : (xs : List PlanNo) (k : ℕ) → k < length xs → number_at (xs ++ was ∷ []) k ≡ number_at xs k
-      first_number [] k l = absurd (let none : ⊥ = omega arith in none)
-      first_number (y ∷ xs) zero l = refl
-      first_number (y ∷ xs) (suc k) l = first_number xs k (omega arith)
-
-      last_number : (xs : List PlanNo) → number_at (xs ++ was ∷ []) (length xs) ≡ was.0
-      last_number [] = refl
-      last_number (y ∷ xs) = last_number xs
-
       by : (k : ℕ) (m : Member) → (k < length former) ⊎ (k ≡ length former) → IsNodeOf nodes k m → IsFormerOf old m (number_at (former ++ was ∷ []) k)
-      by k m (inl l) g = subst (IsFormerOf old m) (sym (first_number former k l)) (are k m l g)
+      by k m (inl l) g = subst (IsFormerOf old m) (sym (first_number was former k l)) (are k m l g)
       by k m (inr e) g =
           let n = there nodes (length former) (λ n. IsFormerOf old n.member was.0) h in
           let y = the_node nodes k m g in
           let is = same_some n.0 y.0 (slice_get nodes (length former)) n.1 (ap (slice_get nodes) (sym e) ∙ y.1) in
           let same = ap (λ (v : PlanNode). v.member) is ∙ y.2 in
-          subst (IsFormerOf old m) (sym (ap (number_at (former ++ was ∷ [])) e ∙ last_number former)) (subst (λ (v : Member). IsFormerOf old v was.0) same n.2)
+          subst (IsFormerOf old m) (sym (ap (number_at (former ++ was ∷ [])) e ∙ last_number was former)) (subst (λ (v : Member). IsFormerOf old v was.0) same n.2)
 
   -- nodes of one table had different numbers
   pub former_apart : AreShared nodes → (former : List PlanNo) → length former ≤ length nodes → AreFormer old nodes former → AreFormerApart (length old) former

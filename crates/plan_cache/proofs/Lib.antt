@@ -16,6 +16,7 @@ mod Free
 mod Sought
 mod Renumbered
 mod Former
+mod Copied
 mod Moved
 mod Refilled
 pub mod Parts

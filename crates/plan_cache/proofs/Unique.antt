@@ -38,7 +38,7 @@ same_numbers nodes one (k ∷ ks) (l ∷ ls) (m ∷ ms) h g =
     cc
 
 -- what stands in the first so many
-in_first : (xs : List PlanNode) (b i : ℕ) (x : PlanNode) → slice_get (take b xs) i ≡ Some x → (i < b) × (slice_get xs i ≡ Some x)
+pub in_first : (xs : List PlanNode) (b i : ℕ) (x : PlanNode) → slice_get (take b xs) i ≡ Some x → (i < b) × (slice_get xs i ≡ Some x)
 in_first [] zero i x e = cc
 in_first [] (suc b) i x e = cc
 in_first (y ∷ xs) zero i x e = cc

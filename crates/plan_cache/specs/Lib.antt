@@ -4,6 +4,7 @@ pub mod Growing
 pub mod Stored
 pub mod Footprints
 pub mod KeptRows
+pub mod RightRows
 pub mod Shelves
 pub mod Refilled
 pub mod Former

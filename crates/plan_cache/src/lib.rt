@@ -5,6 +5,7 @@
 //! query adds no more nodes than its path has terms.
 #![tactic(auto)]
 
+mod copying;
 mod feet;
 mod interning;
 mod key;

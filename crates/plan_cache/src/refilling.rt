@@ -126,8 +126,16 @@ fn former_number(
     }
 }
 
-// The key of the node, over the numbers that its children had.
-fn former_key(nodes: &Nodes, former: &[PlanNo], no: PlanNo) -> Result<PlanKey, AllocError>
+/// The key of the node, over the numbers that its children had.
+///
+/// # Errors
+///
+/// If memory runs out.
+pub(crate) fn former_key(
+    nodes: &Nodes,
+    former: &[PlanNo],
+    no: PlanNo,
+) -> Result<PlanKey, AllocError>
     requires { no.0 < length nodes.now }
     ensures { IfOk result (λ key. IsSomeAnd (slice_get nodes.now no.0) (λ n. IsFormerKey nodes.now former.now n key)) }
 {

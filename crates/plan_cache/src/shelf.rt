@@ -1,6 +1,6 @@
 //! What each node's relation depends on, and the relation, if it is kept.
 ghost use Rattle.std.specs.Prelude.{◌≡◌, ◌+◌, ◌<◌, ◌≤◌, ◌↔◌, [], ◌∷◌, ◌++◌, Some, None, option_map};
-ghost use Rattle.std.specs.Prelude.{length, take, slice_get, slice_set, IfErr, OnOk, OnErr, IsOk, IsSomeAnd};
+ghost use Rattle.std.specs.Prelude.{length, take, slice_get, slice_set, IfOk, IfErr, OnOk, OnErr, IsOk, IsSomeAnd};
 ghost use Rattle.plan_cache.specs.KeptRows.{rows_in, rows_kept, AddsFree, Forgets};
 ghost use Rattle.plan_cache.specs.Shelves.{LosesAt, relations_in};
 
@@ -142,6 +142,27 @@ impl Shelf {
         self.feet.len()
     }
 
+    /// The same places, at which the same relations are kept.
+    pub(crate) fn copy(&self) -> Result<Shelf, AllocError>
+        ensures { IfOk result (λ copy. copy ≡ self.now) }
+    {
+        let alloc = *self.feet.allocator();
+        let mut feet = Vec::with_capacity(alloc, self.feet.len())?;
+        for foot in &self.feet {
+            feet.push(foot.copy(alloc)?)?;
+        }
+        let mut kept = Vec::with_capacity(alloc, self.kept.len())?;
+        for relation in &self.kept {
+            kept.push(shared(relation)?)?;
+        }
+        Ok(Shelf {
+            feet,
+            kept,
+            rows: self.rows,
+            count: self.count,
+        })
+    }
+
     /// The footprints, in order of the places.
     pub(crate) fn feet(&self) -> &[Footprint]
         ensures { result.now ≡ self.now.feet }
@@ -188,6 +209,16 @@ impl Shelf {
         self.rows -= rows_of(&taken);
         self.count -= count_of(&taken);
         taken
+    }
+}
+
+// The same relation, if one is kept there.
+fn shared(kept: &Option<Rc<Relation>>) -> Result<Option<Rc<Relation>>, AllocError>
+    ensures { IfOk result (λ copy. option_map (λ r. r.value) copy ≡ option_map (λ r. r.value) kept.now) }
+{
+    match kept {
+        Some(relation) => Ok(Some(relation.clone()?)),
+        None => Ok(None),
     }
 }
 
