@@ -1,0 +1,11 @@
+pub mod Agreeing
+pub mod Bounds
+pub mod Cuts
+pub mod Edits
+pub mod Finding
+pub mod Gaining
+pub mod Meeting
+pub mod Nearing
+pub mod Parts
+pub mod Untouched
+pub mod Walking
