@@ -19,6 +19,7 @@ use Rattle.edit_reader.specs.Steps.{is_near}
 use Rattle.edit_reader.proofs.PartFaults.{near_moment, far_moment}
 use Rattle.edit_reader.specs.Labels.{listed}
 use Rattle.edit_reader.proofs.LabelForms.{node_moments, edge_moments, node_labels, edge_labels}
+use Rattle.edit_reader.proofs.PinForms.{is_in}
 
 -- a number that isn't no moment is one
 moment_there : (number : List ℕ) → ¬ (¬ IsMoment (number_value number)) → IsMoment (number_value number)
@@ -53,6 +54,9 @@ form_moments text Command.Watch (AWord name ∷ rest) reading e none = same_mome
 form_moments text Command.Show (AWord name ∷ []) reading e none = same_moments e tt
 form_moments text Command.Unwatch (AWord name ∷ []) reading e none = same_moments e tt
 form_moments text Command.Tick [] reading e none = same_moments e tt
+form_moments text Command.Open (AWord name ∷ []) reading e none = same_moments e tt
+form_moments text Command.Close (AWord name ∷ []) reading e none = same_moments e tt
+form_moments text Command.In (AWord name ∷ AWord word ∷ rest) reading e none = subst AsksOfMoments (sym (is_in name word (text 2) reading e)) tt
 form_moments text _ _ reading e none = absurd (let never : ⊥ = cc in never)
 
 tokens_moments : (line : List ℕ) (tokens : List Placed) (reading : Reading) → form_of line tokens ≡ Some reading → ¬ HasFarNumber (parts_of tokens) → AsksOfMoments reading
@@ -96,6 +100,9 @@ form_labels text Command.Watch (AWord name ∷ rest) reading e = same_labels e t
 form_labels text Command.Show (AWord name ∷ []) reading e = same_labels e tt
 form_labels text Command.Unwatch (AWord name ∷ []) reading e = same_labels e tt
 form_labels text Command.Tick [] reading e = same_labels e tt
+form_labels text Command.Open (AWord name ∷ []) reading e = same_labels e tt
+form_labels text Command.Close (AWord name ∷ []) reading e = same_labels e tt
+form_labels text Command.In (AWord name ∷ AWord word ∷ rest) reading e = subst AsksForLabels (sym (is_in name word (text 2) reading e)) tt
 form_labels text _ _ reading e = absurd (let never : ⊥ = cc in never)
 
 tokens_labels : (line : List ℕ) (tokens : List Placed) (reading : Reading) → form_of line tokens ≡ Some reading → AsksForLabels reading

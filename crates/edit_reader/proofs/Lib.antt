@@ -14,4 +14,5 @@ pub mod Firsts
 pub mod Whole
 pub mod LongLines
 pub mod LabelForms
+pub mod PinForms
 pub mod InRange

@@ -1,4 +1,4 @@
--- The seventeen command words.
+-- The twenty command words.
 use Rattle.std.specs.Prelude.{ℕ, nat_eq, List, [], ◌∷◌, codes, Option, None}
 use Rattle.std.specs.Cmp.Lexicographic.{pointwise}
 use Rattle.std.specs.List.{find}
@@ -24,11 +24,14 @@ command_word Command.Watch = codes "watch"
 command_word Command.Show = codes "show"
 command_word Command.Unwatch = codes "unwatch"
 command_word Command.Tick = codes "tick"
+command_word Command.Open = codes "open"
+command_word Command.Close = codes "close"
+command_word Command.In = codes "in"
 
 -- all commands
 abbrev pub commands : List Command
 commands =
-    Command.Live ∷ Command.Set ∷ Command.Node ∷ Command.Edge ∷ Command.Gone ∷ Command.Unset ∷ Command.Drop ∷ Command.Ask ∷ Command.Show ∷ Command.Tick ∷ Command.Watch ∷ Command.Unwatch ∷ Command.First ∷ Command.Last ∷ Command.Count ∷ Command.Extend ∷ Command.Graph ∷ []
+    Command.Live ∷ Command.Set ∷ Command.Node ∷ Command.Edge ∷ Command.Gone ∷ Command.Unset ∷ Command.Drop ∷ Command.Ask ∷ Command.Show ∷ Command.Tick ∷ Command.In ∷ Command.Watch ∷ Command.Unwatch ∷ Command.Open ∷ Command.Close ∷ Command.First ∷ Command.Last ∷ Command.Count ∷ Command.Extend ∷ Command.Graph ∷ []
 
 -- the command that has this word
 unfoldable pub command_of : List ℕ → Option Command

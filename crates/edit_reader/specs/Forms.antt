@@ -1,5 +1,6 @@
 -- The forms of a line.
-use Rattle.std.specs.Prelude.{ℕ, List, [], ◌∷◌, map, drop, take, Option, Some, None, slice_get}
+use Rattle.std.specs.Prelude.{ℕ, nat_eq, List, [], ◌∷◌, map, drop, take, Option, Some, None, slice_get, if◌then◌else◌}
+use Rattle.std.specs.Cmp.Lexicographic.{pointwise}
 use Rattle.std.specs.Option.{option_and_then, option_map_or}
 use Rattle.itpg_base.specs.Words.{Word}
 use Rattle.itpg_base.specs.declared.label_set.TheConstants.{MAX_LABELS}
@@ -9,8 +10,8 @@ use Rattle.script_lex.specs.Lines.{Placed}
 use Rattle.script_lex.specs.Numbers.{number_value}
 use Rattle.edit_reader.specs.declared.command.Command.{Command}
 use Rattle.edit_reader.specs.declared.line.Wanted.TheVariants.{First, Last, Count}
-use Rattle.edit_reader.specs.Readings.{Reading, Changes, Asks, Wants, Watches, Shows, Unwatches, Ticks}
-use Rattle.edit_reader.specs.Commands.{command_at}
+use Rattle.edit_reader.specs.Readings.{Reading, Changes, Asks, Wants, Watches, Shows, Unwatches, Ticks, Opens, Closes, AsksIn}
+use Rattle.edit_reader.specs.Commands.{command_word, command_at}
 use Rattle.edit_reader.specs.Labels.{listed, set_of}
 
 -- a node or an edge of these labels, with the tokens behind the labels
@@ -21,6 +22,10 @@ node_form id labels _ = None
 abbrev pub edge_form : Word → List Word → List Lexeme → Option Reading
 edge_form id labels (AWord source ∷ AWord target ∷ []) = Some (Changes (Edit.AddEdge id (set_of labels) source target))
 edge_form id labels _ = None
+
+-- the answer to a query text on a pin's graph, if the word behind the pin's name is `ask`
+abbrev pub in_form : Word → Word → List ℕ → Option Reading
+in_form name word text = if pointwise nat_eq (command_word Command.Ask) word then Some (AsksIn name text) else None
 
 -- what stands behind each command word, token by token, and what the line then asks for; no other tokens are a form.
 -- `text n` is the text of the line behind the token with the number n, where the command word has the number 0
@@ -43,6 +48,9 @@ form text Command.Watch (AWord name ∷ _) = Some (Watches name (text 1))
 form text Command.Show (AWord name ∷ []) = Some (Shows name)
 form text Command.Unwatch (AWord name ∷ []) = Some (Unwatches name)
 form text Command.Tick [] = Some Ticks
+form text Command.Open (AWord name ∷ []) = Some (Opens name)
+form text Command.Close (AWord name ∷ []) = Some (Closes name)
+form text Command.In (AWord name ∷ AWord word ∷ _) = in_form name word (text 2)
 form text _ _ = None
 
 -- which tokens those are, without their places
@@ -66,6 +74,7 @@ before_query Command.First parts = []
 before_query Command.Last parts = []
 before_query Command.Count parts = []
 before_query Command.Watch parts = take 1 parts
+before_query Command.In parts = take 2 parts
 before_query _ parts = parts
 
 -- the tokens of a line behind its command word, but without those of a query text

@@ -8,7 +8,8 @@ use Rattle.edit_reader.specs.declared.line.Wanted.{Wanted}
 use Rattle.edit_reader.specs.declared.line.Wanted.TheVariants.{First, Last, Count}
 
 -- nothing, a change of the graph, the answer to a query text, or its first arrivals, last departures or counts, to watch a
--- query text under a name, a watch's answer, to forget a watch, or the changes of all watches
+-- query text under a name, a watch's answer, to forget a watch, the changes of all watches, to pin the graph under a name, to
+-- give up a pin, or the answer to a query text on a pin's graph
 pub data Reading : Type 0 where
   Nothing : Reading
   Changes : Edit → Reading
@@ -18,6 +19,9 @@ pub data Reading : Type 0 where
   Shows : Word → Reading
   Unwatches : Word → Reading
   Ticks : Reading
+  Opens : Word → Reading
+  Closes : Word → Reading
+  AsksIn : Word → List ℕ → Reading
 
 -- what a line of the code asks for
 abbrev pub reading_of : Line → Reading
@@ -31,6 +35,9 @@ reading_of (Line.Watch name query) = Watches name query.now
 reading_of (Line.Show name) = Shows name
 reading_of (Line.Unwatch name) = Unwatches name
 reading_of Line.Tick = Ticks
+reading_of (Line.OpenPin name) = Opens name
+reading_of (Line.ClosePin name) = Closes name
+reading_of (Line.InPin name query) = AsksIn name query.now
 
 -- the answer of the code as plain data: what the line asks for, or its fault
 abbrev pub told : Result Line TextCode → Result Reading TextCode

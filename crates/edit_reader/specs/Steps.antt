@@ -1,6 +1,7 @@
 -- The tokens of a line taken one by one: no public clause names what stands here.
-use Rattle.std.specs.Prelude.{ℤ, ℕ, nat_le, Bool, List, [], ◌∷◌, length, Result, Ok, Err, if◌then◌else◌}
+use Rattle.std.specs.Prelude.{ℤ, ℕ, nat_eq, nat_le, Bool, List, [], ◌∷◌, length, Result, Ok, Err, if◌then◌else◌}
 use Rattle.std.specs.Str.Parse.{digits_value}
+use Rattle.std.specs.Cmp.Lexicographic.{pointwise}
 use Rattle.itpg_base.specs.Words.{Word}
 use Rattle.itpg_base.specs.declared.text_code.TextCode.{TextCode}
 use Rattle.std.specs.Option.{option_map_or}
@@ -11,7 +12,9 @@ use Rattle.script_lex.specs.declared.numbers.TheConstants.{MAX_NUMBER}
 use Rattle.itpg_edit.specs.declared.edit.Edit.{Edit}
 use Rattle.script_lex.specs.Lexemes.{Lexeme, AWord, ANumber, AQuote}
 use Rattle.script_lex.specs.Numbers.{digits_of, number_value}
-use Rattle.edit_reader.specs.Readings.{Reading, Changes, Watches, Shows, Unwatches, Ticks}
+use Rattle.edit_reader.specs.declared.command.Command.{Command}
+use Rattle.edit_reader.specs.Commands.{command_word}
+use Rattle.edit_reader.specs.Readings.{Reading, Changes, Watches, Shows, Unwatches, Ticks, Opens, Closes, AsksIn}
 
 -- what a line asks for, or its fault
 abbrev pub Told : Type 0
@@ -121,3 +124,16 @@ unwatch_told parts = only_name_then parts (λ name. Ok (Unwatches name))
 
 abbrev pub tick_told : List Lexeme → Told
 tick_told parts = end_then parts (Ok Ticks)
+
+abbrev pub open_told : List Lexeme → Told
+open_told parts = only_name_then parts (λ name. Ok (Opens name))
+
+abbrev pub close_told : List Lexeme → Told
+close_told parts = only_name_then parts (λ name. Ok (Closes name))
+
+-- going on where the word is `ask`
+abbrev pub ask_then : Word → Told → Told
+ask_then word go_on = if pointwise nat_eq (command_word Command.Ask) word then go_on else Err TextCode.Text
+
+abbrev pub in_told : List ℕ → List Lexeme → Told
+in_told text parts = word_then parts (λ word behind. word_then behind (λ command rest. ask_then command (name_then word (λ name. Ok (AsksIn name text)))))

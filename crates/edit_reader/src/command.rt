@@ -21,10 +21,13 @@ pub(crate) enum Command {
     Show,
     Unwatch,
     Tick,
+    Open,
+    Close,
+    In,
 }
 
 // The words that scripts have most of stand first.
-const COMMANDS: [Command; 17] = [
+const COMMANDS: [Command; 20] = [
     Command::Live,
     Command::Set,
     Command::Node,
@@ -35,8 +38,11 @@ const COMMANDS: [Command; 17] = [
     Command::Ask,
     Command::Show,
     Command::Tick,
+    Command::In,
     Command::Watch,
     Command::Unwatch,
+    Command::Open,
+    Command::Close,
     Command::First,
     Command::Last,
     Command::Count,
@@ -76,6 +82,9 @@ impl Command {
             Command::Show => b"show",
             Command::Unwatch => b"unwatch",
             Command::Tick => b"tick",
+            Command::Open => b"open",
+            Command::Close => b"close",
+            Command::In => b"in",
         }
     }
 }

@@ -12,6 +12,7 @@ mod labels;
 mod laws;
 mod line;
 mod parts;
+mod pins;
 mod reading;
 
 pub use laws::{law_of_labels, law_of_lines, law_of_long_lines, law_of_moments};

@@ -9,6 +9,7 @@ use itpg_edit::Edit;
 ///     ask MATCH (x:Person)             Ask:  " MATCH (x:Person)"
 ///     count MATCH (x:Person)           Count: " MATCH (x:Person)"
 ///     watch w MATCH (x:Person)         Watch w, " MATCH (x:Person)"
+///     in s ask MATCH (x:Person)        InPin s, " MATCH (x:Person)"
 /// ```
 #[derive(Clone, Copy)]
 pub enum Line<'a> {
@@ -32,6 +33,12 @@ pub enum Line<'a> {
     Unwatch(Name),
     /// The changes of all watches.
     Tick,
+    /// To pin the graph as it stands under this name.
+    OpenPin(Name),
+    /// To give up the pin of this name.
+    ClosePin(Name),
+    /// The answer to a query text on the graph of the pin of this name: the bytes behind the word `ask`.
+    InPin(Name, &'a [u8]),
 }
 
 /// What the lines `first`, `last` and `count` want of a query text.

@@ -15,6 +15,7 @@ use crate::edits::{begin, clear, edge, extend, gone, live, node, put, remove};
 use crate::faults::{check_tokens, is_silent, without_end};
 use crate::line::Line;
 use crate::parts::{Parts, name};
+use crate::pins::{ask_in, close, open};
 use itpg_base::TextCode;
 
 /// How many bytes a line may have, without one last CR.
@@ -27,6 +28,7 @@ pub const MAX_LINE: usize = 65_536;
 ///     live a 0 20            Edit: Live { id: a, from: 0, to: 20 }
 ///     set a p 'in use' 0 9   Edit: Put { id: a, prop: p, value: in use, from: 0, to: 9 }
 ///     watch w (x:Person)     Watch w, " (x:Person)"
+///     in s ask (x:Person)    InPin s, " (x:Person)"
 ///     live a 0 - 9           fault Byte: the `-` stands directly before no digit
 ///     show                   fault Text
 /// ```
@@ -78,6 +80,7 @@ fn read_command(command: Command, parts: Parts<'_>) -> Result<Line<'_>, TextCode
     ensures { OfRest parts.entry.line.now parts.entry.at (λ tokens. (text : ℕ → List ℕ) →
         text 0 ≡ drop parts.entry.at parts.entry.line.now →
         text 1 ≡ bytes_behind parts.entry.line.now (slice_get tokens 0) →
+        text 2 ≡ bytes_behind parts.entry.line.now (slice_get tokens 1) →
         told result ≡ form_told (form text command (lexemes tokens))
         (before_query command (lexemes tokens))) }
 {
@@ -99,6 +102,9 @@ fn read_command(command: Command, parts: Parts<'_>) -> Result<Line<'_>, TextCode
         Command::Show => show(parts),
         Command::Unwatch => unwatch(parts),
         Command::Tick => tick(parts),
+        Command::Open => open(parts),
+        Command::Close => close(parts),
+        Command::In => ask_in(parts),
     }
 }
 

@@ -8,7 +8,8 @@ written COUNT times, or `byte COUNT NUMBER`, this byte COUNT times.
     show NAME                      edge ID LABELS SOURCE TARGET       put ID PROP 'VALUE' FROM TO
     unwatch NAME                   live ID FROM TO                    clear ID PROP FROM TO
     tick                           gone ID FROM TO                    remove ID
-    extend LO HI
+    extend LO HI                   open NAME                          in NAME FROM TO
+    close NAME
 
 The labels stand by rising name, each once, with commas between them. The two numbers of a query text are its first byte's place in the line and the place behind its last.
 
@@ -36,6 +37,8 @@ FORMS = {
     b"show": ("w", "show {}"),
     b"unwatch": ("w", "unwatch {}"),
     b"tick": ("", "tick"),
+    b"open": ("w", "open {}"),
+    b"close": ("w", "close {}"),
 }
 
 
@@ -80,6 +83,12 @@ def reading_of(line):
         if len(parts[0][1]) > 64:
             return "fault name"
         return f"watch {parts[0][1].decode()} {parts[0][2]} {len(line)}"
+    if command == b"in":
+        if len(parts) < 2 or parts[0][0] != "w" or parts[1][:2] != ("w", b"ask"):
+            return "fault text"
+        if len(parts[0][1]) > 64:
+            return "fault name"
+        return f"in {parts[0][1].decode()} {parts[1][2]} {len(line)}"
     kinds = "".join(text.decode() if kind == "m" else kind for kind, text, _ in parts)
     form = command in FORMS and re.fullmatch(FORMS[command][0].replace("L", LABELS), kinds)
     if not form:
@@ -111,7 +120,7 @@ by_hand = [
     ([(1, " "), (1, "\t"), (1, "# live"), (1, "\x00"), (1, "'"), (1, "\xff")], "blank"),
     ([(1, "# two"), (2, "\r")], "blank"),
     ([(1, "tick # x")], "fault byte"),
-    # the seventeen forms
+    # the twenty forms
     ([(1, "graph g -5 100")], "begin g -5 100"),
     ([(1, "extend -5 100")], "extend -5 100"),
     ([(1, "node a Person")], "node a Person"),
@@ -129,6 +138,9 @@ by_hand = [
     ([(1, "show w")], "show w"),
     ([(1, "unwatch w")], "unwatch w"),
     ([(1, "tick")], "tick"),
+    ([(1, "open s")], "open s"),
+    ([(1, "close s")], "close s"),
+    ([(1, "in s ask MATCH (x:Person)")], "in s 8 25"),
     # each with a CR, and with blanks round its tokens
     ([(1, "graph g 0 1"), (1, "\r")], "begin g 0 1"),
     ([(1, "extend 0 1"), (1, "\r")], "extend 0 1"),
@@ -138,12 +150,17 @@ by_hand = [
     ([(1, "watch w x"), (1, "\r")], "watch w 7 9"),
     ([(1, "show w"), (1, "\r")], "show w"),
     ([(1, "tick"), (1, "\r")], "tick"),
+    ([(1, "open s"), (1, "\r")], "open s"),
+    ([(1, "close s"), (1, "\r")], "close s"),
+    ([(1, "in s ask x"), (1, "\r")], "in s 8 10"),
+    ([(1, "in s ask"), (1, "\r")], "in s 8 8"),
     ([(1, "tick"), (2, "\r")], "fault byte"),
     ([(1, "ask x"), (2, "\r")], "fault byte"),
     ([(1, "tick"), (1, "\r"), (1, "x")], "fault byte"),
     ([(2, " "), (1, "live"), (2, "\t"), (1, "a"), (1, " "), (1, "0  9"), (3, " ")], "live a 0 9"),
     ([(2, " "), (1, "ask"), (2, " "), (1, "x"), (2, "\t")], "ask 5 10"),
     ([(1, "\t"), (1, "watch  w"), (3, " ")], "watch w 9 12"),
+    ([(1, "\t"), (1, "in  s"), (2, "\t"), (1, "ask"), (3, " ")], "in s 11 14"),
     # tokens that need no blank between them
     ([(1, "set a p'v'0 9")], "put a p 'v' 0 9"),
     ([(1, "set a p'v'-1-2")], "put a p 'v' -1 -2"),
@@ -159,6 +176,12 @@ by_hand = [
     ([(1, "ask"), (1, " ")], "ask 3 4"),
     ([(1, "count")], "count 5 5"),
     ([(1, "watch w")], "watch w 7 7"),
+    ([(1, "in s ask")], "in s 8 8"),
+    ([(1, "in s ask"), (1, " ")], "in s 8 9"),
+    ([(1, "in s ask(x)")], "in s 8 11"),
+    ([(1, "in s ask'x'")], "in s 8 11"),
+    ([(1, "in s ask7")], "fault text"),
+    ([(1, "ins ask x")], "fault text"),
     # command words as names, and words that are nearly commands
     ([(1, "live live 0 9")], "live live 0 9"),
     ([(1, "node node edge")], "node node edge"),
@@ -171,6 +194,12 @@ by_hand = [
     ([(1, "unwatch watch")], "unwatch watch"),
     ([(1, "watch ask ask")], "watch ask 9 13"),
     ([(1, "first first last")], "first 5 16"),
+    ([(1, "open open")], "open open"),
+    ([(1, "close in")], "close in"),
+    ([(1, "in in ask ask")], "in in 9 13"),
+    ([(1, "in ask ask ask ask")], "in ask 10 18"),
+    ([(1, "node open close")], "node open close"),
+    ([(1, "watch in ask x")], "watch in 8 14"),
     ([(1, "Tick")], "fault text"),
     ([(1, "TICK")], "fault text"),
     ([(1, "ticks")], "fault text"),
@@ -182,6 +211,15 @@ by_hand = [
     ([(1, "asks x")], "fault text"),
     ([(1, "lasts x")], "fault text"),
     ([(1, "Count x")], "fault text"),
+    ([(1, "Open s")], "fault text"),
+    ([(1, "opens s")], "fault text"),
+    ([(1, "clos s")], "fault text"),
+    ([(1, "In s ask x")], "fault text"),
+    ([(1, "i s ask x")], "fault text"),
+    ([(1, "inn s ask x")], "fault text"),
+    ([(1, "in s Ask x")], "fault text"),
+    ([(1, "in s asks x")], "fault text"),
+    ([(1, "in s as x")], "fault text"),
     ([(1, "foo")], "fault text"),
     ([(1, "7")], "fault text"),
     ([(1, "'tick'")], "fault text"),
@@ -259,6 +297,31 @@ by_hand = [
     ([(1, "show 7")], "fault text"),
     ([(1, "unwatch")], "fault text"),
     ([(1, "unwatch a b")], "fault text"),
+    ([(1, "open")], "fault text"),
+    ([(1, "open a b")], "fault text"),
+    ([(1, "open 7")], "fault text"),
+    ([(1, "open 's'")], "fault text"),
+    ([(1, "open s MATCH (x)")], "fault text"),
+    ([(1, "close")], "fault text"),
+    ([(1, "close a b")], "fault text"),
+    ([(1, "close (a)")], "fault text"),
+    ([(1, "in")], "fault text"),
+    ([(1, "in s")], "fault text"),
+    ([(1, "in ask")], "fault text"),
+    ([(1, "in ask x")], "fault text"),
+    ([(1, "in ask MATCH (x)")], "fault text"),
+    ([(1, "in s MATCH (x)")], "fault text"),
+    ([(1, "in 's' ask x")], "fault text"),
+    ([(1, "in 7 ask x")], "fault text"),
+    ([(1, "in s 'ask' x")], "fault text"),
+    ([(1, "in s 7 ask")], "fault text"),
+    ([(1, "in s, t ask x")], "fault text"),
+    ([(1, "in s t ask x")], "fault text"),
+    ([(1, "in s watch w x")], "fault text"),
+    ([(1, "in s first x")], "fault text"),
+    ([(1, "in s count x")], "fault text"),
+    ([(1, "in s show w")], "fault text"),
+    ([(1, "in s tick")], "fault text"),
     ([(1, "tick 1")], "fault text"),
     ([(1, "tick tick")], "fault text"),
     # bad bytes and open quotes
@@ -282,6 +345,11 @@ by_hand = [
     ([(1, "count x 'open")], "fault text"),
     ([(1, "ask x '")], "fault text"),
     ([(1, "watch w 'open")], "fault text"),
+    ([(1, "in s ask a-b")], "fault byte"),
+    ([(1, "in s ask x;")], "fault byte"),
+    ([(1, "in s ask x 'open")], "fault text"),
+    ([(1, "in 's ask x")], "fault text"),
+    ([(1, "in s-t ask x")], "fault byte"),
     ([(1, "set a p 'v 0 9")], "fault text"),
     ([(1, "set a p '' 0 9")], "put a p '' 0 9"),
     ([(1, "set a p 'in use # (~' 0 9")], "put a p 'in use # (~' 0 9"),
@@ -338,16 +406,27 @@ by_hand = [
     ([(1, f"unwatch {A65}")], "fault name"),
     ([(1, f"watch {A64} x")], f"watch {A64} 70 72"),
     ([(1, f"watch {A65} x")], "fault name"),
+    ([(1, f"open {A64}")], f"open {A64}"),
+    ([(1, f"open {A65}")], "fault name"),
+    ([(1, f"close {A64}")], f"close {A64}"),
+    ([(1, f"close {A65}")], "fault name"),
+    ([(1, f"in {A64} ask x")], f"in {A64} 71 73"),
+    ([(1, f"in {A65} ask x")], "fault name"),
+    ([(1, f"in {A65} ask")], "fault name"),
     ([(1, "show "), (60000, "a")], "fault name"),
     # what a query text may have
     ([(1, f"ask {A65} '{A65}' {MOST + 1}")], f"ask 3 {3 + 66 + 68 + 14}"),
     ([(1, f"watch w {A65} {MOST + 1}")], f"watch w 7 {7 + 66 + 14}"),
+    ([(1, f"in s ask {A65} '{A65}' {MOST + 1}")], f"in s 8 {8 + 66 + 68 + 14}"),
     ([(1, "ask )]} ((")], "ask 3 10"),
+    ([(1, "in s ask )]} ((")], "in s 8 15"),
     # how many tokens
     ([(1, "ask"), (4095, "(")], "ask 3 4098"),
     ([(1, "ask"), (4096, "(")], "fault tokens"),
     ([(1, "watch w"), (4094, "(")], "watch w 7 4101"),
     ([(1, "watch w"), (4095, "(")], "fault tokens"),
+    ([(1, "in s ask"), (4093, "(")], "in s 8 4101"),
+    ([(1, "in s ask"), (4094, "(")], "fault tokens"),
     ([(1, "ask"), (4095, "(-")], "fault byte"),
     ([(1, "ask "), (16000, "a-/")], "fault tokens"),
     ([(1, "ask "), (65000, "a")], "ask 3 65004"),
@@ -370,6 +449,9 @@ by_hand = [
     ([(1, "ask "), (65532, "a")], "ask 3 65536"),
     ([(1, "ask "), (65532, "a"), (1, "\r")], "ask 3 65536"),
     ([(1, "ask "), (65533, "a")], "fault long"),
+    ([(1, "in s ask "), (65527, "a")], "in s 8 65536"),
+    ([(1, "in s ask "), (65527, "a"), (1, "\r")], "in s 8 65536"),
+    ([(1, "in s ask "), (65528, "a")], "fault long"),
     ([(70000, "x")], "fault long"),
     # lines of whole scripts
     ([(1, "# contacts"), (1, "\r")], "blank"),
@@ -404,6 +486,12 @@ by_hand = [
     ([(1, f"{A65} x")], "fault text"),
     ([(1, f"show {A65} x")], "fault text"),
     ([(1, f"watch {A65} 'open")], "fault text"),
+    ([(1, f"open {A65} x")], "fault text"),
+    ([(1, f"in {A65} asks x")], "fault text"),
+    ([(1, f"in {A65} {A65} x")], "fault text"),
+    ([(1, f"in {A65} ask {MOST + 1}")], "fault name"),
+    ([(1, f"in {A65} ask 'open")], "fault text"),
+    ([(1, f"in s {A65} x")], "fault text"),
     ([(1, f"live {A65} 0 {MOST + 1}")], "fault number"),
     ([(1, f"set a p '{A65}' {MOST + 1} 0")], "fault number"),
     ([(1, f"graph {A65} -{MOST + 1} 0")], "fault number"),
@@ -421,7 +509,7 @@ def made_up(rng):
     command = rng.choice(sorted(FORMS)).decode()
     parts = [kinds[kind]() for kind in FORMS[command.encode()][0]]
     if rng.random() < 0.25:
-        command, parts = rng.choice(["ask", "watch", "watch w", "graph g"]), [rng.choice([word, number, quoted, other])() for _ in range(rng.randint(0, 5))]
+        command, parts = rng.choice(["ask", "watch", "watch w", "graph g", "in", "in s", "in s ask"]), [rng.choice([word, number, quoted, other])() for _ in range(rng.randint(0, 5))]
     for _ in range(rng.choice([0, 0, 0, 1, 1, 2])):
         at = rng.randint(0, len(parts))
         change = rng.randint(0, 2)

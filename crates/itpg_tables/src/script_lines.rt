@@ -82,6 +82,12 @@ fn describe(alloc: Global, line: &[u8]) -> Result<String> {
         Ok(Line::Show(name)) => Ok(format!(in alloc; "show {}", word(name)?)?),
         Ok(Line::Unwatch(name)) => Ok(format!(in alloc; "unwatch {}", word(name)?)?),
         Ok(Line::Tick) => Ok(format!(in alloc; "tick")?),
+        Ok(Line::OpenPin(name)) => Ok(format!(in alloc; "open {}", word(name)?)?),
+        Ok(Line::ClosePin(name)) => Ok(format!(in alloc; "close {}", word(name)?)?),
+        Ok(Line::InPin(name, query)) => {
+            let (from, to) = places(line, query)?;
+            Ok(format!(in alloc; "in {} {from} {to}", word(name)?)?)
+        }
         Err(code) => Ok(format!(in alloc; "fault {}", code.word())?),
     }
 }
