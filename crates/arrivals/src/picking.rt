@@ -85,7 +85,7 @@ fn is_of_key(row: &Row, first: &Row) -> bool
     row.source.0 == first.source.0 && row.target.0 == first.target.0
 }
 
-// How many of the rows, from the first on, have its source and its target.
+// How many of the rows, from the first on, have its source and its target. It looks at these and at the next one.
 fn key_count(rows: &[Row], first: &Row) -> usize
     requires order { Ordered RowBefore rows.now }
     requires first { slice_get rows.now 0 ≡ Some first.now }
@@ -94,7 +94,12 @@ fn key_count(rows: &[Row], first: &Row) -> usize
     ensures same { (r : PlainRow) → Among (take result rows.now) r → HasKey r first.now.source.0 first.now.target.0 }
     ensures later { (r : PlainRow) → Among (drop result rows.now) r → HasKey r first.now.source.0 first.now.target.0 → ⊥ }
 {
-    rows.partition_point(|row| is_of_key(row, first))
+    for (i, row) in rows.iter().enumerate() {
+        if !is_of_key(row, first) {
+            return i;
+        }
+    }
+    rows.len()
 }
 
 // What is kept of the pairs of the rows, which stand in order.

@@ -1,9 +1,10 @@
 -- Legs that are made of rows in order, one after the other.
-use Rattle.std.proofs.Common.{◌≡◌, ◌↔◌, ◌⊎◌, inl, inr, ℕ, ◌+◌, ◌<◌, ◌≤◌, ℤ, ◌≤ℤ◌, List, [], ◌∷◌, length, map, get_or, refl, sym, ◌∙◌, ap, subst, arith, false, true≢false}
+use Rattle.std.proofs.Common.{◌≡◌, ◌↔◌, ◌⊎◌, inl, inr, ℕ, ◌+◌, ◌<◌, ◌≤◌, ℤ, ◌≤ℤ◌, List, [], ◌∷◌, length, map, get_or, Some, refl, sym, ◌∙◌, ap, subst, arith, true, false, true≢false}
 use Rattle.std.proofs.lemmas.Int.{ints}
-use Rattle.std.specs.Ordering.{nat_cmp, int_cmp, is_lt, ordering_then}
+use Rattle.std.specs.Ordering.{nat_cmp, int_cmp, is_lt, is_le, is_some_and, ordering_then, partial_ordering_then}
 use Rattle.std.specs.declared.cmp.Ordering.{Ordering}
-use Rattle.std.specs.declared.cmp.Ordering.TheVariants.{Less, Equal}
+use Rattle.std.specs.declared.cmp.Ordering.TheVariants.{Less, Equal, Greater}
+use Rattle.std.specs.List.{AllAdjacentBelow}
 use Rattle.std.specs.List.Sorted.{IsPermutation}
 use Rattle.itpg_base.specs.Points.{Point}
 use Rattle.itpg_base.specs.Lists.{Among, Ordered}
@@ -56,6 +57,25 @@ pub sorted_rows : (rows : List Row)
     → ((k : ℕ) (d : Row) → 0 ≤ k → k + 1 < length rows → is_lt (ordering_then (nat_cmp (get_or rows (k + 1) d).source.0 (get_or rows k d).source.0) (int_cmp (get_or rows (k + 1) d).band.from (get_or rows k d).band.from)) ≡ false)
     → Ordered DepartsUpTo rows
 sorted_rows rows up = ordered_from_neighbours DepartsUpTo departs_trans rows (λ k d lt. up_to _ _ _ _ (up k d (omega arith) lt))
+
+-- rows that a look at neighbours finds in that order
+pub found_rows : (rows : List Row)
+    → AllAdjacentBelow (λ (r s : Row). true ≡ is_some_and is_le (partial_ordering_then (Some (nat_cmp r.source.0 s.source.0)) (Some (int_cmp r.band.from s.band.from)))) rows (length rows) → Ordered DepartsUpTo rows
+found_rows rows h = ordered_from_neighbours DepartsUpTo departs_trans rows (λ k d lt. le_up_to _ _ _ _ (h k d lt))
+  where
+    not_above : (a b : ℤ) → true ≡ is_le (int_cmp a b) → a ≤ℤ b
+    not_above a b e = grind (arith, ints)
+
+    le_up_to : (a b : ℕ) (c d : ℤ) → true ≡ is_some_and is_le (partial_ordering_then (Some (nat_cmp a b)) (Some (int_cmp c d))) → (a < b) ⊎ ((a ≡ b) × (c ≤ℤ d))
+    le_up_to a b c d h = first (compared a b)
+      where
+        le_of : (x : Ordering) (e : nat_cmp a b ≡ x) → true ≡ is_some_and is_le (partial_ordering_then (Some x) (Some (int_cmp c d)))
+        le_of x e = subst (λ (v : Ordering). true ≡ is_some_and is_le (partial_ordering_then (Some v) (Some (int_cmp c d)))) e h
+
+        first : Compared a b → (a < b) ⊎ ((a ≡ b) × (c ≤ℤ d))
+        first (less l e) = inl l
+        first (equal l e) = inr (l, not_above c d (le_of Equal e))
+        first (greater l e) = absurd (true≢false (le_of Greater e))
 
 module _ (rows sorted : List Row) (p : IsPermutation rows sorted) (legs : List Leg) (are : map row_of legs ≡ sorted) where
   pub leg_row : (s : Leg) → Among legs s → Among rows s.row

@@ -1,26 +1,25 @@
 -- A union, one source and target after the other.
-use Rattle.std.proofs.Common.{◌≡◌, ◌↔◌, ◌⊎◌, inl, inr, ⊎_elim, ℕ, zero, suc, ◌+◌, ◌-◌, ◌<◌, ◌≤◌, ℤ, List, [], ◌∷◌, ◌++◌, length, map, get_or, take, drop, Some, None, refl, sym, ◌∙◌, ap, subst, arith, Bool, true, false, true≢false}
+use Rattle.std.proofs.Common.{◌≡◌, ◌↔◌, ◌⊎◌, inl, inr, ⊎_elim, ℕ, zero, suc, ◌+◌, ◌<◌, ℤ, List, [], ◌∷◌, ◌++◌, length, map, get_or, take, drop, Some, None, refl, sym, ◌∙◌, ap, subst, arith, true, false, true≢false}
 use Rattle.std.specs.Prelude.{slice_get}
-use Rattle.std.specs.List.Sorted.{IsPartitionedBy, IsPartitionPoint}
-use Rattle.std.proofs.lemmas.List.{take_all, length-drop}
+use Rattle.std.proofs.lemmas.List.{length-drop, take_more}
 use Rattle.itpg_base.specs.Points.{Point}
 use Rattle.band_normal.specs.declared.band.Band.{Band}
 use Rattle.itpg_base.specs.Lists.{Among, Ordered}
 use Rattle.band_normal.specs.Bands.{InBand, IsWellFormed}
 use Rattle.band_normal.specs.Normal.{IsRow, IsBefore, Normal}
 use Rattle.band_normal.specs.Zones.{SomeMeets}
-use Rattle.itpg_base.proofs.Lists.{among_at, among_append}
+use Rattle.itpg_base.proofs.Lists.{among_at, among_append, ordered_from}
 use Rattle.band_normal.proofs.Sorting.{normal_like}
 use Rattle.relation_rows.specs.declared.rows.Row.{Row}
 use Rattle.relation_rows.specs.Rows.{between, HasKey, RowsHold, RowBefore, KeyBefore, NormalRows, IsWide, IsRelation, rows_at}
 use Rattle.relation_rows.specs.Relations.{Item, ItemsHold, EitherHolds}
 use Rattle.relation_rows.specs.Searching.{has_key, comes_before}
 use Rattle.relation_rows.specs.Uniting.{KeyUpTo, IsNext, SomeHasBand, EitherHas, IsPart, HasPushed}
-use Rattle.relation_rows.proofs.Listed.{Listed, normal_of, with_key, wide_early, key_apart, keys_apart, key_either, at_among, same_rows}
+use Rattle.relation_rows.proofs.Listed.{Listed, normal_of, with_key, wide_early, key_apart, key_either, at_among, same_rows}
 use Rattle.relation_rows.proofs.Alike.{row_alike}
-use Rattle.relation_rows.proofs.Keys.{comes_is, is_coming, key_is, is_key, key_partitioned}
+use Rattle.relation_rows.proofs.Keys.{comes_is, is_coming, key_is, is_key}
 use Rattle.relation_rows.proofs.Gathering.{some_meets, meets_some}
-use Rattle.relation_rows.proofs.Partitions.{among_before, among_behind, among_either, front_among, rest_among, rest_ordered, first_among, first_before, front_ordered, none_dropped, no_first}
+use Rattle.relation_rows.proofs.Partitions.{among_either, front_among, rest_among, rest_ordered, first_among, first_before, front_ordered, no_first}
 
 -- ---- the next row
 
@@ -78,35 +77,31 @@ next_of_second first second r s o q e f test =
 
 -- ---- the first rows that have the next row's source and target
 
-module _ (rows : List Row) (key : Row) (order : Ordered RowBefore rows) (up : (r : Row) → Among rows r → KeyUpTo key r) where
+before_up : (r s t : Row) → KeyBefore r.source.0 r.target.0 s.source.0 s.target.0 → KeyUpTo s t → KeyBefore r.source.0 r.target.0 t.source.0 t.target.0
+before_up r s t (inl c) (inl (inl d)) = inl (omega arith)
+before_up r s t (inl c) (inl (inr (e, d))) = inl (omega arith)
+before_up r s t (inr (e, c)) (inl (inl d)) = inl (omega arith)
+before_up r s t (inr (e, c)) (inl (inr (f, d))) = inr (e ∙ f, omega arith)
+before_up r s t a (inr b) = subst (λ (v : ℕ). KeyBefore r.source.0 r.target.0 v t.target.0) (sym b.0) (subst (λ (v : ℕ). KeyBefore r.source.0 r.target.0 s.source.0 v) (sym b.1) a)
+
+module _ (rows : List Row) (key : Row) where
   abbrev o : ℕ
   o = key.source.0
 
   abbrev p : ℕ
   p = key.target.0
 
-  none_before : (r : Row) → Among rows r → comes_before r o p ≡ false
-  none_before r a = test (comes_before r o p) refl
-    where
-      test : (b : Bool) → comes_before r o p ≡ b → comes_before r o p ≡ false
-      test false e = e
-      test true e = absurd (let k = comes_is r o p e in ⊎_elim (λ l. keys_apart _ _ _ _ k l) (λ m. key_apart _ _ _ _ k m.0 m.1) (up r a))
+  pub key_more : (i : ℕ) (d : Row) → i < length rows → ((r : Row) → Among (take i rows) r → HasKey r o p) → has_key (get_or rows i d) o p ≡ true → (r : Row) → Among (take (i + 1) rows) r → HasKey r o p
+  key_more i d lt all here r a = ⊎_elim
+      (λ b. all r b)
+      (λ b. ⊎_elim (λ (e : get_or rows i d ≡ r). key_is r o p (subst (λ (v : Row). has_key v o p ≡ true) e here)) (λ f. absurd f) b)
+      (among_append (take i rows) (get_or rows i d ∷ []) r (subst (λ (v : List Row). Among v r) (take_more rows i d lt) a))
 
-  start_point : IsPartitionPoint (λ (r : Row). comes_before r o p ≡ true) (λ (r : Row). comes_before r o p ≡ false) rows 0
-  start_point = (λ k d a b. absurd (omega arith), λ k d a lt. none_before (get_or rows k d) (among_at rows k d lt))
-
-  pub leading_partitioned : IsPartitionedBy (λ (r : Row). has_key r o p) rows
-  leading_partitioned = key_partitioned rows o p order 0 (omega arith) start_point rows
-      (sym (take_all (length rows - 0) (drop 0 rows) (subst (λ (v : List Row). length v ≤ length rows - 0) (sym (none_dropped rows)) (omega arith)) ∙ none_dropped rows))
-
-  module _ (n : ℕ) (bound : n ≤ length rows) (point : IsPartitionPoint (λ (r : Row). has_key r o p ≡ true) (λ (r : Row). has_key r o p ≡ false) rows n) where
-    pub leading_same : (r : Row) → Among (take n rows) r → HasKey r o p
-    leading_same r a = key_is r o p (among_before (λ (s : Row). has_key s o p ≡ true) rows n bound point.0 r a)
-
-    pub leading_later : (r : Row) → Among (drop n rows) r → KeyBefore o p r.source.0 r.target.0
-    leading_later r a = ⊎_elim (λ b. b)
-        (λ k. absurd (true≢false (sym (is_key r o p k) ∙ among_behind (λ (s : Row). has_key s o p ≡ false) rows n bound point.1 r a)))
-        (up r (rest_among rows n r a))
+  module _ (order : Ordered RowBefore rows) (up : (r : Row) → Among rows r → KeyUpTo key r) where
+    pub later_scanned : (i : ℕ) (d : Row) → i < length rows → has_key (get_or rows i d) o p ≡ false → (r : Row) → Among (drop i rows) r → KeyBefore o p r.source.0 r.target.0
+    later_scanned i d lt none r a = before_up key (get_or rows i d) r
+        (⊎_elim (λ b. b) (λ k. absurd (true≢false (sym (is_key (get_or rows i d) o p k) ∙ none))) (up (get_or rows i d) (among_at rows i d lt)))
+        (row_up (get_or rows i d) r (ordered_from RowBefore rows i d order lt r a))
 
 -- ---- the bands of one source and target
 

@@ -160,11 +160,11 @@ module _ (rows left busy : List Row) (g : HasPassed rows left busy) (first : Row
           (g.each r k.0);
     }
 
-  pub many_passed : (next : List Row) → next ≡ busy ++ group → HasPassed rows later next
-  many_passed next e = next_passed next
-      (λ r a. subst (λ (v : List Row). Among v r) (sym e) (append_first busy group r a))
-      (λ many r a. subst (λ (v : List Row). Among v r) (sym e) (append_second busy group r a))
-      (λ r a. among_append busy group r (subst (λ (v : List Row). Among v r) e a))
+  pub many_passed : (next sorted : List Row) → ((r : Row) → Among sorted r ↔ Among group r) → next ≡ busy ++ sorted → HasPassed rows later next
+  many_passed next sorted same e = next_passed next
+      (λ r a. subst (λ (v : List Row). Among v r) (sym e) (append_first busy sorted r a))
+      (λ many r a. subst (λ (v : List Row). Among v r) (sym e) (append_second busy sorted r ((same r).1 a)))
+      (λ r a. ⊎_elim (λ b. inl b) (λ b. inr ((same r).0 b)) (among_append busy sorted r (subst (λ (v : List Row). Among v r) e a)))
 
   pub few_passed : length group ≤ 8 → HasPassed rows later busy
   few_passed few = next_passed busy (λ r a. a) (λ many r a. absurd (omega arith)) (λ r a. inl a)

@@ -1,23 +1,20 @@
 -- A difference, one source and target after the other.
-use Rattle.std.proofs.Common.{◌≡◌, ◌↔◌, ◌⊎◌, inl, inr, ⊎_elim, ℕ, ◌<◌, ◌≤◌, ℤ, List, [], length, take, drop, Some, None, refl, sym, ◌∙◌, subst, arith, true, false, true≢false}
+use Rattle.std.proofs.Common.{◌≡◌, ◌↔◌, ◌⊎◌, inl, inr, ⊎_elim, ℕ, ◌<◌, ℤ, List, [], take, drop, Some, None, refl, sym, ◌∙◌, subst, arith}
 use Rattle.std.specs.Prelude.{slice_get}
-use Rattle.std.specs.List.Sorted.{IsPartitionedBy, IsPartitionPoint}
 use Rattle.std.proofs.lemmas.Bool.Decides.{eqb_tells}
-use Rattle.std.proofs.lemmas.Option.{slice_get_within, get_or_from_slice_get}
 use Rattle.itpg_base.specs.Points.{Point}
 use Rattle.zone_core.specs.declared.Bounds.{Bounds}
 use Rattle.itpg_base.specs.Lists.{Among, Ordered}
 use Rattle.band_normal.specs.Bands.{IsWellFormed}
 use Rattle.band_normal.specs.Zones.{SomeMeets}
 use Rattle.relation_rows.specs.declared.rows.Row.{Row}
-use Rattle.relation_rows.specs.Rows.{HasKey, RowsHold, RowBefore}
+use Rattle.relation_rows.specs.Rows.{HasKey, KeyBefore, RowsHold, RowBefore}
 use Rattle.relation_rows.specs.Relations.{Item, ItemsHold, OnlyFirstHolds}
-use Rattle.relation_rows.specs.Searching.{has_key}
-use Rattle.relation_rows.specs.Uniting.{SomeHasBand}
+use Rattle.relation_rows.specs.Uniting.{KeyUpTo, SomeHasBand}
 use Rattle.relation_rows.specs.Minus.{OnlyFirstHasBand}
-use Rattle.relation_rows.proofs.Keys.{is_key}
-use Rattle.relation_rows.proofs.Partitions.{among_either, front_among, rest_among, rest_ordered, no_first}
-use Rattle.relation_rows.proofs.Merged.{all_up, leading_partitioned, leading_same}
+use Rattle.relation_rows.proofs.Listed.{key_apart}
+use Rattle.relation_rows.proofs.Partitions.{among_either, front_among, rest_among, rest_ordered, first_among, none_dropped, no_first}
+use Rattle.relation_rows.proofs.Merged.{all_up}
 
 -- ---- the first rows that have one source and target
 
@@ -28,22 +25,14 @@ module _ (rows : List Row) (first : Row) (order : Ordered RowBefore rows) (is : 
   abbrev p : ℕ
   p = first.target.0
 
-  pub group_partitioned : IsPartitionedBy (λ (r : Row). has_key r o p) rows
-  group_partitioned = leading_partitioned rows first order (all_up rows first order (sym is))
+  pub group_up : (r : Row) → Among rows r → KeyUpTo first r
+  group_up = all_up rows first order (sym is)
 
-  module _ (n : ℕ) (bound : n ≤ length rows) (point : IsPartitionPoint (λ (r : Row). has_key r o p ≡ true) (λ (r : Row). has_key r o p ≡ false) rows n) where
-    pub group_same : (r : Row) → Among (take n rows) r → HasKey r o p
-    group_same = leading_same rows first order (all_up rows first order (sym is)) n bound point
-
-    pub group_some : 0 < n
-    group_some = elim (eqb_tells n 0) [
-      | inl e ↦ absurd (
-          let within = slice_get_within rows 0 first is in
-          let at = point.1 0 first (let z = e.1 in omega arith) within in
-          true≢false (sym (is_key first o p (refl, refl)) ∙ subst (λ (v : Row). has_key v o p ≡ false) (get_or_from_slice_get rows 0 first first is) at)
-          )
-      | inr e ↦ (let ne = e.1 in omega arith)
-    ]
+  pub group_some : (n : ℕ) → ((r : Row) → Among (drop n rows) r → KeyBefore o p r.source.0 r.target.0) → 0 < n
+  group_some n later = elim (eqb_tells n 0) [
+    | inl e ↦ absurd (key_apart o p o p (later first (subst (λ (v : ℕ). Among (drop v rows) first) (sym e.1) (subst (λ (v : List Row). Among v first) (sym (none_dropped rows)) (first_among rows first is)))) refl refl)
+    | inr e ↦ (let ne = e.1 in omega arith)
+  ]
 
 -- what is left of the first rows but for those that weren't taken yet
 pub record HasSubtracted (first second left : List Row) (items : List Item) : Type 0 where

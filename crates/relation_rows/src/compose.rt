@@ -83,7 +83,8 @@ fn busy_rows(alloc: Global, rows: &[Row]) -> Result<Vec<Row>, AllocError>
     while let Some(first) = left.first() {
         let (group, later) = left.split_at(source_count(left, first));
         if group.len() > FEW {
-            busy.extend_from_slice(group)?;
+            let sorted = by_departure(alloc, group)?;
+            busy.extend_from_slice(&sorted)?;
         }
         left = later;
     }

@@ -18,7 +18,8 @@ ghost use Rattle.relation_rows.specs.Minus.{OnlyFirstMeets, OnlyFirstHasBand, Ha
 use crate::gather::Item;
 use crate::parting::parting;
 use crate::rows::Row;
-use crate::search::{is_of_key, rows_of_key};
+use crate::search::rows_of_key;
+use crate::union::leading;
 use band_normal::zone_of;
 use std::alloc::{AllocError, Global};
 use zone_core::Zone;
@@ -162,7 +163,7 @@ fn key_count(rows: &[Row], first: &Row) -> usize
     ensures within { result ≤ length rows.now }
     ensures same { (r : PlainRow) → Among (take result rows.now) r → HasKey r first.now.source.0 first.now.target.0 }
 {
-    rows.partition_point(|row| is_of_key(row, first.source, first.target))
+    leading(rows, first)
 }
 
 /// The zones of the pairs that the first rows have and the second haven't. Both stand in order.

@@ -19,6 +19,12 @@ pub(crate) fn is_one_of(objects: &[ObjNo], object: ObjNo) -> bool
     requires { Rise objects.now }
     ensures { IsTrue result ↔ IsOneOf objects.now object.0 }
 {
+    // Often the list has all objects, from the first on.
+    if let Some(there) = objects.get(object.0 as usize) {
+        if there.0 == object.0 {
+            return true;
+        }
+    }
     objects.binary_search(&object).is_ok()
 }
 
@@ -55,7 +61,7 @@ pub(crate) fn rows_of_key(rows: &[Row], source: ObjNo, target: ObjNo) -> &[Row]
 {
     let begin = rows.partition_point(|row| comes_before_key(row, source, target));
     let from = &rows[begin..];
-    let count = from.partition_point(|row| is_of_key(row, source, target));
+    let count = count_leading(from, |row| is_of_key(row, source, target));
     &from[..count]
 }
 

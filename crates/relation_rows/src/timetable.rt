@@ -5,6 +5,7 @@
 //! ends too soon is passed over whole, and a search costs as much as it finds, times the halvings.
 
 ghost use Rattle.std.specs.Prelude.{◌≡◌, ◌⊎◌, ◌↔◌, ℕ, map, IfOk, OnOk};
+ghost use Rattle.std.specs.List.Sorted.{IsPermutation};
 ghost use Rattle.itpg_base.specs.Points.{Point};
 ghost use Rattle.itpg_base.specs.Lists.{Among, Ordered};
 ghost use Rattle.band_normal.specs.Bands.{IsWellFormed};
@@ -82,14 +83,26 @@ fn push_legs(legs: &mut Vec<Leg>, rows: &[Row]) -> Result<(), AllocError>
     Ok(())
 }
 
-/// The rows by source and first departure.
+// The rows by source and first departure. Often they stand so.
+fn by_source(alloc: Global, rows: &[Row]) -> Result<Vec<Row>, AllocError>
+    ensures order { IfOk result (λ sorted. Ordered DepartsUpTo sorted.items) }
+    ensures same { IfOk result (λ sorted. IsPermutation rows.now sorted.items) }
+{
+    let mut sorted = Vec::from_slice(alloc, rows)?;
+    if sorted.is_sorted_by_key(|row| (row.source, row.band.from)) {
+        return Ok(sorted);
+    }
+    sorted.sort_by_key(|row| (row.source, row.band.from))?;
+    Ok(sorted)
+}
+
+/// A timetable of the rows.
 pub(crate) fn timetable(alloc: Global, rows: &[Row]) -> Result<Vec<Leg>, AllocError>
     requires { (r : PlainRow) → Among rows.now r → IsWellFormed r.band }
     ensures table { IfOk result (λ legs. IsTimetable legs.items) }
     ensures holds { IfOk result (λ legs. (x : Point) → (y : Point) → LegsHold legs.items x y ↔ RowsHold rows.now x y) }
 {
-    let mut sorted = Vec::from_slice(alloc, rows)?;
-    sorted.sort_by_key(|row| (row.source, row.band.from))?;
+    let sorted = by_source(alloc, rows)?;
     let mut legs = Vec::new(alloc);
     push_legs(&mut legs, &sorted)?;
     Ok(legs)
@@ -141,6 +154,9 @@ fn push_departing(
     requires reach { (depth : ℕ) → AreReached depth legs.now }
     ensures { OnOk result (HasFound legs.now object.0 span.0 span.1 found.old.items found.new.items) }
 {
+    if let [leg] = legs {
+        return push_found(found, leg, object, span);
+    }
     let (before, rest) = legs.split_at(legs.len() / 2);
     let Some((leg, behind)) = rest.split_first() else {
         return Ok(());

@@ -2,7 +2,7 @@
 //!
 //! The rows of a source and a target that only one of the relations has are taken as they are.
 
-ghost use Rattle.std.specs.Prelude.{◌≡◌, ◌⊎◌, ◌≤◌, [], length, take, drop, IfOk, OnOk, IfSome, IfNone};
+ghost use Rattle.std.specs.Prelude.{◌≡◌, ◌⊎◌, ◌++◌, ◌≤◌, [], length, take, drop, IfOk, OnOk, IfSome, IfNone};
 ghost use Rattle.band_normal.specs.declared.band.Band.{Band as PlainBand};
 ghost use Rattle.itpg_base.specs.Lists.{Among, Ordered};
 ghost use Rattle.band_normal.specs.Bands.{IsWellFormed};
@@ -18,7 +18,6 @@ use crate::known::Known;
 use crate::relations::Relation;
 use crate::rows::{RelFault, Row};
 use crate::search::{comes_before_key, is_of_key};
-use itpg_base::count_leading;
 use std::alloc::{AllocError, Global};
 
 // Of both lists a first row, whose source and target come first.
@@ -41,15 +40,20 @@ fn next_row(first: &[Row], second: &[Row]) -> Option<Row>
     }
 }
 
-// How many of the rows, from the first on, have the source and the target of the other.
-fn leading(rows: &[Row], key: &Row) -> usize
+/// How many of the rows, from the first on, have the source and the target of the other. It looks at these and at the next one.
+pub(crate) fn leading(rows: &[Row], key: &Row) -> usize
     requires order { Ordered RowBefore rows.now }
     requires up { (r : PlainRow) → Among rows.now r → KeyUpTo key.now r }
     ensures within { result ≤ length rows.now }
     ensures same { (r : PlainRow) → Among (take result rows.now) r → HasKey r key.now.source.0 key.now.target.0 }
     ensures later { (r : PlainRow) → Among (drop result rows.now) r → KeyBefore key.now.source.0 key.now.target.0 r.source.0 r.target.0 }
 {
-    count_leading(rows, |row| is_of_key(row, key.source, key.target))
+    for (i, row) in rows.iter().enumerate() {
+        if !is_of_key(row, key.source, key.target) {
+            return i;
+        }
+    }
+    rows.len()
 }
 
 // Learns the normal bands of both.
@@ -66,6 +70,18 @@ fn learn_both(known: &mut Known, here: &[Row], there: &[Row]) -> Result<(), Allo
     Ok(())
 }
 
+// Adds the rows, most often one.
+fn push_rows(rows: &mut Vec<Row>, more: &[Row]) -> Result<(), AllocError>
+    ensures { OnOk result (rows.new.items ≡ rows.old.items ++ more.now) }
+{
+    if let [row] = more {
+        rows.push(*row)?;
+        return Ok(());
+    }
+    rows.extend_from_slice(more)?;
+    Ok(())
+}
+
 // Adds the rows of one source and one target.
 fn push_both(
     rows: &mut Vec<Row>,
@@ -79,15 +95,15 @@ fn push_both(
     ensures { OnOk result (HasPushed key.now here.now there.now rows.old.items rows.new.items) }
 {
     if there.is_empty() {
-        rows.extend_from_slice(here)?;
+        push_rows(rows, here)?;
         return Ok(());
     }
     if here.is_empty() {
-        rows.extend_from_slice(there)?;
+        push_rows(rows, there)?;
         return Ok(());
     }
     if here == there {
-        rows.extend_from_slice(here)?;
+        push_rows(rows, here)?;
         return Ok(());
     }
     learn_both(known, here, there)?;
@@ -106,7 +122,7 @@ pub(crate) fn united(
     requires second { IsRelation second.now }
     ensures { Gives result (EitherHolds first.now second.now) max_rows }
 {
-    let mut rows = Vec::new(alloc);
+    let mut rows = Vec::with_capacity(alloc, first.len().max(second.len()))?;
     let mut known = Known::new(alloc);
     let mut left = first;
     let mut right = second;

@@ -39,5 +39,5 @@ pub returns : goal.returns
 returns t c =
     let whole = c.split_at.ensures.by_index.0 ∙ ap (λ (v : List Leg). c.split_at.result.0.now ++ v) c.in-Some.ensures.cases.0 in
     found_each c.args.legs.now c.split_at.result.0.now c.in-Some.behind.now c.in-Some.leg.now whole c.requires.order
-    c.args.object.0 c.args.span.0 c.args.span.1 c.args.found.now.items c.push_departing.new.found.items c.push_found.new.found.items c.push_departing-2.new.found.items
+    c.args.object.0 c.args.span.0 c.args.span.1 c.args.found.now.items c.push_departing.new.found.items c.push_found-2.new.found.items c.push_departing-2.new.found.items
     c.in_ok-push_departing.ensures c.in_ok-push_found.ensures c.in_ok-push_departing-2.ensures

@@ -1,29 +1,24 @@
-use Rattle.std.proofs.Common.{◌≡◌, ◌↔◌, List, ◌++◌, ◌∙◌, ap, rules, sym, subst}
-use Rattle.std.specs.List.Sorted.{IsPermutation}
-use Rattle.std.proofs.lemmas.Fn.{always_returns_same}
+use Rattle.std.proofs.Common.{◌≡◌, ◌↔◌, List, ◌++◌, ◌∙◌, ap, sym, subst}
 use Rattle.itpg_base.specs.Lists.{Among, Ordered}
 use Rattle.itpg_base.proofs.Lists.{permutation_among}
 use Rattle.relation_rows.specs.declared.rows.Row.{Row}
 use Rattle.relation_rows.specs.declared.timetable.Leg.{Leg}
 use Rattle.relation_rows.specs.Timetables.{DepartsUpTo, IsTimetable, LegsHold}
 use Rattle.relation_rows.specs.Rows.{RowsHold}
-use Rattle.relation_rows.proofs.Legs.{sorted_rows, legs_ordered, legs_hold, table_of}
+use Rattle.relation_rows.proofs.Legs.{legs_ordered, legs_hold, table_of}
 use Rattle.relation_rows.proofs.timetable.timetable.Goals as goal
 
 pub returns : goal.returns
 returns c =
-    let permutation = subst (λ (v : List Row). IsPermutation v c.sort_by_key.new.self.items) c.in_ok-sorted.ensures.items c.sort_by_key.ensures.permutation in
-    let sorted = sorted_rows c.sort_by_key.new.self.items (c.in_ok-sort_by_key.ensures.sorted (λ (r : Row). (r.source, r.band.from)) (always_returns_same _ _ _ (λ a r q k. search rules))) in
+    let permutation = c.in_ok-sorted.ensures.same in
     let has = c.in_ok-push_legs.ensures in
     let all : c.push_legs.new.legs.items ≡ has.0 = has.1 ∙ ap (λ (v : List Leg). v ++ has.0) c.new-legs.ensures.items in
-    let table = table_of c.args.rows.now c.sort_by_key.new.self.items permutation has.0 (has.2 ∙ c.deref.ensures.value) (legs_ordered has.0 (subst (λ (v : List Row). Ordered DepartsUpTo v) (sym (has.2 ∙ c.deref.ensures.value)) sorted)) has.3 c.requires has.4 in
-    let holds = legs_hold c.args.rows.now c.sort_by_key.new.self.items permutation has.0 (has.2 ∙ c.deref.ensures.value) in
+    let table = table_of c.args.rows.now c.in_ok-sorted.sorted.items permutation has.0 (has.2 ∙ c.deref.ensures.value) (legs_ordered has.0 (subst (λ (v : List Row). Ordered DepartsUpTo v) (sym (has.2 ∙ c.deref.ensures.value)) c.in_ok-sorted.ensures.order)) has.3 c.requires has.4 in
+    let holds = legs_hold c.args.rows.now c.in_ok-sorted.sorted.items permutation has.0 (has.2 ∙ c.deref.ensures.value) in
     record {
       table = subst IsTimetable (sym all) table;
       holds = λ x y. subst (λ (v : List Leg). LegsHold v x y ↔ RowsHold c.args.rows.now x y) (sym all) (holds x y);
     }
 
 pub push_legs-requires : goal.push_legs-requires
-push_legs-requires c =
-    let permutation = subst (λ (v : List Row). IsPermutation v c.sort_by_key.new.self.items) c.in_ok-sorted.ensures.items c.sort_by_key.ensures.permutation in
-    λ r a. c.requires r (permutation_among c.args.rows.now c.sort_by_key.new.self.items permutation r (subst (λ (v : List Row). Among v r) c.deref.ensures.value a))
+push_legs-requires c = λ r a. c.requires r (permutation_among c.args.rows.now c.in_ok-sorted.sorted.items c.in_ok-sorted.ensures.same r (subst (λ (v : List Row). Among v r) c.deref.ensures.value a))

@@ -9,20 +9,20 @@ use Rattle.relation_rows.proofs.union.push_both.Goals as goal
 
 pub returns-then-is_empty : goal.returns-then-is_empty
 returns-then-is_empty c =
-    let extended = c.in_ok-extend_from_slice.ensures.items in
+    let extended = c.in_ok-push_rows.ensures in
     let none : length c.args.there.now ≡ 0 = grind (arith, Decides-eqb) in
-    pushed_here c.args.key.now c.args.here.now c.args.there.now c.args.rows.now.items c.extend_from_slice.new.self.items c.requires.here none extended
+    pushed_here c.args.key.now c.args.here.now c.args.there.now c.args.rows.now.items c.push_rows.new.rows.items c.requires.here none extended
 
 pub returns-then-is_empty-2 : goal.returns-then-is_empty-2
 returns-then-is_empty-2 c =
-    let extended = c.in_ok-extend_from_slice-2.ensures.items in
+    let extended = c.in_ok-push_rows-2.ensures in
     let none : length c.args.here.now ≡ 0 = grind (arith, Decides-eqb) in
-    pushed_there c.args.key.now c.args.here.now c.args.there.now c.args.rows.now.items c.extend_from_slice-then-is_empty-2.new.self.items c.requires.there none extended
+    pushed_there c.args.key.now c.args.here.now c.args.there.now c.args.rows.now.items c.push_rows-then-is_empty-2.new.rows.items c.requires.there none extended
 
 pub returns-then-eq : goal.returns-then-eq
 returns-then-eq c =
     let same = (slice_eq-Decides row_decides c.args.here.now c.args.there.now c.eq.result c.eq.ensures).0 c.if-eq.true in
-    pushed_same c.args.key.now c.args.here.now c.args.there.now c.args.rows.now.items c.extend_from_slice-then-eq.new.self.items c.requires.here same c.in_ok-extend_from_slice-3.ensures.items
+    pushed_same c.args.key.now c.args.here.now c.args.there.now c.args.rows.now.items c.push_rows-then-eq.new.rows.items c.requires.here same c.in_ok-push_rows-3.ensures
 
 pub returns : goal.returns
 returns c =

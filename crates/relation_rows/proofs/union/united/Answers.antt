@@ -6,8 +6,8 @@ use Rattle.relation_rows.proofs.union.united.Goals as goal
 
 pub loop-key-init : goal.loop-key-init
 loop-key-init c = (
-  start c.args.first.now c.args.second.now c.new-rows.result.items c.new-rows.ensures.items (c.requires.first).normal.order (c.requires.second).normal.order,
-  rw c.new-rows.ensures.items (omega arith),
+  start c.args.first.now c.args.second.now c.in_ok-rows.rows.items c.in_ok-rows.ensures.items (c.requires.first).normal.order (c.requires.second).normal.order,
+  rw c.in_ok-rows.ensures.items (omega arith),
 )
 
 pub push_both-requires-clause-here : goal.push_both-requires-clause-here
