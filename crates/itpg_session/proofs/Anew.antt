@@ -1,5 +1,5 @@
 -- A table of plans that is made anew has the nodes of the watches' queries, and no others; and what was kept of them.
-use Rattle.std.proofs.Common.{◌≡◌, inl, inr, ℕ, zero, suc, ◌+◌, ◌*◌, ◌<◌, ◌≤◌, List, [], ◌∷◌, ◌++◌, length, map, Some, refl, ◌∙◌, ap, subst, arith}
+use Rattle.std.proofs.Common.{◌≡◌, inl, inr, ℕ, zero, suc, ◌+◌, ◌*◌, ◌<◌, ◌≤◌, List, [], ◌∷◌, ◌++◌, length, map, Some, refl, sym, ◌∙◌, ap, subst, arith}
 use Rattle.std.specs.Prelude.{slice_get}
 use Rattle.itpg_base.specs.Lists.{Among}
 use Rattle.path_ast.specs.Terms.{PathTerm, QueryTerm, query_term}
@@ -14,6 +14,8 @@ use Rattle.plan_cache.specs.Nodes.{PlanNode, Kept, Table, IsNodeOf, AreShared, n
 use Rattle.plan_cache.specs.declared.nodes.TheConstants.{MAX_NODES}
 use Rattle.plan_cache.specs.Growing.{Grows, AddsUnder}
 use Rattle.plan_cache.specs.KeptRows.{AddsFree}
+use Rattle.plan_cache.specs.RightRows.{IsTableRight}
+use Rattle.itpg_base.specs.Graphs.{Graph}
 use Rattle.plan_cache.specs.Refilled.{terms_of, numbers_of, HasNode, KeepsShared}
 use Rattle.plan_cache.proofs.Adding.{before, under_stays}
 use Rattle.plan_cache.proofs.Parts.{walk_has_node}
@@ -108,3 +110,25 @@ of_all p ws old mid new short of has shared each adds free = record {
       let node = node_before mid.nodes adds.grows.more kept.0 m (omega (arith, low, each)) (subst (λ (nodes : List PlanNode). IsNodeOf nodes kept.0 m) adds.grows.is kept.1) in
       ((shared m rows).0 (kept.0, node, there)).0);
 }
+
+-- ---- a table beside which nothing is watched
+
+-- in a table with no node nothing is kept
+no_node : (nodes : List PlanNode) → nodes ≡ [] → (k : ℕ) (m : Member) → IsNodeOf nodes k m → ⊥
+no_node nodes none k m h = subst (λ (xs : List PlanNode). IsNodeOf xs k m) none h
+
+nothing_at : {X : Type 0} (xs : List X) (k : ℕ) (x : X) → xs ≡ [] → slice_get xs k ≡ Some x → ⊥
+nothing_at [] k x none e = let no : ⊥ = cc in no
+nothing_at (y ∷ ys) k x none e = let no : ⊥ = cc in no
+
+pub empty_right : (g : Graph) (limit : ℕ) (table : Table) → table.kept ≡ [] → IsTableRight g limit table
+empty_right g limit table none = λ k rows e. absurd (nothing_at table.kept k (Some rows) none e)
+
+-- it was emptied, and then has the nodes of a path
+pub emptied : (p : PathTerm) (old mid new : Table) → MAX_NODES < length old.nodes + path_size p → mid.nodes ≡ [] → mid.kept ≡ [] → AddsPath p mid new → AddsFree mid.kept new.kept → IsMadeAnew p [] old new
+emptied p old mid new short nodes kept adds free = of_all p [] old mid new short
+    (λ k low. absurd (let n : length mid.nodes ≡ 0 = ap length nodes in omega (arith, low, n)))
+    (λ m h. absurd h.1)
+    (λ m rows. (λ h. absurd (no_node mid.nodes nodes h.0 m h.1), λ h. absurd (no_node mid.nodes nodes h.1.0 m h.1.1)))
+    (ap length kept ∙ ap length (sym nodes))
+    adds free

@@ -10,17 +10,19 @@ use Rattle.itpg_edit.specs.declared.edit.Edit.{Edit}
 use Rattle.itpg_edit.specs.Rules.{FirstOf, NoneOf, Broken}
 use Rattle.itpg_base.specs.declared.touch.Touch.{Touch}
 use Rattle.itpg_edit.specs.Next.{Makes as MakesGraph}
-use Rattle.edit_reader.specs.Readings.{Reading, Nothing, Changes, Asks, Wants, Watches, Shows, Unwatches, Ticks}
+use Rattle.edit_reader.specs.Readings.{Reading, Nothing, Changes, Asks, Wants, Watches, Shows, Unwatches, Ticks, Opens, Closes, AsksIn}
 use Rattle.edit_reader.specs.declared.line.Wanted.{Wanted}
 use Rattle.edit_reader.specs.Lines.{LineOf}
 use Rattle.path_ast.specs.Terms.{QueryTerm}
 use Rattle.match_parser.specs.Reading.{Reads, FaultOf}
 use Rattle.standing_queries.specs.Watches.{most_watches}
 use Rattle.itpg_session.specs.PlainWatches.{PlainWatch, IsWatched, new_watch, without, AreMarkedAfter}
-use Rattle.itpg_session.specs.Rules.{QueryBreaks, WatchBreaks, NameBreaks, TickBreaks, ask_rules, watch_rules, name_rules, tick_rules}
+use Rattle.itpg_pins.specs.Pins.{most_pins}
+use Rattle.itpg_session.specs.PlainPins.{Pin, IsPinned}
+use Rattle.itpg_session.specs.Rules.{QueryBreaks, WatchBreaks, NameBreaks, TickBreaks, OpenBreaks, PinBreaks, ask_rules, watch_rules, name_rules, tick_rules, open_rules}
 use Rattle.itpg_session.specs.Replies.{Reply, Bad, Refused, IsReply}
 use Rattle.itpg_session.specs.MachineLaws.{FrontReplies}
-use Rattle.itpg_session.specs.Machine.{Machine, Turn, Refuses, AsksText, WantsText, WatchesText, WatchesQuery, AddsWatch, ShowsName, DropsWatch, DropsName, TicksOrNot, Answers, TurnOf, Replies, quiet_turn, told}
+use Rattle.itpg_session.specs.Machine.{Machine, Turn, Refuses, AsksText, WantsText, WatchesText, WatchesQuery, AddsWatch, ShowsName, DropsWatch, DropsName, TicksOrNot, OpensName, ClosesName, AsksPinQuery, AsksPinText, Answers, TurnOf, Replies, quiet_turn, told}
 
 module _ (limit : ℕ) (m : Machine) where
   pub turn_read : (reading : Reading) (t : Turn) → Answers limit m reading t → TurnOf limit m (Ok reading) t
@@ -70,12 +72,30 @@ module _ (limit : ℕ) (m : Machine) where
   unfolding Answers
   ticks_answers t a = a
 
+  pub opens_answers : (name : Word) (t : Turn) → OpensName m name t → Answers limit m (Opens name) t
+  unfolding Answers
+  opens_answers name t a = a
+
+  pub closes_answers : (name : Word) (t : Turn) → ClosesName m name t → Answers limit m (Closes name) t
+  unfolding Answers
+  closes_answers name t a = a
+
+  pub asks_in_answers : (name : Word) (text : List ℕ) (t : Turn) → AsksPinText limit m name text t → Answers limit m (AsksIn name text) t
+  unfolding Answers
+  asks_in_answers name text t a = a
+
+  pub pin_bad : (name : Word) (text : List ℕ) (code : TextCode) → FaultOf text code → (t : Turn) → t ≡ told m (Bad code) → AsksPinText limit m name text t
+  pin_bad name text code fault t is = inl (code, fault, is)
+
+  pub pin_read : (name : Word) (text : List ℕ) (q : QueryTerm) → Reads text q → (t : Turn) → AsksPinQuery limit m name q t → AsksPinText limit m name text t
+  pin_read name text q reads t a = inr (q, reads, a)
+
   pub edit_refused : (edit : Edit) (rule : RuleCode) → Broken m.graph edit rule → (t : Turn) → t ≡ told m (Refused rule) → Answers limit m (Changes edit) t
   unfolding Answers
   edit_refused edit rule first t is = inl (record { rule = rule; first = first; is = is })
 
   pub edit_made : (edit : Edit) (g : Graph) (touch : Touch) (ws : List PlainWatch) → MakesGraph m.graph edit g touch → AreMarkedAfter touch m.watches ws
-      → Answers limit m (Changes edit) (quiet_turn (record { graph = g; watches = ws }))
+      → Answers limit m (Changes edit) (quiet_turn (record m { graph = g; watches = ws }))
   unfolding Answers
   edit_made edit g touch ws makes marked = inr (record { graph = g; touch = touch; makes = makes; watches = ws; marked = marked; is = refl })
 
@@ -94,11 +114,11 @@ pub refusal : (m : Machine) (broken : RuleCode → Type 0) (rules : List RuleCod
 refusal m broken rules Other rule first t is = inl (refuses m broken rules rule first t is)
 
 module _ (m : Machine) (name : Word) where
-  pub added : (q : QueryTerm) → NoneOf (WatchBreaks m.graph m.watches name q) watch_rules → (ws : List PlainWatch) → ws ≡ m.watches ++ new_watch name q ∷ [] → AddsWatch m name q (quiet_turn (record { graph = m.graph; watches = ws }))
-  added q unbroken ws is = record { unbroken = unbroken; is = ap (λ (vs : List PlainWatch). quiet_turn (record { graph = m.graph; watches = vs })) is }
+  pub added : (q : QueryTerm) → NoneOf (WatchBreaks m.graph m.watches name q) watch_rules → (ws : List PlainWatch) → ws ≡ m.watches ++ new_watch name q ∷ [] → AddsWatch m name q (quiet_turn (record m { watches = ws }))
+  added q unbroken ws is = record { unbroken = unbroken; is = ap (λ (vs : List PlainWatch). quiet_turn (record m { watches = vs })) is }
 
-  pub dropped : NoneOf (NameBreaks m.graph m.watches name) name_rules → (ws : List PlainWatch) → ws ≡ without name m.watches → DropsWatch m name (quiet_turn (record { graph = m.graph; watches = ws }))
-  dropped unbroken ws is = record { unbroken = unbroken; is = ap (λ (vs : List PlainWatch). quiet_turn (record { graph = m.graph; watches = vs })) is }
+  pub dropped : NoneOf (NameBreaks m.graph m.watches name) name_rules → (ws : List PlainWatch) → ws ≡ without name m.watches → DropsWatch m name (quiet_turn (record m { watches = ws }))
+  dropped unbroken ws is = record { unbroken = unbroken; is = ap (λ (vs : List PlainWatch). quiet_turn (record m { watches = vs })) is }
 
 -- the rules of a query that is to be watched, where asking it breaks none
 module _ (g : Graph) (ws : List PlainWatch) (name : Word) (q : QueryTerm) (asked : NoneOf (QueryBreaks g q) ask_rules) where
@@ -118,6 +138,25 @@ module _ (m : Machine) (name : Word) (begun : NoneOf (TickBreaks m.graph) tick_r
 
   pub is_unknown : (IsWatched m.watches name → ⊥) → FirstOf (NameBreaks m.graph m.watches name) name_rules Unknown
   is_unknown unknown = inr (begun.0, inl (unknown, refl))
+
+-- the rules of a pin, where a graph is begun
+module _ (m : Machine) (name : Word) (begun : NoneOf (TickBreaks m.graph) tick_rules) where
+  pub may_open : (IsPinned m.pins name → ⊥) → (most_pins ≤ length m.pins → ⊥) → NoneOf (OpenBreaks m.graph m.pins name) open_rules
+  may_open free few = (begun.0, (free, (few, tt)))
+
+  pub is_pinned : IsPinned m.pins name → FirstOf (OpenBreaks m.graph m.pins name) open_rules Taken
+  is_pinned taken = inr (begun.0, inl (taken, refl))
+
+  pub is_full_of_pins : (IsPinned m.pins name → ⊥) → most_pins ≤ length m.pins → FirstOf (OpenBreaks m.graph m.pins name) open_rules Full
+  is_full_of_pins free full = inr (begun.0, inr (free, inl (full, refl)))
+
+-- the rules of a pin's name
+module _ (g : Graph) (pins : List Pin) (name : Word) (begun : NoneOf (TickBreaks g) tick_rules) where
+  pub may_pin : ((IsPinned pins name → ⊥) → ⊥) → NoneOf (PinBreaks g pins name) name_rules
+  may_pin known = (begun.0, (known, tt))
+
+  pub is_no_pin : (IsPinned pins name → ⊥) → FirstOf (PinBreaks g pins name) name_rules Unknown
+  is_no_pin unknown = inr (begun.0, inl (unknown, refl))
 
 -- a line has the turns of its front
 pub front_replies : ((line : List ℕ) (n : ℕ) (result : Result Reading TextCode) → 65538 ≤ n → LineOf (take n line) result ↔ LineOf line result) → FrontReplies

@@ -1,4 +1,4 @@
--- It is decided which rule a query, the name of a watch or a tick breaks first.
+-- It is decided which rule a query, the name of a watch or of a pin, or a tick breaks first.
 use Rattle.std.proofs.Common.{◌≡◌, ◌≢◌, List, [], ◌∷◌, ◌⊎◌, inl, inr, ⊎_elim, length, Option, Some, None, Bool, true, false, refl, sym, ap, ◌∙◌}
 use Rattle.std.specs.Prelude.{IsNone, IsSomeAnd, nat_eq}
 use Rattle.std.specs.Cmp.Lexicographic.{pointwise}
@@ -12,8 +12,10 @@ use Rattle.itpg_base.proofs.Searches.{at_most}
 use Rattle.itpg_edit.specs.Rules.{FirstOf, NoneOf}
 use Rattle.path_ast.specs.Terms.{QueryTerm}
 use Rattle.standing_queries.specs.Watches.{most_watches}
+use Rattle.itpg_pins.specs.Pins.{most_pins}
 use Rattle.itpg_session.specs.PlainWatches.{PlainWatch, IsWatched}
-use Rattle.itpg_session.specs.Rules.{QueryBreaks, WatchBreaks, NameBreaks, TickBreaks}
+use Rattle.itpg_session.specs.PlainPins.{Pin, IsPinned}
+use Rattle.itpg_session.specs.Rules.{QueryBreaks, WatchBreaks, NameBreaks, TickBreaks, OpenBreaks, PinBreaks}
 
 decide_same : (a b : Word) → Decided (a ≡ b)
 decide_same a b = by_test (pointwise nat_eq a b) refl
@@ -87,3 +89,28 @@ decide_tick g _ = inr (λ no. no)
 -- where it isn't so that no watch has the name, one has it
 pub some_watch : (ws : List PlainWatch) (name : Word) → ((IsWatched ws name → ⊥) → ⊥) → IsWatched ws name
 some_watch ws name not_none = elim (decide_watched ws name) [ inl h ↦ h | inr n ↦ absurd (not_none n) ]
+
+-- the same of pins
+pub decide_pinned : (ps : List Pin) (name : Word) → Decided (IsPinned ps name)
+decide_pinned [] name = inr (λ h. absurd h.1)
+decide_pinned (p ∷ ps) name = elim (decide_same p.name name) [
+  | inl e ↦ inl (p, inl refl, e)
+  | inr n ↦ elim (decide_pinned ps name) [
+    | inl h ↦ inl (h.0, inr h.1, h.2)
+    | inr k ↦ inr (λ h. ⊎_elim (λ e. n (ap (λ (v : Pin). v.name) e ∙ h.2)) (λ a. k (h.0, a, h.2)) h.1)
+  ]
+]
+
+pub decide_open : (g : Graph) (ps : List Pin) (name : Word) (rule : RuleCode) → Decided (OpenBreaks g ps name rule)
+decide_open g ps name NoGraph = decide_begun g.begun
+decide_open g ps name Taken = decide_pinned ps name
+decide_open g ps name Full = at_most most_pins (length ps)
+decide_open g ps name _ = inr (λ no. no)
+
+pub decide_pin : (g : Graph) (ps : List Pin) (name : Word) (rule : RuleCode) → Decided (PinBreaks g ps name rule)
+decide_pin g ps name NoGraph = decide_begun g.begun
+decide_pin g ps name Unknown = decide_not (decide_pinned ps name)
+decide_pin g ps name _ = inr (λ no. no)
+
+pub some_pin : (ps : List Pin) (name : Word) → ((IsPinned ps name → ⊥) → ⊥) → IsPinned ps name
+some_pin ps name not_none = elim (decide_pinned ps name) [ inl h ↦ h | inr n ↦ absurd (not_none n) ]

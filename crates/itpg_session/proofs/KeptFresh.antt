@@ -7,7 +7,7 @@ use Rattle.itpg_base.specs.Lists.{Among}
 use Rattle.itpg_base.proofs.Lists.{among_append}
 use Rattle.itpg_base.specs.declared.touch.Touch.{Touch}
 use Rattle.itpg_base.specs.declared.text_code.TextCode.{TextCode}
-use Rattle.edit_reader.specs.Readings.{Reading, Nothing, Changes, Asks, Wants, Watches, Shows, Unwatches, Ticks}
+use Rattle.edit_reader.specs.Readings.{Reading, Nothing, Changes, Asks, Wants, Watches, Shows, Unwatches, Ticks, Opens, Closes, AsksIn}
 use Rattle.edit_reader.specs.declared.line.Wanted.{Wanted}
 use Rattle.path_ast.specs.Terms.{QueryTerm}
 use Rattle.label_scope.specs.declared.scope.Scope.TheVariants.{All}
@@ -19,10 +19,10 @@ use Rattle.standing_queries.specs.Watches.{Watch}
 use Rattle.itpg_session.specs.PlainWatches.{PlainWatch, all_plain, IsMarkedAfter, AreMarkedAfter, new_watch, without, marked_at}
 use Rattle.itpg_session.specs.Ticks.{Ticked, StaysWide, Moves, moved, all_moved}
 use Rattle.itpg_session.specs.declared.reply.Reply.{Reply as ReplyValue}
-use Rattle.itpg_session.specs.Replies.{Reply, line_reply, Silent, Bad, Refused, Wide, Rows, Counted, Shown, PerWatch, IsReply}
+use Rattle.itpg_session.specs.Replies.{Reply, line_reply, Silent, Bad, Refused, Wide, Rows, Counted, Shown, OfPin, PerWatch, IsReply, IsReplyTo, of_pin}
 use Rattle.itpg_session.specs.Wanting.{IsReplyWanted}
 use Rattle.itpg_session.specs.Keeping.{KeepsPath, KeepsFound, KeepsTicked, KeepAllTicked}
-use Rattle.itpg_session.specs.Machine.{Machine, Standing, Turn, Answers, TurnOf, WatchesText, told, after, quiet_turn}
+use Rattle.itpg_session.specs.Machine.{Machine, Standing, Turn, Answers, TurnOf, WatchesText, AsksPinText, told, after, quiet_turn}
 use Rattle.itpg_session.specs.Steps.{StandsAs, IsDecided, Decides, WasFresh, KeepsFresh, KeepsReply}
 use Rattle.itpg_session.proofs.Watching.{without_among}
 use Rattle.itpg_session.proofs.WantedReplies.{each_wanted}
@@ -82,7 +82,24 @@ module _ (limit : ℕ) (m : Machine) where
   silent_asked n text (Rows answer) e a = let no : ⊥ = cc in no
   silent_asked n text (Counted counts) e a = let no : ⊥ = cc in no
   silent_asked n text (Shown place found) e a = let no : ⊥ = cc in no
+  silent_asked n text (OfPin place answer) e a = let no : ⊥ = cc in no
   silent_asked n text (PerWatch found) e a = let no : ⊥ = cc in no
+
+  silent_of_pin : (g : Graph) (q : QueryTerm) (place : ℕ) (reply : Reply) → Silent ≡ of_pin place reply → IsReplyTo g limit q reply → ⊥
+  silent_of_pin g q place Silent e a = absurd a.1
+  silent_of_pin g q place (Bad code) e a = let no : ⊥ = cc in no
+  silent_of_pin g q place (Refused rule) e a = let no : ⊥ = cc in no
+  silent_of_pin g q place Wide e a = let no : ⊥ = cc in no
+  silent_of_pin g q place (Rows answer) e a = let no : ⊥ = cc in no
+  silent_of_pin g q place (Counted counts) e a = let no : ⊥ = cc in no
+  silent_of_pin g q place (Shown i found) e a = let no : ⊥ = cc in no
+  silent_of_pin g q place (OfPin i answer) e a = let no : ⊥ = cc in no
+  silent_of_pin g q place (PerWatch found) e a = let no : ⊥ = cc in no
+
+  silent_pin : (n : Machine) (t : Turn) (name : Word) (text : List ℕ) → told n Silent ≡ t → AsksPinText limit m name text t → ⊥
+  silent_pin n t name text is (inl (code, fault, e)) = let s = says n t (Bad code) is e in let no : ⊥ = cc in no
+  silent_pin n t name text is (inr (q, reads, inl refused)) = let s = says n t (Refused refused.rule) is refused.is in let no : ⊥ = cc in no
+  silent_pin n t name text is (inr (q, reads, inr a)) = silent_of_pin a.pin.graph q a.place a.reply (says n t (of_pin a.place a.reply) is a.is) a.replies
 
   silent_wanted : (wanted : Wanted) (text : List ℕ) (reply : Reply) → IsReplyWanted m.graph limit wanted text reply → Silent ≡ reply → ⊥
   silent_wanted = each_wanted m.graph limit (λ reply. Silent ≡ reply → ⊥) (λ code e. let no : ⊥ = cc in no) (λ rule e. let no : ⊥ = cc in no) (λ e. let no : ⊥ = cc in no) (λ counts e. let no : ⊥ = cc in no)
@@ -102,6 +119,11 @@ module _ (limit : ℕ) (m : Machine) where
   silent_answer n t (Unwatches name) is (inr dropped) = same_watches n _ t is dropped.is (none_without name m.watches)
   silent_answer n t Ticks is (inl refused) = absurd (let s = says n t (Refused refused.rule) is refused.is in let no : ⊥ = cc in no)
   silent_answer n t Ticks is (inr ticks) = absurd (let s = says n t (PerWatch ticks.found) is ticks.is in let no : ⊥ = cc in no)
+  silent_answer n t (Opens name) is (inl refused) = absurd (let s = says n t (Refused refused.rule) is refused.is in let no : ⊥ = cc in no)
+  silent_answer n t (Opens name) is (inr opened) = same_watches n _ t is opened.is (none_same m.watches)
+  silent_answer n t (Closes name) is (inl refused) = absurd (let s = says n t (Refused refused.rule) is refused.is in let no : ⊥ = cc in no)
+  silent_answer n t (Closes name) is (inr closed) = same_watches n _ t is closed.is (none_same m.watches)
+  silent_answer n t (AsksIn name text) is a = absurd (silent_pin n t name text is a)
 
   silent_turn : (n : Machine) (what : Result Reading TextCode) → TurnOf limit m what (told n Silent) → NoneFresher m.watches n.watches
   unfolding TurnOf
@@ -151,6 +173,7 @@ replied_fresh m table (Counted counts) some s is at keeps = was_fresh m.graph ta
 replied_fresh m table (Shown place found) some s is at keeps =
     shown_fresh m.graph table m.watches place found
     (subst (λ (t : Table). IsSomeAnd (slice_get m.watches place) (λ w. KeepsFound m.graph t w found)) at (subst (λ (n : Machine). IsSomeAnd (slice_get n.watches place) (λ w. KeepsFound n.graph s.table w found)) is keeps))
+replied_fresh m table (OfPin place answer) some s is at keeps = was_fresh m.graph table m.watches m.watches (none_same m.watches)
 replied_fresh m table (PerWatch found) some s is at keeps =
     ticked_fresh m.graph table m.watches found (subst (λ (t : Table). KeepAllTicked m.graph t m.watches found) at (subst (λ (n : Machine). KeepAllTicked n.graph s.table n.watches found) is keeps))
 
@@ -162,6 +185,7 @@ silent_is Wide = inr (λ e. let no : ⊥ = cc in no)
 silent_is (Rows answer) = inr (λ e. let no : ⊥ = cc in no)
 silent_is (Counted counts) = inr (λ e. let no : ⊥ = cc in no)
 silent_is (Shown place found) = inr (λ e. let no : ⊥ = cc in no)
+silent_is (OfPin place answer) = inr (λ e. let no : ⊥ = cc in no)
 silent_is (PerWatch found) = inr (λ e. let no : ⊥ = cc in no)
 
 pub step_fresh : (what : Result Reading TextCode) (old mid new : Standing) (reply : Reply) (limit : ℕ) → IsDecided (TurnOf old.limit old.machine what) old mid reply → KeepsReply reply mid
@@ -195,6 +219,7 @@ asked_keeps g limit s text Wide a = tt
 asked_keeps g limit s text (Rows answer) a = tt
 asked_keeps g limit s text (Counted counts) (q, reads, a) = absurd a.1
 asked_keeps g limit s text (Shown place found) (q, reads, a) = absurd a.1
+asked_keeps g limit s text (OfPin place answer) (q, reads, a) = absurd a.1
 asked_keeps g limit s text (PerWatch found) (q, reads, a) = absurd a.1
 
 pub wanted_keeps : (g : Graph) (limit : ℕ) (s : Standing) (wanted : Wanted) (text : List ℕ) (reply : Reply) → IsReplyWanted g limit wanted text reply → KeepsReply reply s
@@ -204,6 +229,22 @@ text_keeps : (m : Machine) (s : Standing) (name : Word) (text : List ℕ) (t : T
 text_keeps m s name text t (inl (code, fault, is)) = replied_keeps s t _ is tt
 text_keeps m s name text t (inr (q, reads, inl refused)) = replied_keeps s t _ refused.is tt
 text_keeps m s name text t (inr (q, reads, inr added)) = replied_keeps s t _ added.is tt
+
+of_pin_keeps : (g : Graph) (limit : ℕ) (s : Standing) (q : QueryTerm) (place : ℕ) (reply : Reply) → IsReplyTo g limit q reply → KeepsReply (of_pin place reply) s
+of_pin_keeps g limit s q place Silent a = tt
+of_pin_keeps g limit s q place (Bad code) a = tt
+of_pin_keeps g limit s q place (Refused rule) a = tt
+of_pin_keeps g limit s q place Wide a = tt
+of_pin_keeps g limit s q place (Rows answer) a = tt
+of_pin_keeps g limit s q place (Counted counts) a = tt
+of_pin_keeps g limit s q place (Shown i found) a = absurd a.1
+of_pin_keeps g limit s q place (OfPin i answer) a = tt
+of_pin_keeps g limit s q place (PerWatch found) a = absurd a.1
+
+pin_keeps : (limit : ℕ) (m : Machine) (s : Standing) (name : Word) (text : List ℕ) (t : Turn) → AsksPinText limit m name text t → KeepsReply t.reply s
+pin_keeps limit m s name text t (inl (code, fault, is)) = replied_keeps s t _ is tt
+pin_keeps limit m s name text t (inr (q, reads, inl refused)) = replied_keeps s t _ refused.is tt
+pin_keeps limit m s name text t (inr (q, reads, inr a)) = replied_keeps s t _ a.is (of_pin_keeps a.pin.graph limit s q a.place a.reply a.replies)
 
 -- the reading shows no watch and is no tick
 abbrev pub IsOther : Reading → Type 0
@@ -223,6 +264,11 @@ other_keeps limit m s (Shows name) o t a = absurd o
 other_keeps limit m s (Unwatches name) o t (inl refused) = replied_keeps s t _ refused.is tt
 other_keeps limit m s (Unwatches name) o t (inr dropped) = replied_keeps s t _ dropped.is tt
 other_keeps limit m s Ticks o t a = absurd o
+other_keeps limit m s (Opens name) o t (inl refused) = replied_keeps s t _ refused.is tt
+other_keeps limit m s (Opens name) o t (inr opened) = replied_keeps s t _ opened.is tt
+other_keeps limit m s (Closes name) o t (inl refused) = replied_keeps s t _ refused.is tt
+other_keeps limit m s (Closes name) o t (inr closed) = replied_keeps s t _ closed.is tt
+other_keeps limit m s (AsksIn name text) o t a = pin_keeps limit m s name text t a
 
 pub decided_keeps : {E : Type 0} (W : Type 0) (reading : Reading) → IsOther reading → (old new : Standing) (result : Result ReplyValue E) → Decides (Answers old.limit old.machine reading) W old new result → IfOk result (λ reply. KeepsReply (line_reply reply) new)
 decided_keeps W reading o old new (Ok reply) d = other_keeps old.limit old.machine new reading o _ d.turns

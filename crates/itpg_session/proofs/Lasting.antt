@@ -30,12 +30,12 @@ use Rattle.plan_cache.specs.Footprints.{footprint_of, footprints_of}
 use Rattle.plan_cache.specs.KeptRows.{Forgets}
 use Rattle.plan_cache.proofs.Edited.{right_after}
 use Rattle.path_eval.specs.Answering.{DepartsAt, ArrivesAt, IsAnswer}
-use Rattle.path_eval.specs.Evaluated.{IsRight, member_relation, members_of}
+use Rattle.plan_cache.specs.RightRows.{IsRight, IsTableRight, member_relation, members_of}
 use Rattle.row_printer.specs.Texts.{AreDeclared}
 use Rattle.standing_queries.specs.Watches.{Watch}
 use Rattle.standing_queries.specs.Touched.{IsTouched, AreTouched}
 use Rattle.itpg_session.specs.Questions.{IsTooWide, HasAnswer}
-use Rattle.itpg_session.specs.Keeping.{IsTableRight, IsWatchRight, AreWatchesRight, IsKeptRight}
+use Rattle.itpg_session.specs.Keeping.{IsWatchRight, AreWatchesRight, IsKeptRight}
 use Rattle.itpg_session.proofs.Numbers.{next_number}
 use Rattle.itpg_session.proofs.Untouched.{untouched}
 

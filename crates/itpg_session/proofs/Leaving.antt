@@ -1,6 +1,6 @@
 -- What answering a line leaves of the table.
-use Rattle.std.proofs.Common.{◌≡◌, ◌≢◌, inl, inr, List, ℕ, refl, sym, ap, subst, ◌∙◌}
-use Rattle.std.specs.Prelude.{Result, Ok, Err, IsOkAnd}
+use Rattle.std.proofs.Common.{◌≡◌, ◌≢◌, ◌⊎◌, inl, inr, List, [], ◌∷◌, ◌++◌, ℕ, refl, sym, ap, subst, ◌∙◌}
+use Rattle.std.specs.Prelude.{Result, Ok, Err, slice_get, IsSomeAnd, IsOkAnd}
 use Rattle.itpg_base.specs.Graphs.{Graph}
 use Rattle.itpg_base.specs.declared.text_code.TextCode.{TextCode}
 use Rattle.itpg_edit.specs.declared.edit.Edit.{Edit}
@@ -8,16 +8,19 @@ use Rattle.itpg_edit.specs.Rules.{Unbroken, Breaks, rules_of}
 use Rattle.itpg_edit.proofs.FirstOf.{first_or_unbroken}
 use Rattle.itpg_edit.specs.Next.{Makes as MakesGraph}
 use Rattle.edit_reader.specs.declared.line.Line.{Line}
-use Rattle.edit_reader.specs.Readings.{Reading, Nothing, Changes, Asks, Wants, Watches, Shows, Unwatches, Ticks, reading_of, told as read_as}
+use Rattle.edit_reader.specs.Readings.{Reading, Nothing, Changes, Asks, Wants, Watches, Shows, Unwatches, Ticks, Opens, Closes, AsksIn, reading_of, told as read_as}
 use Rattle.edit_reader.specs.Lines.{LineOf}
 use Rattle.plan_cache.specs.Nodes.{Table}
+use Rattle.itpg_pins.specs.Pins.{Held}
 use Rattle.plan_cache.specs.Footprints.{footprints_of}
 use Rattle.plan_cache.specs.KeptRows.{Forgets}
 use Rattle.relation_rows.specs.Answered.{Answered}
-use Rattle.itpg_session.specs.Replies.{Reply, Silent, Bad, Refused, Wide, Rows, Counted, Shown, PerWatch}
+use Rattle.itpg_session.specs.Replies.{Reply, Silent, Bad, Refused, Wide, Rows, Counted, Shown, OfPin, PerWatch}
 use Rattle.itpg_session.specs.Keeping.{AddsText, IsWorkedFor, IsStale, KeepsText}
 use Rattle.itpg_session.specs.Machine.{Machine, Standing, Turn, Answers, TurnOf, told, after}
-use Rattle.itpg_session.specs.Steps.{StandsAs, ForgetsEdit, LeavesTable, LeavesSo, LeavesLine, LeavesUnmade, LeavesUnmadeLine, ForgetsLine, KeepsAsked, KeepsAskedSo, KeepsAskedLine, ShowsKept}
+use Rattle.itpg_session.specs.Steps.{StandsAs, ForgetsEdit, LeavesTable, LeavesSo, LeavesLine, LeavesPins, LeavesPinsSo, LeavesPinsLine, LeavesUnmade, LeavesUnmadeLine, ForgetsLine, KeepsAsked, KeepsAskedSo, KeepsAskedLine, ShowsKept}
+use Rattle.itpg_pins.specs.Pins.{held, without as without_held}
+use Rattle.itpg_session.specs.Pinning.{AddsPinText}
 use Rattle.itpg_session.proofs.WorkedFor.{none_for}
 
 -- ---- nothing
@@ -31,6 +34,9 @@ reading_leaves s (Watches name text) = inr refl
 reading_leaves s (Shows name) = none_for (λ w. IsStale s.machine.watches w × (w.name ≡ name)) s.table
 reading_leaves s (Unwatches name) = refl
 reading_leaves s Ticks = none_for (IsStale s.machine.watches) s.table
+reading_leaves s (Opens name) = refl
+reading_leaves s (Closes name) = refl
+reading_leaves s (AsksIn name text) = refl
 
 so_leaves : (s : Standing) (what : Result Reading TextCode) → LeavesSo what s s
 so_leaves s (Ok reading) = reading_leaves s reading
@@ -38,6 +44,51 @@ so_leaves s (Err code) = refl
 
 pub line_leaves : (s : Standing) (line : List ℕ) → LeavesLine line s s
 line_leaves s line = λ what is. so_leaves s what
+
+-- ---- the pins
+
+pins_same : (reading : Reading) (old new : Standing) → new.pins ≡ old.pins → LeavesPins reading old new
+pins_same Nothing old new is = is
+pins_same (Changes edit) old new is = is
+pins_same (Asks text) old new is = is
+pins_same (Wants wanted text) old new is = is
+pins_same (Watches name text) old new is = is
+pins_same (Shows name) old new is = is
+pins_same (Unwatches name) old new is = is
+pins_same Ticks old new is = is
+pins_same (Opens name) old new is = inr is
+pins_same (Closes name) old new is = inr is
+pins_same (AsksIn name text) old new is = inr is
+
+so_pins_same : (what : Result Reading TextCode) (old new : Standing) → new.pins ≡ old.pins → LeavesPinsSo what old new
+so_pins_same (Ok reading) old new is = pins_same reading old new is
+so_pins_same (Err code) old new is = is
+
+pub line_pins_same : (s : Standing) (line : List ℕ) → LeavesPinsLine line s s
+line_pins_same s line = λ what is. so_pins_same what s s refl
+
+-- what is said of the pins after a line is said of any session that has them then
+pins_on : (reading : Reading) (old mid new : Standing) → new.pins ≡ mid.pins → LeavesPins reading old mid → LeavesPins reading old new
+pins_on Nothing old mid new is a = is ∙ a
+pins_on (Changes edit) old mid new is a = is ∙ a
+pins_on (Asks text) old mid new is a = is ∙ a
+pins_on (Wants wanted text) old mid new is a = is ∙ a
+pins_on (Watches name text) old mid new is a = is ∙ a
+pins_on (Shows name) old mid new is a = is ∙ a
+pins_on (Unwatches name) old mid new is a = is ∙ a
+pins_on Ticks old mid new is a = is ∙ a
+pins_on (Opens name) old mid new is a = subst (λ (ps : List Held). (ps ≡ old.pins ++ held name old.machine.graph old.table ∷ []) ⊎ (ps ≡ old.pins)) (sym is) a
+pins_on (Closes name) old mid new is a = subst (λ (ps : List Held). (ps ≡ without_held name old.pins) ⊎ (ps ≡ old.pins)) (sym is) a
+pins_on (AsksIn name text) old mid new is a = subst (λ (ps : List Held). AddsPinText name text old.pins ps) (sym is) a
+
+so_pins_on : (what : Result Reading TextCode) (old mid new : Standing) → new.pins ≡ mid.pins → LeavesPinsSo what old mid → LeavesPinsSo what old new
+so_pins_on (Ok reading) old mid new is a = pins_on reading old mid new is a
+so_pins_on (Err code) old mid new is a = is ∙ a
+
+-- what is decided of the pins for what a line is, is so of the line
+pub line_pins : (line : List ℕ) (what : Result Reading TextCode) (old mid new : Standing) → ((other : Result Reading TextCode) → LineOf line other → other ≡ what) → new.pins ≡ mid.pins → LeavesPinsSo what old mid
+    → LeavesPinsLine line old new
+line_pins line what old mid new only is a = λ other of. subst (λ w. LeavesPinsSo w old new) (sym (only other of)) (so_pins_on what old mid new is a)
 
 -- a line that shows a watch is no edit
 pub kept_forgets : (s : Standing) (line : List ℕ) (what : Result Line TextCode) (answer : Answered) → ((other : Result Reading TextCode) → LineOf line other → other ≡ read_as what) → IsOkAnd what (λ l. ShowsKept s (reading_of l) answer) → ForgetsLine line s s
@@ -56,6 +107,9 @@ shows_asks s (Watches name text) answer k = tt
 shows_asks s (Shows name) answer k = tt
 shows_asks s (Unwatches name) answer k = tt
 shows_asks s Ticks answer k = tt
+shows_asks s (Opens name) answer k = tt
+shows_asks s (Closes name) answer k = tt
+shows_asks s (AsksIn name text) answer k = absurd k
 
 pub kept_asks : (s : Standing) (line : List ℕ) (what : Result Line TextCode) (answer : Answered) → ((other : Result Reading TextCode) → LineOf line other → other ≡ read_as what) → IsOkAnd what (λ l. ShowsKept s (reading_of l) answer) → KeepsAskedLine line s s
 kept_asks s line (Ok l) answer only kept = λ other of. subst (λ (w : Result Reading TextCode). KeepsAskedSo w s s) (sym (only other of)) (shows_asks s (reading_of l) answer kept)
@@ -104,6 +158,7 @@ after_graph m Wide = refl
 after_graph m (Rows answer) = refl
 after_graph m (Counted counts) = refl
 after_graph m (Shown place found) = refl
+after_graph m (OfPin place answer) = refl
 after_graph m (PerWatch found) = refl
 
 -- the table and the graph stay from here on
@@ -126,6 +181,9 @@ module _ (old mid new : Standing) (table : new.table ≡ mid.table) (graph : new
   reading_on (Shows name) a = subst (IsWorkedFor (λ w. IsStale old.machine.watches w × (w.name ≡ name)) old.table) (sym table) a
   reading_on (Unwatches name) a = table ∙ a
   reading_on Ticks a = subst (IsWorkedFor (IsStale old.machine.watches) old.table) (sym table) a
+  reading_on (Opens name) a = table ∙ a
+  reading_on (Closes name) a = table ∙ a
+  reading_on (AsksIn name text) a = table ∙ a
 
   so_on : (what : Result Reading TextCode) → LeavesSo what old mid → LeavesSo what old new
   so_on (Ok reading) a = reading_on reading a
@@ -145,7 +203,7 @@ forgets_settled line what old mid new reply limit only table stands a = λ edit 
     forgets_on old mid new table (ap (λ (m : Machine). m.graph) stands.machine ∙ after_graph mid.machine reply) edit (a edit (sym (only (Ok (Changes edit)) is)) unbroken)
 
 -- what is kept of a question that was decided stays so
-module _ (old mid new : Standing) (table : new.table ≡ mid.table) (graph : new.machine.graph ≡ mid.machine.graph) where
+module _ (old mid new : Standing) (table : new.table ≡ mid.table) (pins : new.pins ≡ mid.pins) (graph : new.machine.graph ≡ mid.machine.graph) where
   text_on : (text : List ℕ) → KeepsText mid.machine.graph text mid.table → KeepsText new.machine.graph text new.table
   text_on text kept = subst (λ (g : Graph). KeepsText g text new.table) (sym graph) (subst (KeepsText mid.machine.graph text) (sym table) kept)
 
@@ -158,10 +216,13 @@ module _ (old mid new : Standing) (table : new.table ≡ mid.table) (graph : new
   asked_on (Ok (Shows name)) a = tt
   asked_on (Ok (Unwatches name)) a = tt
   asked_on (Ok Ticks) a = tt
+  asked_on (Ok (Opens name)) a = tt
+  asked_on (Ok (Closes name)) a = tt
+  asked_on (Ok (AsksIn name text)) a = λ place answer turn. subst (λ (ps : List Held). IsSomeAnd (slice_get ps place) (λ p. KeepsText p.graph text p.table)) (sym pins) (a place answer turn)
   asked_on (Err code) a = tt
 
 pub asked_settled : (line : List ℕ) (what : Result Reading TextCode) (old mid new : Standing) (reply : Reply) (limit : ℕ) → ((other : Result Reading TextCode) → LineOf line other → other ≡ what)
-    → new.table ≡ mid.table → StandsAs new (after mid.machine reply) limit → KeepsAskedSo what old mid → KeepsAskedLine line old new
-asked_settled line what old mid new reply limit only table stands a = λ other of.
+    → new.table ≡ mid.table → new.pins ≡ mid.pins → StandsAs new (after mid.machine reply) limit → KeepsAskedSo what old mid → KeepsAskedLine line old new
+asked_settled line what old mid new reply limit only table pins stands a = λ other of.
     let graph : new.machine.graph ≡ mid.machine.graph = ap (λ (m : Machine). m.graph) stands.machine ∙ after_graph mid.machine reply in
-    subst (λ (w : Result Reading TextCode). KeepsAskedSo w old new) (sym (only other of)) (asked_on old mid new table graph what a)
+    subst (λ (w : Result Reading TextCode). KeepsAskedSo w old new) (sym (only other of)) (asked_on old mid new table pins graph what a)

@@ -11,7 +11,13 @@ pub mod Changing
 pub mod Answering
 pub mod Marks
 pub mod OneTouch
+pub mod PinLists
+pub mod PinTurns
+pub mod Pinned
+pub mod Lent
 pub mod OneTurn
+pub mod GoodTurn
+pub mod SomeTurn
 pub mod Suiting
 pub mod Accepting
 pub mod Stepping

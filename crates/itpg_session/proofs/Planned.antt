@@ -13,11 +13,11 @@ use Rattle.plan_cache.specs.Nodes.{PlanNode, Kept, Table, IsNodeOf, AreNodesOf, 
 use Rattle.plan_cache.specs.Refilled.{members_asked, numbers_of, KeepsShared}
 use Rattle.plan_cache.specs.Growing.{Grows}
 use Rattle.plan_cache.specs.KeptRows.{AddsFree}
-use Rattle.path_eval.specs.Evaluated.{IsRight}
+use Rattle.plan_cache.specs.RightRows.{IsRight, IsTableRight}
 use Rattle.standing_queries.specs.Watches.{Watch, replanned}
 use Rattle.itpg_session.specs.Machine.{Standing}
 use Rattle.itpg_session.specs.Steps.{IsAlike}
-use Rattle.itpg_session.specs.Keeping.{IsTableRight, IsWatchRight, AreWatchesRight, IsKeptRight, AreReplanned}
+use Rattle.itpg_session.specs.Keeping.{IsWatchRight, AreWatchesRight, IsKeptRight, AreReplanned}
 use Rattle.itpg_session.specs.Planning.{ArePlansOf, with_plans}
 use Rattle.itpg_session.proofs.Plain.{replanned_same, replanned_again}
 

@@ -26,13 +26,13 @@ use Rattle.label_scope.specs.Narrowing.{Cut}
 use Rattle.label_scope.specs.Members.{worked}
 use Rattle.label_scope.proofs.Within.{cut_all}
 use Rattle.path_eval.specs.Answering.{DepartsAt, ArrivesAt, IsAnswer, IsAnswerFrom, AnswersQuery}
-use Rattle.path_eval.specs.Evaluated.{AllFit}
+use Rattle.plan_cache.specs.RightRows.{AllFit}
 use Rattle.path_eval.proofs.Answers.{answer_from}
 use Rattle.path_eval.proofs.Finite.{cut_rows, departures, arrivals, fit_or_wide, fit_apart}
 use Rattle.row_printer.specs.Texts.{AreDeclared}
 use Rattle.itpg_session.specs.Questions.{HasAnswer}
 use Rattle.itpg_session.specs.Rules.{QueryBreaks, ask_rules}
-use Rattle.itpg_session.specs.Replies.{Reply, Silent, Bad, Refused, Wide, Rows, Counted, Shown, PerWatch, IsFound, FindsFor, IsReply, IsReplyTo, NamesDeclared}
+use Rattle.itpg_session.specs.Replies.{Reply, Silent, Bad, Refused, Wide, Rows, Counted, Shown, OfPin, PerWatch, IsFound, FindsFor, IsReply, IsReplyTo, NamesDeclared}
 use Rattle.itpg_session.proofs.Decided.{first_or_none, decide_ask}
 
 -- ---- what answers a query
@@ -98,12 +98,14 @@ module _ (g : Graph) (limit : ℕ) (q : QueryTerm) where
   one_found (Refused r) y a b = absurd a
   one_found (Counted c) y a b = absurd a
   one_found (Shown i f) y a b = absurd a
+  one_found (OfPin i x) y a b = absurd a
   one_found (PerWatch f) y a b = absurd a
   one_found Wide Silent a b = absurd b
   one_found Wide (Bad c) a b = absurd b
   one_found Wide (Refused r) a b = absurd b
   one_found Wide (Counted c) a b = absurd b
   one_found Wide (Shown i f) a b = absurd b
+  one_found Wide (OfPin i x) a b = absurd b
   one_found Wide (PerWatch f) a b = absurd b
   one_found Wide Wide a b = refl
   one_found Wide (Rows y) a b = absurd (b.0 a)
@@ -112,6 +114,7 @@ module _ (g : Graph) (limit : ℕ) (q : QueryTerm) where
   one_found (Rows x) (Refused r) a b = absurd b
   one_found (Rows x) (Counted c) a b = absurd b
   one_found (Rows x) (Shown i f) a b = absurd b
+  one_found (Rows x) (OfPin i y) a b = absurd b
   one_found (Rows x) (PerWatch f) a b = absurd b
   one_found (Rows x) Wide a b = absurd (a.0 b)
   one_found (Rows x) (Rows y) a b = ap Rows (one_answered x y a b)
@@ -141,6 +144,7 @@ module _ (g : Graph) (limit : ℕ) (q : QueryTerm) where
   found_declared (Refused r) a = tt
   found_declared (Counted c) a = tt
   found_declared (Shown i f) a = tt
+  found_declared (OfPin i x) a = tt
   found_declared (PerWatch f) a = tt
   found_declared Wide a = tt
   found_declared (Rows x) a = declared g q.path q.first q.last x a.1
@@ -162,9 +166,10 @@ module _ (g : Graph) (limit : ℕ) (q : QueryTerm) where
   refused_or_found (Rows x) a = inr a
   refused_or_found (Counted c) a = inr a
   refused_or_found (Shown i f) a = inr a
+  refused_or_found (OfPin i x) a = inr a
   refused_or_found (PerWatch f) a = inr a
 
-  one_reply_to : (x y : Reply) → IsReplyTo g limit q x → IsReplyTo g limit q y → x ≡ y
+  pub one_reply_to : (x y : Reply) → IsReplyTo g limit q x → IsReplyTo g limit q y → x ≡ y
   one_reply_to x y a b = by_cases (refused_or_found x a) (refused_or_found y b)
     where
       Cases : Reply → Type 0
@@ -183,11 +188,12 @@ module _ (g : Graph) (limit : ℕ) (q : QueryTerm) where
   is_reply unbroken (Refused r) is = absurd is
   is_reply unbroken (Counted c) is = absurd is
   is_reply unbroken (Shown i f) is = absurd is
+  is_reply unbroken (OfPin i x) is = absurd is
   is_reply unbroken (PerWatch f) is = absurd is
   is_reply unbroken Wide is = (unbroken, is)
   is_reply unbroken (Rows x) is = (unbroken, is)
 
-  some_reply_to : IsTrue (q.first || q.last) → (reply : Reply) × IsReplyTo g limit q reply
+  pub some_reply_to : IsTrue (q.first || q.last) → (reply : Reply) × IsReplyTo g limit q reply
   some_reply_to ends = elim (first_or_none (QueryBreaks g q) (decide_ask g q) ask_rules) [
     | inl f ↦ (Refused f.0, f.1)
     | inr unbroken ↦ let f = some_found g limit q ends in (f.0, is_reply unbroken f.0 f.1)
@@ -204,6 +210,7 @@ module _ (g : Graph) (limit : ℕ) (text : List ℕ) where
   of_read q reads (Rows x) a = (q, reads, a)
   of_read q reads (Counted c) a = (q, reads, a)
   of_read q reads (Shown i f) a = (q, reads, a)
+  of_read q reads (OfPin i x) a = (q, reads, a)
   of_read q reads (PerWatch f) a = (q, reads, a)
 
   read_or_bad : (reply : Reply) → IsReply g limit text reply → ((q : QueryTerm) × Reads text q × IsReplyTo g limit q reply) ⊎ ((c : TextCode) × FaultOf text c × (reply ≡ Bad c))
@@ -214,6 +221,7 @@ module _ (g : Graph) (limit : ℕ) (text : List ℕ) where
   read_or_bad (Rows x) a = inl a
   read_or_bad (Counted c) a = inl a
   read_or_bad (Shown i f) a = inl a
+  read_or_bad (OfPin i x) a = inl a
   read_or_bad (PerWatch f) a = inl a
 
   pub declared_asked : (reply : Reply) → IsReply g limit text reply → NamesDeclared g reply
@@ -223,6 +231,7 @@ module _ (g : Graph) (limit : ℕ) (text : List ℕ) where
   declared_asked Wide a = tt
   declared_asked (Counted c) a = tt
   declared_asked (Shown i f) a = tt
+  declared_asked (OfPin i x) a = tt
   declared_asked (PerWatch f) a = tt
   declared_asked (Rows x) (q, reads, a) = declared g q.path q.first q.last x a.1.1
 

@@ -5,7 +5,7 @@ use Rattle.itpg_base.specs.Words.{Word}
 use Rattle.itpg_base.specs.Graphs.{Graph}
 use Rattle.itpg_base.specs.declared.text_code.TextCode.{TextCode}
 use Rattle.edit_reader.specs.declared.line.Line.{Line}
-use Rattle.edit_reader.specs.Readings.{reading_of, told as read_as, Reading, Nothing, Changes, Asks, Wants, Watches, Shows, Unwatches, Ticks}
+use Rattle.edit_reader.specs.Readings.{reading_of, told as read_as, Reading, Nothing, Changes, Asks, Wants, Watches, Shows, Unwatches, Ticks, Opens, Closes, AsksIn}
 use Rattle.edit_reader.specs.Lines.{LineOf}
 use Rattle.relation_rows.specs.Answered.{Answered}
 use Rattle.row_printer.specs.Texts.{AreDeclared}
@@ -23,6 +23,7 @@ use Rattle.itpg_session.specs.Machine.{Machine, Standing, Turn, TurnOf, Replies,
 use Rattle.itpg_session.specs.Steps.{Decides, WhatWants, LineWants, ShowsNameKept, ShowsKept}
 use Rattle.itpg_session.proofs.Answering.{replies_read, shows_answers, may_name}
 use Rattle.itpg_session.proofs.Plain.{plain_at, plain_watched, fresh_plain}
+use Rattle.itpg_pins.specs.Pins.{Held}
 use Rattle.itpg_session.proofs.Accepting.{stood}
 use Rattle.itpg_session.proofs.Replying.{declared}
 use Rattle.itpg_session.proofs.Told.{decides_as}
@@ -58,12 +59,12 @@ shown_declared g limit None (Some answer) finds = absurd finds
 shown_declared g limit (Some w) (Some answer) finds = declared g w.query.path w.query.first w.query.last answer finds.1
 
 -- the kept answer of a watch that stands
-pub keeps_shows : (g : Graph) (limit : ℕ) (table : Table) (ws : List Watch) (now : Standing) → stood g limit table ws ≡ now → AreWatchesRight g limit table.nodes ws → NoneOf (TickBreaks g) tick_rules
+pub keeps_shows : (g : Graph) (limit : ℕ) (table : Table) (ws : List Watch) (ps : List Held) (now : Standing) → stood g limit table ws ps ≡ now → AreWatchesRight g limit table.nodes ws → NoneOf (TickBreaks g) tick_rules
     → (name : Word) (answer : Answered) → Keeps ws name answer → ShowsNameKept now name answer
-keeps_shows g limit table ws now view right begun name answer (w, among, named, is, kind) =
+keeps_shows g limit table ws ps now view right begun name answer (w, among, named, is, kind) =
     let at = place_among ws w among in
     subst (λ (s : Standing). ShowsNameKept s name answer) view (record {
-      unbroken = may_name (stood g limit table ws).machine name begun (λ none. none (plain_watched ws name (w, among, named)));
+      unbroken = may_name (stood g limit table ws ps).machine name begun (λ none. none (plain_watched ws name (w, among, named)));
       place = at.0;
       watch = plain w;
       at = plain_at ws at.0 w at.1;
@@ -73,8 +74,8 @@ keeps_shows g limit table ws now view right begun name answer (w, among, named, 
     })
 
 -- and where none is kept, none is shown so
-pub keeps_none : (g : Graph) (limit : ℕ) (table : Table) (ws : List Watch) (now : Standing) → stood g limit table ws ≡ now → (name : Word) → (IsFreshThere ws name → ⊥) → IsFresh now.machine.watches name → ⊥
-keeps_none g limit table ws now view name none fresh = none (fresh_plain ws name (subst (λ (s : Standing). IsFresh s.machine.watches name) (sym view) fresh))
+pub keeps_none : (g : Graph) (limit : ℕ) (table : Table) (ws : List Watch) (ps : List Held) (now : Standing) → stood g limit table ws ps ≡ now → (name : Word) → (IsFreshThere ws name → ⊥) → IsFresh now.machine.watches name → ⊥
+keeps_none g limit table ws ps now view name none fresh = none (fresh_plain ws name (subst (λ (s : Standing). IsFresh s.machine.watches name) (sym view) fresh))
 
 -- a line that shows a watch of which this answer is kept: its turn tells it, and leaves the machine
 pub record KeptTurn (s : Standing) (line : List ℕ) (answer : Answered) : Type 0 where
@@ -96,7 +97,7 @@ named_kept s line name answer is k = record {
     finds = k.answers;
     is = refl;
   })));
-  stays = ap (λ (ws : List PlainWatch). let m : Machine = record { graph = s.machine.graph; watches = ws } in m) (marked_again s.machine.watches k.place k.watch k.at k.fresh);
+  stays = ap (λ (ws : List PlainWatch). let m : Machine = record s.machine { watches = ws } in m) (marked_again s.machine.watches k.place k.watch k.at k.fresh);
   declared = declared s.machine.graph (k.watch).query.path (k.watch).query.first (k.watch).query.last answer k.answers.1;
 }
 
@@ -109,6 +110,9 @@ kept_turn s line (Watches name text) answer is k = absurd k
 kept_turn s line (Shows name) answer is k = named_kept s line name answer is k
 kept_turn s line (Unwatches name) answer is k = absurd k
 kept_turn s line Ticks answer is k = absurd k
+kept_turn s line (Opens name) answer is k = absurd k
+kept_turn s line (Closes name) answer is k = absurd k
+kept_turn s line (AsksIn name text) answer is k = absurd k
 
 pub kept_line : (s : Standing) (line : List ℕ) (what : Result Line TextCode) (answer : Answered) → LineOf line (read_as what) → IsOkAnd what (λ l. ShowsKept s (reading_of l) answer) → KeptTurn s line answer
 kept_line s line (Ok l) answer is k = kept_turn s line (reading_of l) answer is k

@@ -4,19 +4,20 @@ use Rattle.std.specs.Prelude.{Result, Ok, Err, Option, Some, IfOk, slice_get, Is
 use Rattle.itpg_base.specs.Words.{Word}
 use Rattle.itpg_base.specs.declared.rule_code.RuleCode.{RuleCode}
 use Rattle.itpg_base.specs.declared.text_code.TextCode.{TextCode}
-use Rattle.edit_reader.specs.Readings.{Reading, Nothing, Changes, Asks, Wants, Watches, Shows, Unwatches, Ticks}
+use Rattle.edit_reader.specs.Readings.{Reading, Nothing, Changes, Asks, Wants, Watches, Shows, Unwatches, Ticks, Opens, Closes, AsksIn}
 use Rattle.edit_reader.specs.declared.line.Wanted.{Wanted}
 use Rattle.path_ast.specs.Terms.{QueryTerm}
-use Rattle.itpg_session.specs.Replies.{Reply, Silent, Bad, Refused, Wide, Rows, Counted, Shown, PerWatch, FindsFor, IsReply, line_reply}
+use Rattle.itpg_session.specs.Replies.{Reply, Silent, Bad, Refused, Wide, Rows, Counted, Shown, OfPin, PerWatch, FindsFor, IsReply, IsReplyTo, of_pin, line_reply}
 use Rattle.relation_rows.specs.Answered.{Answered}
 use Rattle.itpg_session.specs.PlainWatches.{PlainWatch}
-use Rattle.itpg_session.specs.Machine.{Machine, Standing, Turn, Refuses, WatchesText, WatchesQuery, Answers, TurnOf}
+use Rattle.itpg_session.specs.PlainPins.{Pin}
+use Rattle.itpg_session.specs.Machine.{Machine, Standing, Turn, Refuses, WatchesText, WatchesQuery, AsksPinText, Answers, TurnOf}
 use Rattle.row_printer.specs.Texts.{AreDeclared}
 use Rattle.itpg_session.specs.Ticks.{AreTicked}
 use Rattle.itpg_session.specs.Steps.{IsAlike, Decides, Suits}
 use Rattle.itpg_session.specs.declared.reply.Reply.{Reply as ReplyValue}
 use Rattle.itpg_session.specs.Wanting.{IsReplyWanted}
-use Rattle.itpg_session.proofs.Replying.{declared_asked}
+use Rattle.itpg_session.proofs.Replying.{declared, declared_asked}
 use Rattle.itpg_session.proofs.WantedReplies.{each_wanted}
 
 module _ (s : Standing) where
@@ -28,6 +29,7 @@ module _ (s : Standing) where
   asked_suits text (Rows answer) a = declared_asked s.machine.graph s.limit text (Rows answer) a
   asked_suits text (Counted counts) (q, reads, a) = absurd a.1
   asked_suits text (Shown place found) (q, reads, a) = absurd a.1
+  asked_suits text (OfPin place answer) (q, reads, a) = absurd a.1
   asked_suits text (PerWatch found) (q, reads, a) = absurd a.1
 
   wanted_suits : (wanted : Wanted) (text : List ℕ) (reply : Reply) → IsReplyWanted s.machine.graph s.limit wanted text reply → Suits s reply
@@ -51,6 +53,22 @@ module _ (s : Standing) where
   text_suits name text t (inl (code, fault, is)) = replied t _ is tt
   text_suits name text t (inr (q, reads, a)) = watched_suits name q t a
 
+  pinned_suits : (place : ℕ) (p : Pin) (q : QueryTerm) (reply : Reply) → slice_get s.machine.pins place ≡ Some p → IsReplyTo p.graph s.limit q reply → Suits s (of_pin place reply)
+  pinned_suits place p q Silent at a = tt
+  pinned_suits place p q (Bad code) at a = tt
+  pinned_suits place p q (Refused rule) at a = tt
+  pinned_suits place p q Wide at a = tt
+  pinned_suits place p q (Rows answer) at a = subst (λ o. IsSomeAnd o (λ p. AreDeclared (length p.graph.objects) answer)) (sym at) (declared p.graph q.path q.first q.last answer a.1.1)
+  pinned_suits place p q (Counted counts) at a = absurd a.1
+  pinned_suits place p q (Shown i found) at a = absurd a.1
+  pinned_suits place p q (OfPin i answer) at a = absurd a.1
+  pinned_suits place p q (PerWatch found) at a = absurd a.1
+
+  pin_text_suits : (name : Word) (text : List ℕ) (t : Turn) → AsksPinText s.limit s.machine name text t → Suits s t.reply
+  pin_text_suits name text t (inl (code, fault, is)) = replied t _ is tt
+  pin_text_suits name text t (inr (q, reads, inl a)) = replied t _ a.is tt
+  pin_text_suits name text t (inr (q, reads, inr a)) = replied t _ a.is (pinned_suits a.place a.pin q a.reply a.at a.replies)
+
   answer_suits : (reading : Reading) (t : Turn) → Answers s.limit s.machine reading t → Suits s t.reply
   unfolding Answers
   answer_suits Nothing t a = replied t _ a tt
@@ -65,6 +83,11 @@ module _ (s : Standing) where
   answer_suits (Unwatches name) t (inr a) = replied t _ a.is tt
   answer_suits Ticks t (inl a) = replied t _ a.is tt
   answer_suits Ticks t (inr a) = replied t _ a.is a.finds
+  answer_suits (Opens name) t (inl a) = replied t _ a.is tt
+  answer_suits (Opens name) t (inr a) = replied t _ a.is tt
+  answer_suits (Closes name) t (inl a) = replied t _ a.is tt
+  answer_suits (Closes name) t (inr a) = replied t _ a.is tt
+  answer_suits (AsksIn name text) t a = pin_text_suits name text t a
 
   turn_suits : (what : Result Reading TextCode) (t : Turn) → TurnOf s.limit s.machine what t → Suits s t.reply
   unfolding TurnOf
@@ -79,6 +102,7 @@ silent_or_not Wide = inl (λ e. let no : ⊥ = cc in no)
 silent_or_not (Rows answer) = inl (λ e. let no : ⊥ = cc in no)
 silent_or_not (Counted counts) = inl (λ e. let no : ⊥ = cc in no)
 silent_or_not (Shown place found) = inl (λ e. let no : ⊥ = cc in no)
+silent_or_not (OfPin place answer) = inl (λ e. let no : ⊥ = cc in no)
 silent_or_not (PerWatch found) = inl (λ e. let no : ⊥ = cc in no)
 
 -- two sessions with one machine and one limit: what suits the one suits the other
@@ -92,6 +116,7 @@ suits_alike old new (Counted counts) machine limit h = tt
 suits_alike old new (Shown place found) machine limit h =
     subst (λ (l : ℕ). IsSomeAnd (slice_get new.machine.watches place) (λ w. FindsFor new.machine.graph l w.query found)) (sym limit)
     (subst (λ (m : Machine). IsSomeAnd (slice_get m.watches place) (λ w. FindsFor m.graph old.limit w.query found)) (sym machine) h)
+suits_alike old new (OfPin place answer) machine limit h = subst (λ (m : Machine). IsSomeAnd (slice_get m.pins place) (λ p. AreDeclared (length p.graph.objects) answer)) (sym machine) h
 suits_alike old new (PerWatch found) machine limit h =
     subst (λ (l : ℕ). AreTicked new.machine.graph l new.machine.watches found) (sym limit) (subst (λ (m : Machine). AreTicked m.graph old.limit m.watches found) (sym machine) h)
 

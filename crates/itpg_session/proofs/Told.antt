@@ -8,7 +8,7 @@ use Rattle.itpg_session.specs.declared.reply.Seen.TheVariants.{Quiet, Answered, 
 use Rattle.itpg_session.specs.declared.reply.Reply.{Reply as ReplyValue}
 use Rattle.relation_rows.specs.Answered.{Answered as Answer}
 use Rattle.arrivals.specs.declared.counts.CountRow.{CountRow}
-use Rattle.itpg_session.specs.Replies.{Reply, Silent, Bad, Refused, Wide, Rows, Counted, Shown, PerWatch, line_reply}
+use Rattle.itpg_session.specs.Replies.{Reply, Silent, Bad, Refused, Wide, Rows, Counted, Shown, OfPin, PerWatch, line_reply}
 use Rattle.itpg_session.specs.Texts.{bad_text, refused_text, wide_text, head_text, rows_text, counts_head_text, counted_text, text_of}
 use Rattle.itpg_session.specs.Machine.{Machine, Standing, Turn, told}
 use Rattle.itpg_session.specs.Steps.{Sees, IsAlike, IsDecided, Decides}
@@ -41,6 +41,10 @@ pub rows_seen : (g : Graph) (number : ℕ) (answer : Answer) → Sees Answered (
 unfolding head_text
 rows_seen g number answer = sees_answered (rows_text g number answer) (λ e. cc)
 
+pub pin_seen : (m : Machine) (number place : ℕ) (answer : Answer) → Sees Answered (text_of m number (OfPin place answer)) false
+unfolding head_text
+pin_seen m number place answer = sees_answered (text_of m number (OfPin place answer)) (λ e. cc)
+
 pub counts_seen : (number : ℕ) (counts : List CountRow) → Sees Answered (counted_text number counts) false
 unfolding counts_head_text
 counts_seen number counts = sees_answered (counted_text number counts) (λ e. cc)
@@ -70,13 +74,14 @@ module _ {P : Turn → Type 0} where
   silent old new limit p = record { turns = p; waits = λ some. absurd (some refl); limit = limit }
 
 -- a reply that says something is to the machine that it was decided for, and one that says nothing has no text
-pub same_text : (old new : Standing) (number : ℕ) (reply : Reply) → (reply ≢ Silent → IsAlike old new) → text_of new.machine.graph number reply ≡ text_of old.machine.graph number reply
+pub same_text : (old new : Standing) (number : ℕ) (reply : Reply) → (reply ≢ Silent → IsAlike old new) → text_of new.machine number reply ≡ text_of old.machine number reply
 same_text old new number Silent waits = refl
 same_text old new number (Bad code) waits = refl
 same_text old new number (Refused rule) waits = refl
 same_text old new number Wide waits = refl
-same_text old new number (Rows answer) waits = ap (λ (m : Machine). text_of m.graph number (Rows answer)) (waits (λ e. let no : ⊥ = cc in no)).machine
+same_text old new number (Rows answer) waits = ap (λ (m : Machine). text_of m number (Rows answer)) (waits (λ e. let no : ⊥ = cc in no)).machine
 same_text old new number (Counted counts) waits = refl
 same_text old new number (Shown place None) waits = refl
-same_text old new number (Shown place (Some answer)) waits = ap (λ (m : Machine). text_of m.graph number (Shown place (Some answer))) (waits (λ e. let no : ⊥ = cc in no)).machine
-same_text old new number (PerWatch found) waits = ap (λ (m : Machine). text_of m.graph number (PerWatch found)) (waits (λ e. let no : ⊥ = cc in no)).machine
+same_text old new number (Shown place (Some answer)) waits = ap (λ (m : Machine). text_of m number (Shown place (Some answer))) (waits (λ e. let no : ⊥ = cc in no)).machine
+same_text old new number (OfPin place answer) waits = ap (λ (m : Machine). text_of m number (OfPin place answer)) (waits (λ e. let no : ⊥ = cc in no)).machine
+same_text old new number (PerWatch found) waits = ap (λ (m : Machine). text_of m number (PerWatch found)) (waits (λ e. let no : ⊥ = cc in no)).machine

@@ -14,20 +14,17 @@ use Rattle.relation_rows.specs.declared.rows.Row.{Row}
 use Rattle.plan_cache.specs.Nodes.{Table, PlanNode, IsNodeOf, narrowed_member, parts_of}
 use Rattle.plan_cache.specs.declared.nodes.TheConstants.{MAX_NODES}
 use Rattle.plan_cache.specs.Growing.{Grows, IsUnder}
-use Rattle.plan_cache.specs.KeptRows.{AllKept, Stays}
+use Rattle.plan_cache.specs.KeptRows.{Stays}
 use Rattle.plan_cache.specs.Refilled.{KeepsOf}
-use Rattle.path_eval.specs.Evaluated.{IsRight}
+use Rattle.plan_cache.specs.RightRows.{IsTableRight}
 use Rattle.path_eval.specs.Keeping.{KeptOrFull}
 use Rattle.relation_rows.specs.Answered.{Answered}
 use Rattle.row_printer.specs.Texts.{AreDeclared}
 use Rattle.standing_queries.specs.Watches.{Watch}
+use Rattle.itpg_pins.specs.Pins.{Pinned}
 use Rattle.itpg_session.specs.PlainWatches.{PlainWatch}
 use Rattle.itpg_session.specs.Questions.{HasAnswer}
 use Rattle.itpg_session.specs.Ticks.{Ticked, StaysWide, Moves}
-
--- each kept relation is that of its node on the graph, with all its worked members within the limit
-abbrev pub IsTableRight : Graph → ℕ → Table → Type 0
-IsTableRight g limit table = AllKept (IsRight g limit) table.nodes table.kept
 
 -- a watch stands well beside these nodes: its plan is the node of its path between all objects, its footprint is that of this path,
 -- its base has rows of declared objects alone, and its kept answer, if there is one, is the query's answer on the graph
@@ -44,6 +41,11 @@ AreWatchesRight g limit nodes watches = (w : Watch) → Among watches w → IsWa
 pub record IsKeptRight (g : Graph) (limit : ℕ) (table : Table) (watches : List Watch) : Type 0 where
   pub table_right : IsTableRight g limit table
   pub watches_right : AreWatchesRight g limit table.nodes watches
+
+-- and the pins have the session's limit of rows
+pub record IsSessionRight (g : Graph) (limit : ℕ) (table : Table) (watches : List Watch) (pins : Pinned) : Type 0 where
+  pub kept : IsKeptRight g limit table watches
+  pub pins_limit : pins.limit ≡ limit
 
 -- of a watch nothing changes but the number of its plan
 abbrev pub IsReplanned : Watch → Watch → Type 0

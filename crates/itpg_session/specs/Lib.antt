@@ -1,4 +1,5 @@
 pub mod PlainWatches
+pub mod PlainPins
 pub mod Rules
 pub mod Questions
 pub mod Ticks
@@ -10,4 +11,5 @@ pub mod Machine
 pub mod MachineLaws
 pub mod Keeping
 pub mod Planning
+pub mod Pinning
 pub mod Steps

@@ -7,7 +7,7 @@ use Rattle.itpg_base.specs.declared.text_code.TextCode.{TextCode}
 use Rattle.itpg_edit.specs.declared.edit.Edit.{Edit}
 use Rattle.itpg_edit.specs.Rules.{rules_of, Breaks, FirstOf, NoneOf}
 use Rattle.itpg_edit.specs.Next.{Makes as MakesGraph}
-use Rattle.edit_reader.specs.Readings.{Reading, Nothing, Changes, Asks, Wants, Watches, Shows, Unwatches, Ticks}
+use Rattle.edit_reader.specs.Readings.{Reading, Nothing, Changes, Asks, Wants, Watches, Shows, Unwatches, Ticks, Opens, Closes, AsksIn}
 use Rattle.edit_reader.specs.declared.line.Wanted.{Wanted}
 use Rattle.edit_reader.specs.Lines.{LineOf}
 use Rattle.path_ast.specs.Terms.{QueryTerm}
@@ -17,37 +17,43 @@ use Rattle.itpg_base.specs.Lists.{Among, Ordered}
 use Rattle.plan_cache.specs.Nodes.{Table}
 use Rattle.itpg_base.specs.declared.touch.Touch.{Touch}
 use Rattle.standing_queries.specs.Watches.{Watch, IsOfKind}
+use Rattle.itpg_pins.specs.Pins.{Held}
 use Rattle.itpg_session.specs.PlainWatches.{PlainWatch, NamesDiffer, new_watch, without, marked_at, AreMarkedAfter}
-use Rattle.itpg_session.specs.Rules.{watch_rules, name_rules, tick_rules, WatchBreaks, NameBreaks, TickBreaks}
-use Rattle.itpg_session.specs.Replies.{Reply, Silent, Bad, Refused, Wide, Rows, Counted, Shown, PerWatch, FindsFor, IsReply}
+use Rattle.itpg_session.specs.PlainPins.{Pin, PinsDiffer, new_pin, without_pin}
+use Rattle.itpg_session.specs.Rules.{watch_rules, name_rules, tick_rules, open_rules}
+use Rattle.itpg_session.specs.Rules.{WatchBreaks, NameBreaks, TickBreaks, OpenBreaks, PinBreaks}
+use Rattle.itpg_session.specs.Replies.{Reply, Silent, Bad, Refused, Wide, Rows, Counted, Shown, OfPin, PerWatch, FindsFor, IsReply, IsReplyTo, of_pin}
 use Rattle.itpg_session.specs.Wanting.{IsReplyWanted}
 use Rattle.itpg_session.specs.Ticks.{Ticked, AreTicked, all_moved}
 use Rattle.itpg_session.specs.Watching.{AsksForOne}
 
--- a machine has a graph and the watches that stand, in order of declaration
+-- a machine has a graph, and the watches and the pins that stand, in order of declaration
 pub record Machine : Type 0 where
   pub graph : Graph
   pub watches : List PlainWatch
+  pub pins : List Pin
 
--- what each machine keeps: its graph is good, no two watches have one name, and each asks for an end of its path and has a
--- base of its kind
+-- what each machine keeps: its graph is good, no two watches and no two pins have one name, and each watch asks for an end of its path
+-- and has a base of its kind
 pub record IsGood (m : Machine) : Type 0 where
   pub graph : Good m.graph
   pub differ : Ordered NamesDiffer m.watches
   pub asks : (w : PlainWatch) → Among m.watches w → AsksForOne w.query
   pub kinds : (w : PlainWatch) → Among m.watches w → IsOfKind w.query w.base
+  pub pins : Ordered PinsDiffer m.pins
 
--- at first no graph is begun, and nothing is watched
+-- at first no graph is begun, nothing is watched, and nothing is pinned
 abbrev pub opening : Machine
-opening = record { graph = record { begun = None; objects = [] }; watches = [] }
+opening = record { graph = record { begun = None; objects = [] }; watches = []; pins = [] }
 
--- a machine and the limit of its rows; and what is kept beside it: the table of plans, and the watches that stand, with their
--- plans and their kept answers
+-- a machine and the limit of its rows; and what is kept beside it: the table of plans, the watches that stand, with their plans and
+-- their kept answers, and the pins, each with a table of its own
 pub record Standing : Type 0 where
   pub machine : Machine
   pub limit : ℕ
   pub table : Table
   pub watches : List Watch
+  pub pins : List Held
 
 -- the reply to a line, and the machine after it
 pub record Turn : Type 0 where
@@ -63,8 +69,9 @@ after m (Refused rule) = m
 after m Wide = m
 after m (Rows answer) = m
 after m (Counted counts) = m
-after m (Shown place found) = record { graph = m.graph; watches = marked_at place (is_some found) m.watches }
-after m (PerWatch found) = record { graph = m.graph; watches = all_moved m.watches found }
+after m (Shown place found) = record m { watches = marked_at place (is_some found) m.watches }
+after m (OfPin place answer) = m
+after m (PerWatch found) = record m { watches = all_moved m.watches found }
 
 -- the machine gives this reply
 abbrev pub told : Machine → Reply → Turn
@@ -87,7 +94,7 @@ pub record Makes (m : Machine) (edit : Edit) (t : Turn) : Type 0 where
   pub makes : MakesGraph m.graph edit graph touch
   pub watches : List PlainWatch
   pub marked : AreMarkedAfter touch m.watches watches
-  pub is : t ≡ quiet_turn (record { graph = graph; watches = watches })
+  pub is : t ≡ quiet_turn (record m { graph = graph; watches = watches })
 
 -- the text is asked
 pub record AsksText (limit : ℕ) (m : Machine) (text : List ℕ) (t : Turn) : Type 0 where
@@ -104,7 +111,7 @@ pub record WantsText (limit : ℕ) (m : Machine) (wanted : Wanted) (text : List 
 -- the query that the text reads as breaks no rule, and is watched from now on, behind the others
 pub record AddsWatch (m : Machine) (name : Word) (q : QueryTerm) (t : Turn) : Type 0 where
   pub unbroken : NoneOf (WatchBreaks m.graph m.watches name q) watch_rules
-  pub is : t ≡ quiet_turn (record { graph = m.graph; watches = m.watches ++ new_watch name q ∷ [] })
+  pub is : t ≡ quiet_turn (record m { watches = m.watches ++ new_watch name q ∷ [] })
 
 -- a query is to be watched: it is refused, or watched
 abbrev pub WatchesQuery : Machine → Word → QueryTerm → Turn → Type 0
@@ -132,7 +139,7 @@ ShowsName limit m name t = Refuses m (NameBreaks m.graph m.watches name) name_ru
 -- the name breaks no rule, its watch is gone, and the order of the others stays
 pub record DropsWatch (m : Machine) (name : Word) (t : Turn) : Type 0 where
   pub unbroken : NoneOf (NameBreaks m.graph m.watches name) name_rules
-  pub is : t ≡ quiet_turn (record { graph = m.graph; watches = without name m.watches })
+  pub is : t ≡ quiet_turn (record m { watches = without name m.watches })
 
 -- a name's watch is to go: the name is refused, or the watch goes
 abbrev pub DropsName : Machine → Word → Turn → Type 0
@@ -149,6 +156,43 @@ pub record TicksAll (limit : ℕ) (m : Machine) (t : Turn) : Type 0 where
 abbrev pub TicksOrNot : ℕ → Machine → Turn → Type 0
 TicksOrNot limit m t = Refuses m (TickBreaks m.graph) tick_rules t ⊎ TicksAll limit m t
 
+-- the name breaks no rule, and the graph as it stands is pinned under it, behind the other pins
+pub record OpensPin (m : Machine) (name : Word) (t : Turn) : Type 0 where
+  pub unbroken : NoneOf (OpenBreaks m.graph m.pins name) open_rules
+  pub is : t ≡ quiet_turn (record m { pins = m.pins ++ new_pin name m.graph ∷ [] })
+
+-- a pin is to be opened: the name is refused, or the pin opened
+abbrev pub OpensName : Machine → Word → Turn → Type 0
+OpensName m name t = Refuses m (OpenBreaks m.graph m.pins name) open_rules t ⊎ OpensPin m name t
+
+-- the name breaks no rule, its pin is gone, and the order of the others stays
+pub record ClosesPin (m : Machine) (name : Word) (t : Turn) : Type 0 where
+  pub unbroken : NoneOf (PinBreaks m.graph m.pins name) name_rules
+  pub is : t ≡ quiet_turn (record m { pins = without_pin name m.pins })
+
+-- a pin is to be closed: the name is refused, or the pin closed
+abbrev pub ClosesName : Machine → Word → Turn → Type 0
+ClosesName m name t = Refuses m (PinBreaks m.graph m.pins name) name_rules t ⊎ ClosesPin m name t
+
+-- the name breaks no rule, and the reply to the query on the graph of its pin is told
+pub record AsksPin (limit : ℕ) (m : Machine) (name : Word) (q : QueryTerm) (t : Turn) : Type 0 where
+  pub unbroken : NoneOf (PinBreaks m.graph m.pins name) name_rules
+  pub place : ℕ
+  pub pin : Pin
+  pub at : slice_get m.pins place ≡ Some pin
+  pub named : pin.name ≡ name
+  pub reply : Reply
+  pub replies : IsReplyTo pin.graph limit q reply
+  pub is : t ≡ told m (of_pin place reply)
+
+-- a query is asked of the pin of a name: the name is refused, or the reply on the pin's graph is told
+abbrev pub AsksPinQuery : ℕ → Machine → Word → QueryTerm → Turn → Type 0
+AsksPinQuery limit m name q t = Refuses m (PinBreaks m.graph m.pins name) name_rules t ⊎ AsksPin limit m name q t
+
+-- a text is asked of the pin of a name: its first fault is told; or the query that it reads as is asked
+abbrev pub AsksPinText : ℕ → Machine → Word → List ℕ → Turn → Type 0
+AsksPinText limit m name text t = ((code : TextCode) × FaultOf text code × (t ≡ told m (Bad code))) ⊎ ((q : QueryTerm) × Reads text q × AsksPinQuery limit m name q t)
+
 -- the turn that a line may have which asks for this
 unfoldable pub Answers : ℕ → Machine → Reading → Turn → Type 0
 Answers limit m Nothing t = t ≡ quiet_turn m
@@ -159,6 +203,9 @@ Answers limit m (Watches name text) t = WatchesText m name text t
 Answers limit m (Shows name) t = ShowsName limit m name t
 Answers limit m (Unwatches name) t = DropsName m name t
 Answers limit m Ticks t = TicksOrNot limit m t
+Answers limit m (Opens name) t = OpensName m name t
+Answers limit m (Closes name) t = ClosesName m name t
+Answers limit m (AsksIn name text) t = AsksPinText limit m name text t
 
 -- the turn of what a line is: it asks for something, or has a first fault, which is told
 unfoldable pub TurnOf : ℕ → Machine → Result Reading TextCode → Turn → Type 0

@@ -18,7 +18,8 @@ use Rattle.itpg_session.specs.Rules.{QueryBreaks, ask_rules}
 use Rattle.itpg_session.specs.Ticks.{Ticked, ticked_of}
 
 -- nothing is said; or a fault of the text, a refusal, the word that a query is too wide, the rows of its answer or of what is wanted
--- of it, counts, what was found for the watch at a place, or what a tick found of each watch
+-- of it, counts, what was found for the watch at a place, the rows of an answer on the graph of the pin at a place, or what a tick
+-- found of each watch
 pub data Reply : Type 0 where
   Silent : Reply
   Bad : TextCode → Reply
@@ -27,6 +28,7 @@ pub data Reply : Type 0 where
   Rows : Answered → Reply
   Counted : List CountRow → Reply
   Shown : ℕ → Option Answered → Reply
+  OfPin : ℕ → Answered → Reply
   PerWatch : List Ticked → Reply
 
 -- the reply that a value of the code stands for, where a query text was asked
@@ -45,6 +47,7 @@ line_reply value.Wide = Wide
 line_reply (value.Rows answer) = Rows (answered answer)
 line_reply (value.Counted counts) = Counted counts
 line_reply (value.Shown place found) = Shown place (option_map answered found)
+line_reply (value.OfPin place answer) = OfPin place (answered answer)
 line_reply (value.PerWatch found) = PerWatch (map ticked_of found.items)
 
 -- what is found for a query on the graph, with a limit of rows: that it is too wide, or its answer
@@ -56,6 +59,7 @@ IsFound g limit q Wide = IsTooWide g limit q
 IsFound g limit q (Rows answer) = HasAnswer g limit q answer
 IsFound g limit q (Counted counts) = ⊥
 IsFound g limit q (Shown place found) = ⊥
+IsFound g limit q (OfPin place answer) = ⊥
 IsFound g limit q (PerWatch found) = ⊥
 
 -- what is found for a query: its answer; or none, since it is too wide
@@ -72,6 +76,11 @@ IsReplyTo g limit q reply = NoneOf (QueryBreaks g q) ask_rules × IsFound g limi
 abbrev pub IsReply : Graph → ℕ → List ℕ → Reply → Type 0
 IsReply g limit text (Bad code) = FaultOf text code
 IsReply g limit text reply = (q : QueryTerm) × Reads text q × IsReplyTo g limit q reply
+
+-- the reply to a question that is asked of the pin at a place: rows are those of the pin's graph
+abbrev pub of_pin : ℕ → Reply → Reply
+of_pin place (Rows answer) = OfPin place answer
+of_pin place reply = reply
 
 -- each object that the reply has rows of was declared
 abbrev pub NamesDeclared : Graph → Reply → Type 0

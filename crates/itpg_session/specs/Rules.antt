@@ -1,4 +1,4 @@
--- The rules of questions and of commands on watches, in the order in which they are tried.
+-- The rules of questions and of commands on watches and on pins, in the order in which they are tried.
 use Rattle.std.specs.Prelude.{◌≢◌, ◌≤◌, List, [], ◌∷◌, length, IsNone, IsSomeAnd}
 use Rattle.itpg_base.specs.Words.{Word}
 use Rattle.itpg_base.specs.Graphs.{Graph}
@@ -6,7 +6,9 @@ use Rattle.itpg_base.specs.declared.rule_code.RuleCode.{RuleCode}
 use Rattle.itpg_base.specs.declared.rule_code.RuleCode.TheVariants.{NoGraph, GraphName, Taken, Unknown, Full}
 use Rattle.path_ast.specs.Terms.{QueryTerm}
 use Rattle.standing_queries.specs.Watches.{most_watches}
+use Rattle.itpg_pins.specs.Pins.{most_pins}
 use Rattle.itpg_session.specs.PlainWatches.{PlainWatch, IsWatched}
+use Rattle.itpg_session.specs.PlainPins.{Pin, IsPinned}
 
 -- the query is meant for a graph of another name
 abbrev pub NamesAnother : Graph → QueryTerm → Type 0
@@ -20,13 +22,17 @@ ask_rules = NoGraph ∷ GraphName ∷ []
 abbrev pub watch_rules : List RuleCode
 watch_rules = NoGraph ∷ GraphName ∷ Taken ∷ Full ∷ []
 
--- the rules of a name whose watch is to be shown, or to go, in order
+-- the rules of the name of a watch or of a pin that must stand, in order
 abbrev pub name_rules : List RuleCode
 name_rules = NoGraph ∷ Unknown ∷ []
 
 -- the rules of a tick
 abbrev pub tick_rules : List RuleCode
 tick_rules = NoGraph ∷ []
+
+-- the rules of a pin that is to be opened, in order
+abbrev pub open_rules : List RuleCode
+open_rules = NoGraph ∷ Taken ∷ Full ∷ []
 
 -- the query breaks the rule on this graph
 abbrev pub QueryBreaks : Graph → QueryTerm → RuleCode → Type 0
@@ -50,3 +56,16 @@ NameBreaks g watches name rule = ⊥
 abbrev pub TickBreaks : Graph → RuleCode → Type 0
 TickBreaks g NoGraph = IsNone g.begun
 TickBreaks g rule = ⊥
+
+-- beside these pins, to open one under the name breaks the rule
+abbrev pub OpenBreaks : Graph → List Pin → Word → RuleCode → Type 0
+OpenBreaks g pins name NoGraph = IsNone g.begun
+OpenBreaks g pins name Taken = IsPinned pins name
+OpenBreaks g pins name Full = most_pins ≤ length pins
+OpenBreaks g pins name rule = ⊥
+
+-- as that of one of these pins, the name breaks the rule
+abbrev pub PinBreaks : Graph → List Pin → Word → RuleCode → Type 0
+PinBreaks g pins name NoGraph = IsNone g.begun
+PinBreaks g pins name Unknown = ¬ IsPinned pins name
+PinBreaks g pins name rule = ⊥

@@ -1,29 +1,32 @@
 -- What a step of the session does.
-use Rattle.std.specs.Prelude.{◌≡◌, ◌≢◌, ◌↔◌, ◌⊎◌, ℕ, List, [], Bool, true, length, slice_get, Some, IsSomeAnd, Result, Ok, Err}
+use Rattle.std.specs.Prelude.{◌≡◌, ◌≢◌, ◌↔◌, ◌⊎◌, ℕ, List, [], ◌∷◌, ◌++◌, Bool, true, length, slice_get, Some, IsSomeAnd, Result, Ok, Err}
 use Rattle.itpg_base.specs.Sinks.{Gets, GetsSome}
 use Rattle.itpg_base.specs.declared.outside.Sink.{Ghosts}
 use Rattle.itpg_base.specs.declared.text_code.TextCode.{TextCode}
 use Rattle.itpg_base.specs.Words.{Word}
+use Rattle.path_ast.specs.Terms.{QueryTerm}
 use Rattle.itpg_edit.specs.Rules.{NoneOf, Unbroken}
 use Rattle.itpg_base.specs.declared.touch.Touch.{Touch}
 use Rattle.itpg_edit.specs.declared.edit.Edit.{Edit}
 use Rattle.itpg_edit.specs.Next.{Makes as MakesGraph, TakesMemory}
 use Rattle.plan_cache.specs.Footprints.{footprints_of}
 use Rattle.plan_cache.specs.KeptRows.{Forgets}
-use Rattle.edit_reader.specs.Readings.{Reading, Changes, Asks, Wants, Watches, Shows, Ticks}
+use Rattle.edit_reader.specs.Readings.{Reading, Changes, Asks, Wants, Watches, Shows, Ticks, Opens, Closes, AsksIn}
 use Rattle.edit_reader.specs.Lines.{LineOf}
 use Rattle.row_printer.specs.Texts.{AreDeclared}
-use Rattle.itpg_session.specs.Rules.{NameBreaks, TickBreaks, name_rules, tick_rules}
+use Rattle.itpg_session.specs.Rules.{NameBreaks, TickBreaks, OpenBreaks, name_rules, tick_rules, open_rules}
 use Rattle.itpg_session.specs.Ticks.{AreTicked}
 use Rattle.relation_rows.specs.Answered.{Answered}
 use Rattle.itpg_session.specs.Questions.{HasAnswer}
 use Rattle.itpg_session.specs.PlainWatches.{PlainWatch, IsFresh}
-use Rattle.itpg_session.specs.Replies.{Reply, Silent, Rows, Shown, PerWatch, FindsFor, IsReply, line_reply}
+use Rattle.itpg_session.specs.Replies.{Reply, Silent, Rows, Shown, OfPin, PerWatch, FindsFor, IsReply, line_reply}
 use Rattle.itpg_session.specs.Wanting.{Outcome, IsReplyWanted, reply_with}
 use Rattle.itpg_session.specs.Texts.{text_of, fails}
 use Rattle.itpg_base.specs.Lists.{Among}
 use Rattle.itpg_session.specs.Keeping.{AreReplanned, AddsText, IsWorkedFor, IsStale, KeepsPath, KeepsText, KeepsFound, KeepAllTicked}
-use Rattle.itpg_session.specs.Machine.{Machine, Standing, Turn, told}
+use Rattle.itpg_session.specs.Machine.{Machine, Standing, Turn, AsksPinText, AsksPinQuery, told}
+use Rattle.itpg_pins.specs.Pins.{held, without as without_held}
+use Rattle.itpg_session.specs.Pinning.{AddsPinText}
 use Rattle.itpg_session.specs.declared.reply.Reply.{Reply as ReplyValue}
 use Rattle.itpg_session.specs.declared.reply.Seen.{Seen}
 use Rattle.itpg_session.specs.declared.reply.Seen.TheVariants.{Quiet, Refused}
@@ -38,7 +41,7 @@ pub record StandsAs (s : Standing) (m : Machine) (most : ℕ) : Type 0 where
   pub machine : s.machine ≡ m
   pub limit : s.limit ≡ most
 
--- nothing is other than it was but the table of plans, and the watches' numbers in it
+-- nothing is other than it was but the tables of plans, and the watches' numbers in theirs
 pub record IsAlike (old new : Standing) : Type 0 where
   pub machine : new.machine ≡ old.machine
   pub limit : new.limit ≡ old.limit
@@ -48,15 +51,15 @@ pub record IsAlike (old new : Standing) : Type 0 where
 pub record Stepped {K : Type 0} (sink : Ghosts K) (before after : K) (Turns : Turn → Type 0) (number : ℕ) (old new : Standing) (seen : Seen) : Type 0 where
   pub turn : Turn
   pub turns : Turns turn
-  pub written : Gets sink before after (text_of old.machine.graph number turn.reply)
+  pub written : Gets sink before after (text_of old.machine number turn.reply)
   pub next : StandsAs new turn.next old.limit
-  pub sees : Sees seen (text_of old.machine.graph number turn.reply) (fails turn.reply)
+  pub sees : Sees seen (text_of old.machine number turn.reply) (fails turn.reply)
 
 -- a front part of a turn's reply was written
 pub record StepsWithin {K : Type 0} (sink : Ghosts K) (before after : K) (Turns : Turn → Type 0) (number : ℕ) (old : Standing) : Type 0 where
   pub turn : Turn
   pub turns : Turns turn
-  pub some : GetsSome sink before after (text_of old.machine.graph number turn.reply)
+  pub some : GetsSome sink before after (text_of old.machine number turn.reply)
 
 -- a turn was taken, and nothing of its reply was written
 pub record Passed (Turns : Turn → Type 0) (old new : Standing) : Type 0 where
@@ -101,6 +104,22 @@ LeavesUnmade what old new = (edit : Edit) → what ≡ Ok (Changes edit) → new
 abbrev pub LeavesUnmadeLine : List ℕ → Standing → Standing → Type 0
 LeavesUnmadeLine line old new = (what : Result Reading TextCode) → LineOf line what → LeavesUnmade what old new
 
+-- what answering a line that asks for this leaves of the pins and of their tables
+abbrev pub LeavesPins : Reading → Standing → Standing → Type 0
+LeavesPins (Opens name) old new = (new.pins ≡ old.pins ++ held name old.machine.graph old.table ∷ []) ⊎ (new.pins ≡ old.pins)
+LeavesPins (Closes name) old new = (new.pins ≡ without_held name old.pins) ⊎ (new.pins ≡ old.pins)
+LeavesPins (AsksIn name text) old new = AddsPinText name text old.pins new.pins
+LeavesPins reading old new = new.pins ≡ old.pins
+
+-- the same of what a line is
+abbrev pub LeavesPinsSo : Result Reading TextCode → Standing → Standing → Type 0
+LeavesPinsSo (Ok reading) old new = LeavesPins reading old new
+LeavesPinsSo (Err code) old new = new.pins ≡ old.pins
+
+-- and of the line
+abbrev pub LeavesPinsLine : List ℕ → Standing → Standing → Type 0
+LeavesPinsLine line old new = (what : Result Reading TextCode) → LineOf line what → LeavesPinsSo what old new
+
 -- what was worked out for the reply is kept
 abbrev pub KeepsReply : Reply → Standing → Type 0
 KeepsReply (Shown place found) s = IsSomeAnd (slice_get s.machine.watches place) (λ w. KeepsFound s.machine.graph s.table w found)
@@ -116,11 +135,18 @@ abbrev pub KeepsFresh : Standing → Standing → Type 0
 KeepsFresh old new = (w : PlainWatch) → Among new.machine.watches w → w.fresh ≡ true → WasFresh old.machine.watches w ⊎ KeepsPath new.machine.graph w.query.path new.table
 
 -- after a question that is answered with rows, or a text of which rows or counts were wanted and told, the relation that was worked
--- out for it is kept, if there is room
+-- out for it is kept, if there is room; after one that is asked of a pin, in the pin's table
 abbrev pub KeepsAsked : Reading → Standing → Standing → Type 0
 KeepsAsked (Asks text) old new = (answer : Answered) → IsReply old.machine.graph old.limit text (Rows answer) → KeepsText new.machine.graph text new.table
 KeepsAsked (Wants wanted text) old new = (all : Outcome) → IsReplyWanted old.machine.graph old.limit wanted text (reply_with (Some all)) → KeepsText new.machine.graph text new.table
+KeepsAsked (AsksIn name text) old new =
+    (place : ℕ) (answer : Answered) → AsksPinText old.limit old.machine name text (told old.machine (OfPin place answer)) → IsSomeAnd (slice_get new.pins place) (λ p. KeepsText p.graph text p.table)
 KeepsAsked reading old new = Unit {0}
+
+-- the same of a query that is asked of the pin of a name
+abbrev pub KeepsAskedPin : Word → QueryTerm → Standing → Standing → Type 0
+KeepsAskedPin name q old new =
+    (place : ℕ) (answer : Answered) → AsksPinQuery old.limit old.machine name q (told old.machine (OfPin place answer)) → IsSomeAnd (slice_get new.pins place) (λ p. KeepsPath p.graph q.path p.table)
 
 -- the same of what a line is
 abbrev pub KeepsAskedSo : Result Reading TextCode → Standing → Standing → Type 0
@@ -151,7 +177,7 @@ ShowsKept s (Shows name) answer = ShowsNameKept s name answer
 ShowsKept s reading answer = ⊥
 
 -- to answer what a line asks for takes memory: a change that breaks no rule, other than to begin a graph or to drop an
--- object; a query text, which is read; a watch that is shown and isn't fresh, or a tick, that breaks no rule
+-- object; a query text, which is read; a watch that is shown and isn't fresh, a tick, or a pin that is opened, that breaks no rule
 abbrev pub WantsMemory : Machine → Reading → Type 0
 WantsMemory m (Changes edit) = Unbroken m.graph edit × TakesMemory edit
 WantsMemory m (Asks text) = Unit {0}
@@ -159,6 +185,8 @@ WantsMemory m (Wants wanted text) = Unit {0}
 WantsMemory m (Watches name text) = Unit {0}
 WantsMemory m (Shows name) = NoneOf (NameBreaks m.graph m.watches name) name_rules × (¬ IsFresh m.watches name)
 WantsMemory m Ticks = NoneOf (TickBreaks m.graph) tick_rules
+WantsMemory m (Opens name) = NoneOf (OpenBreaks m.graph m.pins name) open_rules
+WantsMemory m (AsksIn name text) = Unit {0}
 WantsMemory m reading = ⊥
 
 -- the same of what a line is
@@ -181,10 +209,11 @@ abbrev pub Decides : {E : Type 0} → (Turn → Type 0) → Type 0 → Standing 
 Decides Turns wants old new (Ok reply) = IsDecided Turns old new (line_reply reply)
 Decides Turns wants old new (Err error) = IsAlike old new × wants
 
--- the reply is one of the session: its rows are of declared objects, and it has what is found for a watch that stands, or what a
--- tick finds of all of them
+-- the reply is one of the session: its rows are of declared objects, those of a pin's graph too, and it has what is found for a watch
+-- that stands, or what a tick finds of all of them
 abbrev pub Suits : Standing → Reply → Type 0
 Suits s (Rows answer) = AreDeclared (length s.machine.graph.objects) answer
 Suits s (Shown place found) = IsSomeAnd (slice_get s.machine.watches place) (λ w. FindsFor s.machine.graph s.limit w.query found)
+Suits s (OfPin place answer) = IsSomeAnd (slice_get s.machine.pins place) (λ p. AreDeclared (length p.graph.objects) answer)
 Suits s (PerWatch found) = AreTicked s.machine.graph s.limit s.machine.watches found
 Suits s reply = Unit {0}

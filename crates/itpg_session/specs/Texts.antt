@@ -1,5 +1,6 @@
--- The text of a reply, and whether it fails: functions of the reply, of the line's number, and of the graph, which has the names.
-use Rattle.std.specs.Prelude.{ℕ, List, [], ◌∷◌, ◌++◌, length, Bool, true, false, Option, None, Some, is_none, codes}
+-- The text of a reply, and whether it fails: functions of the reply, of the line's number, and of the machine, whose graphs have the
+-- names.
+use Rattle.std.specs.Prelude.{ℕ, List, [], ◌∷◌, ◌++◌, length, slice_get, Bool, true, false, Option, None, Some, is_none, codes}
 use Rattle.std.specs.Fmt.{decimal}
 use Rattle.itpg_base.specs.Words.{Word}
 use Rattle.itpg_base.specs.Graphs.{Graph}
@@ -11,7 +12,9 @@ use Rattle.relation_rows.specs.Answered.{Answered, row_number}
 use Rattle.arrivals.specs.declared.counts.CountRow.{CountRow}
 use Rattle.row_printer.specs.Texts.{answer_text, counts_text}
 use Rattle.itpg_session.specs.Ticks.{Ticked, StaysWide, Moves, some_wide}
-use Rattle.itpg_session.specs.Replies.{Reply, Silent, Bad, Refused, Wide, Rows, Counted, Shown, PerWatch}
+use Rattle.itpg_session.specs.PlainPins.{Pin}
+use Rattle.itpg_session.specs.Replies.{Reply, Silent, Bad, Refused, Wide, Rows, Counted, Shown, OfPin, PerWatch}
+use Rattle.itpg_session.specs.Machine.{Machine}
 
 -- `line N refused RULE`
 unfoldable pub refused_text : ℕ → RuleCode → List ℕ
@@ -68,16 +71,22 @@ abbrev pub found_text : Graph → ℕ → Option Answered → List ℕ
 found_text g number None = wide_text number
 found_text g number (Some answer) = rows_text g number answer
 
+-- a line for each row of the answer, by the names of a pin's graph
+abbrev pub pin_rows_text : Option Pin → Answered → List ℕ
+pin_rows_text None answer = []
+pin_rows_text (Some p) answer = answer_text p.graph [] answer
+
 -- the text of the reply to the line of a number
-abbrev pub text_of : Graph → ℕ → Reply → List ℕ
-text_of g number Silent = []
-text_of g number (Bad code) = bad_text number code
-text_of g number (Refused rule) = refused_text number rule
-text_of g number Wide = wide_text number
-text_of g number (Rows answer) = rows_text g number answer
-text_of g number (Counted counts) = counted_text number counts
-text_of g number (Shown place found) = found_text g number found
-text_of g number (PerWatch found) = tick_text g found
+abbrev pub text_of : Machine → ℕ → Reply → List ℕ
+text_of m number Silent = []
+text_of m number (Bad code) = bad_text number code
+text_of m number (Refused rule) = refused_text number rule
+text_of m number Wide = wide_text number
+text_of m number (Rows answer) = rows_text m.graph number answer
+text_of m number (Counted counts) = counted_text number counts
+text_of m number (Shown place found) = found_text m.graph number found
+text_of m number (OfPin place answer) = head_text number (row_number answer) ++ pin_rows_text (slice_get m.pins place) answer
+text_of m number (PerWatch found) = tick_text m.graph found
 
 -- the reply is bad, refused or wide, or some line of it is
 abbrev pub fails : Reply → Bool
@@ -88,4 +97,5 @@ fails Wide = true
 fails (Rows answer) = false
 fails (Counted counts) = false
 fails (Shown place found) = is_none found
+fails (OfPin place answer) = false
 fails (PerWatch found) = some_wide found

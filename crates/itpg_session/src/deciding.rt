@@ -1,4 +1,4 @@
-//! Deciding the reply to a line. An edit, a watch or an unwatch that is accepted is made here; nothing is written.
+//! Deciding the reply to a line. What is accepted of an edit, a watch, an unwatch, an open or a close is made here; nothing is written.
 ghost use Rattle.std.specs.Prelude.{◌≡◌, ◌<◌, ◌≤◌, ◌⊎◌, ◌||◌, length, slice_get, option_map, Some, Ok, IfOk, OnOk, OnErr, IsSome, IsSomeAnd, IsTrue};
 ghost use Rattle.itpg_edit.specs.declared.edit.Edit.{Edit as PlainEdit};
 ghost use Rattle.itpg_edit.specs.Rules.{NoneOf, Unbroken};
@@ -15,7 +15,7 @@ ghost use Rattle.itpg_session.specs.Rules.{WatchBreaks, NameBreaks, TickBreaks, 
 ghost use Rattle.itpg_session.specs.Replies.{line_reply, FindsFor};
 ghost use Rattle.itpg_session.specs.Machine.{Answers, TurnOf, WatchesText, WatchesQuery, ShowsName, DropsName, TicksOrNot};
 ghost use Rattle.itpg_session.specs.Keeping.{AddsOrRenews, AddsText, IsWorkedFor, IsStale, KeepsFound};
-ghost use Rattle.itpg_session.specs.Steps.{ForgetsEdit, KeepsReply, KeepsAsked, KeepsAskedSo, LeavesTable, LeavesSo, LeavesUnmade};
+ghost use Rattle.itpg_session.specs.Steps.{ForgetsEdit, KeepsReply, KeepsAsked, KeepsAskedSo, LeavesTable, LeavesSo, LeavesPins, LeavesPinsSo, LeavesUnmade};
 ghost use Rattle.itpg_session.specs.Steps.{ShowsFresh, WantsMemory, WhatWants, Decides, IsAlike, IsDecided, Suits};
 
 use crate::finding::find;
@@ -36,7 +36,7 @@ use standing_queries::Unknown;
 use std::alloc::AllocError;
 
 impl Session {
-    /// Decides the reply to what a line is. An edit, a watch or an unwatch that is accepted is made here; it says nothing.
+    /// Decides the reply to what a line is. An edit, a watch, an unwatch, an open or a close that is accepted is made here; it says nothing.
     pub(crate) fn decide(&mut self, what: &Result<Line<'_>, TextCode>) -> Result<Reply, AllocError>
         requires moments { IfOk what.now (λ line. AsksOfMoments (reading_of line)) }
         requires finds { IfOk what.now (λ line. ¬ ShowsFresh self.old.machine (reading_of line)) }
@@ -46,6 +46,7 @@ impl Session {
         ensures asked { OnOk result (KeepsAskedSo (read_as what.now) self.old self.new) }
         ensures forgets { OnOk result ((edit : PlainEdit) → read_as what.now ≡ Ok (Changes edit) → Unbroken self.old.machine.graph edit → ForgetsEdit edit self.old self.new) }
         ensures table { LeavesSo (read_as what.now) self.old self.new }
+        ensures pins { LeavesPinsSo (read_as what.now) self.old self.new }
         ensures unmade { OnErr result (LeavesUnmade (read_as what.now) self.old self.new) }
     {
         match what {
@@ -63,6 +64,7 @@ impl Session {
         ensures asked { OnOk result (KeepsAsked (reading_of line.now) self.old self.new) }
         ensures forgets { OnOk result ((edit : PlainEdit) → reading_of line.now ≡ Changes edit → Unbroken self.old.machine.graph edit → ForgetsEdit edit self.old self.new) }
         ensures table { LeavesTable (reading_of line.now) self.old self.new }
+        ensures pins { LeavesPins (reading_of line.now) self.old self.new }
         ensures unmade { OnErr result (LeavesUnmade (Ok (reading_of line.now)) self.old self.new) }
     {
         match line {
@@ -76,6 +78,9 @@ impl Session {
             Line::Show(name) => self.show(name),
             Line::Unwatch(name) => Ok(self.unwatch(name)),
             Line::Tick => self.tick(),
+            Line::OpenPin(name) => self.open(*name),
+            Line::ClosePin(name) => Ok(self.close(name)),
+            Line::InPin(name, text) => self.ask_in(name, text),
         }
     }
 
@@ -86,6 +91,7 @@ impl Session {
         ensures forgets { OnOk result (Unbroken self.old.machine.graph edit.now → ForgetsEdit edit.now self.old self.new) }
         ensures table { ForgetsEdit edit.now self.old self.new ⊎ (self.new.table ≡ self.old.table) }
         ensures unmade { OnErr result (self.new.table ≡ self.old.table) }
+        ensures pins { self.new.pins ≡ self.old.pins }
     {
         if self.plans.len() == 0 && self.watches.len() == 0 {
             return self.first_edit(edit);
@@ -100,6 +106,7 @@ impl Session {
         ensures forgets { OnOk result (Unbroken self.old.machine.graph edit.now → ForgetsEdit edit.now self.old self.new) }
         ensures table { ForgetsEdit edit.now self.old self.new ⊎ (self.new.table ≡ self.old.table) }
         ensures unmade { OnErr result (self.new.table ≡ self.old.table) }
+        ensures pins { self.new.pins ≡ self.old.pins }
     {
         law_of_graphs(&self.graph);
         let touch = match apply(&mut self.graph, edit) {
@@ -123,6 +130,7 @@ impl Session {
         ensures forgets { OnOk result (Unbroken self.old.machine.graph edit.now → ForgetsEdit edit.now self.old self.new) }
         ensures table { ForgetsEdit edit.now self.old self.new ⊎ (self.new.table ≡ self.old.table) }
         ensures unmade { OnErr result (self.new.table ≡ self.old.table) }
+        ensures pins { self.new.pins ≡ self.old.pins }
     {
         law_of_graphs(&self.graph);
         match make_edit(&mut self.graph, edit) {
@@ -138,6 +146,7 @@ impl Session {
     fn watch(&mut self, name: Name, text: &[u8]) -> Result<Reply, AllocError>
         ensures decides { Decides (WatchesText self.old.machine name text.now) (Unit {0}) self.old self.new result }
         ensures adds { AddsText text.now self.old.machine.watches self.old.table self.new.table }
+        ensures pins { self.new.pins ≡ self.old.pins }
     {
         match read_query(self.alloc, text) {
             Ok(query) => self.watch_query(name, query),
@@ -153,6 +162,7 @@ impl Session {
         requires ends { IsTrue (query.first || query.last) }
         ensures decides { Decides (WatchesQuery self.old.machine name (query_term query)) (Unit {0}) self.old self.new result }
         ensures adds { AddsOrRenews (path_term query.path) self.old.machine.watches self.old.table self.new.table }
+        ensures pins { self.new.pins ≡ self.old.pins }
     {
         match broken_by_watch(&self.graph, &self.watches, &name, &query) {
             Some(rule) => Ok(Reply::Refused(rule)),
@@ -168,6 +178,7 @@ impl Session {
         requires unbroken { NoneOf (WatchBreaks self.old.machine.graph self.old.machine.watches name (query_term query)) watch_rules }
         ensures decides { Decides (WatchesQuery self.old.machine name (query_term query)) (Unit {0}) self.old self.new result }
         ensures adds { AddsOrRenews (path_term query.path) self.old.machine.watches self.old.table self.new.table }
+        ensures pins { self.new.pins ≡ self.old.pins }
     {
         let no = self.planned(&query)?;
         self.add_planned(name, query, no)
@@ -182,6 +193,7 @@ impl Session {
         requires planned { IsNodeOf self.old.table.nodes no.0 (narrowed_member (path_term query.path) All All) }
         ensures decides { Decides (WatchesQuery self.old.machine name (query_term query)) (Unit {0}) self.old self.new result }
         ensures table { self.new.table ≡ self.old.table }
+        ensures pins { self.new.pins ≡ self.old.pins }
     {
         let foot = self.plans.foot_of(no).copy(self.alloc)?;
         match self.watches.add(name, query, no, foot) {
@@ -197,6 +209,7 @@ impl Session {
         ensures decides { Decides (ShowsName self.old.limit self.old.machine name.now) (WantsMemory self.old.machine (Shows name.now)) self.old self.new result }
         ensures keeps { IfOk result (λ reply. KeepsReply (line_reply reply) self.new) }
         ensures table { IsWorkedFor (λ w. IsStale self.old.machine.watches w × (w.name ≡ name.now)) self.old.table self.new.table }
+        ensures pins { self.new.pins ≡ self.old.pins }
     {
         match place_of(&self.graph, &self.watches, name) {
             Ok(place) => Ok(Reply::Shown(place, self.find_at(place)?)),
@@ -212,6 +225,7 @@ impl Session {
         ensures alike { IsAlike self.old self.new }
         ensures worked { IsWorkedFor (λ w. slice_get self.old.machine.watches place ≡ Some w) self.old.table self.new.table }
         ensures keeps { IfOk result (λ found. IsSomeAnd (slice_get self.old.machine.watches place) (λ w. KeepsFound self.old.machine.graph self.new.table w (option_map answered found))) }
+        ensures pins { self.new.pins ≡ self.old.pins }
     {
         match find(
             self.alloc,
@@ -231,6 +245,7 @@ impl Session {
     fn unwatch(&mut self, name: &Name) -> Reply
         ensures decides { IsDecided (DropsName self.old.machine name.now) self.old self.new (line_reply result) }
         ensures table { self.new.table ≡ self.old.table }
+        ensures pins { self.new.pins ≡ self.old.pins }
     {
         if let Some(rule) = broken_by_tick(&self.graph) {
             return Reply::Refused(rule);
@@ -246,6 +261,7 @@ impl Session {
         ensures decides { Decides (TicksOrNot self.old.limit self.old.machine) (NoneOf (TickBreaks self.old.machine.graph) tick_rules) self.old self.new result }
         ensures keeps { IfOk result (λ reply. KeepsReply (line_reply reply) self.new) }
         ensures table { IsWorkedFor (IsStale self.old.machine.watches) self.old.table self.new.table }
+        ensures pins { self.new.pins ≡ self.old.pins }
     {
         if let Some(rule) = broken_by_tick(&self.graph) {
             return Ok(Reply::Refused(rule));

@@ -6,7 +6,8 @@ ghost use Rattle.plan_cache.specs.Nodes.{IsNodeOf, narrowed_member};
 ghost use Rattle.relation_rows.specs.Answered.{answered, row_number};
 ghost use Rattle.path_eval.specs.Keeping.{KeepsOnlyReached};
 ghost use Rattle.itpg_session.specs.Questions.{IsTooWide, HasAnswer};
-ghost use Rattle.itpg_session.specs.Keeping.{IsTableRight, IsWorked, KeepsPath};
+ghost use Rattle.plan_cache.specs.RightRows.{IsTableRight};
+ghost use Rattle.itpg_session.specs.Keeping.{IsWorked, KeepsPath};
 
 use itpg_graph::Graph;
 use path_ast::Query;

@@ -10,8 +10,10 @@
 
 mod asking;
 mod deciding;
+mod fault;
 mod finding;
 mod laws;
+mod pinning;
 mod planning;
 mod reply;
 mod rules;
@@ -21,6 +23,7 @@ mod ticking;
 mod wanting;
 
 pub use asking::Asked;
+pub use fault::StepFault;
 pub use laws::{law_of_asked, law_of_fronts, law_of_replies, law_of_untouched};
 pub use reply::Seen;
-pub use session::{Session, StepFault};
+pub use session::Session;

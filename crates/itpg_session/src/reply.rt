@@ -1,6 +1,7 @@
 //! The reply to a line, as a value, and what is seen of it.
 ghost use Rattle.std.specs.Prelude.{◌≡◌, ℕ, length, map, is_none, option_map};
 ghost use Rattle.itpg_base.specs.Graphs.{Graph};
+ghost use Rattle.itpg_session.specs.Machine.{Machine};
 ghost use Rattle.itpg_session.specs.Ticks.{ticked_of, some_wide};
 ghost use Rattle.itpg_session.specs.Replies.{line_reply};
 ghost use Rattle.relation_rows.specs.Answered.{answered};
@@ -30,6 +31,8 @@ pub(crate) enum Reply {
     Counted(Counts),
     /// What was found for the watch at a place: its answer; or none, since its query is too wide.
     Shown(usize, Option<Answer>),
+    /// The rows of an answer on the graph of the pin at a place.
+    OfPin(usize, Answer),
     /// What a tick found of each watch.
     PerWatch(Vec<Ticked>),
 }
@@ -53,12 +56,13 @@ impl From<Asked> for Reply {
 impl Reply {
     /// What is seen of it.
     pub(crate) fn seen(&self) -> Seen
-        ensures { (g : Graph) (number : ℕ) → Sees result (text_of g number (line_reply self.now)) (fails (line_reply self.now)) }
+        ensures { (m : Machine) (number : ℕ) → Sees result (text_of m number (line_reply self.now)) (fails (line_reply self.now)) }
     {
         match self {
             Reply::Silent => Seen::Quiet,
             Reply::Rows(_) => Seen::Answered,
             Reply::Counted(_) => Seen::Answered,
+            Reply::OfPin(_, _) => Seen::Answered,
             Reply::Bad(_) => Seen::Refused,
             Reply::Refused(_) => Seen::Refused,
             Reply::Wide => Seen::Refused,

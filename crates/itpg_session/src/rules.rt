@@ -1,12 +1,15 @@
-//! The rules that a query, the name of a watch or a tick breaks, before anything is worked out.
+//! The rules that a query, the name of a watch or of a pin or a tick breaks, before anything is worked out.
 ghost use Rattle.std.specs.Prelude.{◌≡◌, slice_get, IfSome, IsNone, IfOk, OnOk, IfErr, IsSomeAnd};
 ghost use Rattle.itpg_edit.specs.Rules.{FirstOf, NoneOf};
 ghost use Rattle.path_ast.specs.Terms.{query_term};
+ghost use Rattle.itpg_pins.specs.Pins.{IsOnlyPlace};
 ghost use Rattle.itpg_session.specs.PlainWatches.{all_plain};
-ghost use Rattle.itpg_session.specs.Rules.{QueryBreaks, WatchBreaks, NameBreaks, TickBreaks, ask_rules, watch_rules, name_rules, tick_rules};
+ghost use Rattle.itpg_session.specs.PlainPins.{plain_pins};
+ghost use Rattle.itpg_session.specs.Rules.{QueryBreaks, WatchBreaks, NameBreaks, TickBreaks, PinBreaks, ask_rules, watch_rules, name_rules, tick_rules};
 
 use itpg_base::{Name, RuleCode};
 use itpg_graph::Graph;
+use itpg_pins::Pins;
 use path_ast::Query;
 use standing_queries::{MAX_WATCHES, Watches};
 
@@ -68,6 +71,22 @@ pub(crate) fn place_of(graph: &Graph, watches: &Watches, name: &Name) -> Result<
         return Err(rule);
     }
     let Some(place) = watches.find(name) else {
+        return Err(RuleCode::Unknown);
+    };
+    Ok(place)
+}
+
+/// The place of the pin of this name, or the first rule that the name breaks: no graph is begun, or no pin has it.
+pub(crate) fn place_of_pin(graph: &Graph, pins: &Pins, name: &Name) -> Result<usize, RuleCode>
+    ensures place { IfOk result (λ place. IsSomeAnd (slice_get pins.now.pins place) (λ p. p.name ≡ name.now)) }
+    ensures only { IfOk result (λ place. IsOnlyPlace pins.now.pins name.now place) }
+    ensures unbroken { OnOk result (NoneOf (PinBreaks graph.now (plain_pins pins.now.pins) name.now) name_rules) }
+    ensures broken { IfErr result (λ rule. FirstOf (PinBreaks graph.now (plain_pins pins.now.pins) name.now) name_rules rule) }
+{
+    if let Some(rule) = broken_by_tick(graph) {
+        return Err(rule);
+    }
+    let Some(place) = pins.find(name) else {
         return Err(RuleCode::Unknown);
     };
     Ok(place)

@@ -1,21 +1,24 @@
 //! The session, and what a step of it does with a line.
 //!
-//! `Session` has the graph, the watches and the limit of rows. A step decides the reply to its line, and there makes an edit, a
-//! `watch` or an `unwatch` that is accepted; it writes the reply to the sink that it is lent; and it settles what a `show` or a tick
+//! `Session` has the graph, the watches, the pins and the limit of rows. A step decides the reply to its line, and there makes an edit,
+//! a `watch`, an `unwatch`, an `open` or a `close` that is accepted; it writes the reply to the sink that it is lent; and it settles what a `show` or a tick
 //! found. Only a `show` of a fresh watch writes its kept answer at once.
 ghost use Rattle.std.specs.Prelude.{◌≡◌, ◌≢◌, ◌≤◌, [], IfOk, OnOk, OnErr, IsErrOf, IfSome, IsNone, IsOkAnd};
 ghost use Rattle.itpg_base.specs.Sinks.{Gets, GetsSome, GetsNothing, HasFailed, IsHonest};
 ghost use Rattle.edit_reader.specs.Readings.{reading_of, Shows};
 ghost use Rattle.relation_rows.specs.Answered.{Answered, answered};
 ghost use Rattle.itpg_session.specs.PlainWatches.{all_plain};
+ghost use Rattle.itpg_session.specs.PlainPins.{plain_pins};
 ghost use Rattle.itpg_session.specs.Replies.{Reply as PlainReply, Silent, Rows, reply_of, line_reply, IsReply, NamesDeclared};
 ghost use Rattle.itpg_session.specs.Texts.{text_of};
 ghost use Rattle.itpg_session.specs.Machine.{opening, Replies, after};
-ghost use Rattle.itpg_session.specs.Keeping.{AddsText, KeepsText, IsTableRight, AreWatchesRight};
+ghost use Rattle.plan_cache.specs.RightRows.{IsTableRight};
+ghost use Rattle.itpg_session.specs.Keeping.{AddsText, KeepsText, AreWatchesRight};
 ghost use Rattle.itpg_session.specs.Steps.{StandsAs, IsAlike, Stepped, StepsWithin, Passed, LineWants, ShowsFresh, ShowsKept, Suits};
-ghost use Rattle.itpg_session.specs.Steps.{KeepsFresh, KeepsAskedLine, ForgetsLine, LeavesLine, LeavesUnmadeLine};
+ghost use Rattle.itpg_session.specs.Steps.{KeepsFresh, KeepsAskedLine, ForgetsLine, LeavesLine, LeavesPinsLine, LeavesUnmadeLine};
 
 use crate::asking::Asked;
+use crate::fault::StepFault;
 use crate::laws::law_of_asked;
 use crate::reply::{Reply, Seen};
 use crate::rules::broken_by_tick;
@@ -24,48 +27,15 @@ use crate::ticking::{move_bases, write_all};
 use edit_reader::{Line, read_line};
 use itpg_base::{Failed, Limits, Name, Sink, TextCode};
 use itpg_graph::Graph;
+use itpg_pins::Pins;
 use plan_cache::Plans;
 use relation_rows::Answer;
 use standing_queries::Watches;
 use std::alloc::{AllocError, Global};
 use std::marker::Model;
-use thiserror::Error;
 
-/// Why a line wasn't answered. The graph and the watches are as they were, with their bases and their kept answers.
-#[derive(Clone, Copy, Debug, PartialEq, Eq, Drop, Error)]
-pub enum StepFault {
-    /// Memory ran out. Nothing was written.
-    #[error("out of memory")]
-    Memory,
-    /// The sink failed. A front part of the reply was written.
-    #[error("write fault")]
-    Write,
-}
-
-impl From<AllocError> for StepFault {
-    ghost use Rattle.std.specs.Prelude.{◌≡◌};
-    ghost use Rattle.itpg_session.specs.declared.session.StepFault.TheVariants.{Memory};
-
-    ghost from_gives = { λ _ fault. fault ≡ Memory };
-
-    fn from(_error: AllocError) -> StepFault {
-        StepFault::Memory
-    }
-}
-
-impl From<Failed> for StepFault {
-    ghost use Rattle.std.specs.Prelude.{◌≡◌};
-    ghost use Rattle.itpg_session.specs.declared.session.StepFault.TheVariants.{Write};
-
-    ghost from_gives = { λ _ fault. fault ≡ Write };
-
-    fn from(_failed: Failed) -> StepFault {
-        StepFault::Write
-    }
-}
-
-/// A graph, the watches on it, the plan nodes of what was asked with the relations that are kept at them, and the limit of rows: what
-/// the lines so far have left.
+/// A graph, the watches on it, the plan nodes of what was asked with the relations that are kept at them, the pins, and the limit of
+/// rows: what the lines so far have left.
 ///
 /// ```text
 ///     line 1   graph g 0 100         nothing is written
@@ -85,6 +55,7 @@ pub struct Session {
     pub(crate) graph: Graph,
     pub(crate) watches: Watches,
     pub(crate) plans: Plans,
+    pub(crate) pins: Pins,
     pub(crate) limits: Limits,
     pub(crate) alloc: Global,
 }
@@ -93,30 +64,33 @@ impl Model for Session {
     ghost use Rattle.std.specs.Coded.{codes};
     ghost use Rattle.path_ast.specs.Codes.{coded_path};
     ghost use Rattle.itpg_session.specs.PlainWatches.{all_plain};
+    ghost use Rattle.itpg_session.specs.PlainPins.{plain_pins};
     ghost use Rattle.itpg_session.specs.Machine.{Standing};
 
     ghost Value = { Standing };
 
     ghost coded = { Prim.hlevel (codes, coded_path) };
 
-    ghost use Rattle.itpg_session.specs.Keeping.{IsKeptRight};
+    ghost use Rattle.itpg_session.specs.Keeping.{IsSessionRight};
 
-    ghost view = { λ s. record { machine = record { graph = s.graph; watches = all_plain s.watches }; limit = s.limits; table = s.plans; watches = s.watches } };
+    ghost view = { λ s. record { machine = record { graph = s.graph; watches = all_plain s.watches; pins = plain_pins s.pins.pins }; limit = s.limits; table = s.plans; watches = s.watches; pins = s.pins.pins } };
 
-    ghost invariant = { λ s. IsKeptRight s.graph s.limits s.plans s.watches };
+    ghost invariant = { λ s. IsSessionRight s.graph s.limits s.plans s.watches s.pins };
 }
 
 impl Session {
-    /// The session in which no graph is begun and nothing is watched. It takes no memory.
+    /// The session in which no graph is begun, and nothing is watched or pinned. It takes no memory.
     pub fn new(alloc: Global, limits: Limits) -> Session
         ensures stands { StandsAs result opening limits }
         ensures table { result.table ≡ record { nodes = []; kept = [] } }
         ensures watches { result.watches ≡ [] }
+        ensures pins { result.pins ≡ [] }
     {
         Session {
             graph: Graph::new(alloc),
             watches: Watches::new(alloc),
             plans: Plans::new(alloc),
+            pins: Pins::new(alloc, limits.max_rows()),
             limits,
             alloc,
         }
@@ -148,6 +122,15 @@ impl Session {
         &self.plans
     }
 
+    /// The pins that stand, in order of declaration, each with the graph as it stood and a table of plans of its own.
+    pub fn pins(&self) -> &Pins
+        ensures pins { result.now.pins ≡ self.now.pins }
+        ensures plain { self.now.machine.pins ≡ plain_pins result.now.pins }
+        ensures limit { result.now.limit ≡ self.now.limit }
+    {
+        &self.pins
+    }
+
     /// The reply to a question with this query text, as a value. The session stays as it is, but for the plan nodes and the
     /// relations that it keeps for later questions.
     ///
@@ -171,6 +154,7 @@ impl Session {
         ensures only { IfOk result (λ asked. (reply : PlainReply) → IsReply self.old.machine.graph self.old.limit text.now reply → reply_of asked ≡ reply) }
         ensures declared { IfOk result (λ asked. NamesDeclared self.old.machine.graph (reply_of asked)) }
         ensures alike { IsAlike self.old self.new }
+        ensures pins { self.new.pins ≡ self.old.pins }
         ensures adds { AddsText text.now self.old.machine.watches self.old.table self.new.table }
         ensures keeps { IfOk result (λ asked. (answer : Answered) → reply_of asked ≡ Rows answer → KeepsText self.new.machine.graph text.now self.new.table) }
     {
@@ -185,8 +169,8 @@ impl Session {
     /// # Errors
     ///
     /// `Memory` if memory runs out: never for a blank line, a comment, a line that has a fault of its own, an edit that is
-    /// refused, `graph`, `extend`, `drop`, `unwatch`, a `show` or a `tick` that is refused, or a `show` of a fresh watch. `Write` if the sink
-    /// failed. After either, relations that were worked out may be kept, and query plans may be added.
+    /// refused, `graph`, `extend`, `drop`, `unwatch`, `close`, a `show`, a `tick` or an `open` that is refused, or a `show` of a fresh
+    /// watch. `Write` if the sink failed. After either, relations that were worked out may be kept, and query plans may be added.
     pub fn step<K: Sink>(&mut self, no: u64, line: &[u8], out: &mut K) -> Result<Seen, StepFault>
         ensures stepped { IfOk result (λ seen. Stepped K.Sink out.old out.new (Replies self.old.limit self.old.machine line.now) no self.old self.new seen) }
         ensures alike { OnErr result (IsAlike self.old self.new) }
@@ -194,6 +178,7 @@ impl Session {
         ensures asked { OnOk result (KeepsAskedLine line.now self.old self.new) }
         ensures forgets { OnOk result (ForgetsLine line.now self.old self.new) }
         ensures table { LeavesLine line.now self.old self.new }
+        ensures pins { LeavesPinsLine line.now self.old self.new }
         ensures unmade { OnErr result (LeavesUnmadeLine line.now self.old self.new) }
         ensures memory { IsErrOf result StepFault.Memory → GetsNothing K.Sink out.old out.new }
         ensures wanting { IsErrOf result StepFault.Memory → LineWants self.old.machine line.now }
@@ -225,6 +210,7 @@ impl Session {
         ensures asked { OnOk result (KeepsAskedLine line.now self.old self.new) }
         ensures forgets { OnOk result (ForgetsLine line.now self.old self.new) }
         ensures table { LeavesLine line.now self.old self.new }
+        ensures pins { LeavesPinsLine line.now self.old self.new }
         ensures wanting { OnErr result (LineWants self.old.machine line.now) }
     {
         let what = &read_line(line);
@@ -261,8 +247,8 @@ impl Session {
     // Writes the reply to the line of a number.
     fn write<K: Sink>(&self, number: u64, reply: &Reply, out: &mut K) -> Result<(), Failed>
         requires { Suits self.now (line_reply reply.now) }
-        ensures written { OnOk result (Gets K.Sink out.old out.new (text_of self.now.machine.graph number (line_reply reply.now))) }
-        ensures some { OnErr result (GetsSome K.Sink out.old out.new (text_of self.now.machine.graph number (line_reply reply.now))) }
+        ensures written { OnOk result (Gets K.Sink out.old out.new (text_of self.now.machine number (line_reply reply.now))) }
+        ensures some { OnErr result (GetsSome K.Sink out.old out.new (text_of self.now.machine number (line_reply reply.now))) }
         ensures cause { IsHonest K.Sink out.old out.new result }
         ensures says { OnErr result (line_reply reply.now ≢ Silent) }
     {
@@ -274,6 +260,9 @@ impl Session {
             Reply::Rows(answer) => write_rows(&self.graph, number, answer, out),
             Reply::Counted(counts) => write_counts(number, counts, out),
             Reply::Shown(_, found) => write_found(&self.graph, number, found, out),
+            Reply::OfPin(place, answer) => {
+                write_rows(self.pins.graph(*place), number, answer, out)
+            }
             Reply::PerWatch(found) => write_all(&self.graph, found, out),
         }
     }
@@ -283,6 +272,7 @@ impl Session {
         requires { Suits self.old (line_reply reply) }
         ensures stands { StandsAs self.new (after self.old.machine (line_reply reply)) self.old.limit }
         ensures table { self.new.table ≡ self.old.table }
+        ensures pins { self.new.pins ≡ self.old.pins }
     {
         match reply {
             Reply::Shown(place, Some(answer)) => self.watches.set_now(place, answer),
@@ -293,7 +283,8 @@ impl Session {
             | Reply::Refused(_)
             | Reply::Wide
             | Reply::Rows(_)
-            | Reply::Counted(_) => {}
+            | Reply::Counted(_)
+            | Reply::OfPin(_, _) => {}
         }
     }
 }

@@ -29,6 +29,7 @@ impl Session {
         ensures alike { IsAlike self.old self.new }
         ensures adds { AddsText text.now self.old.machine.watches self.old.table self.new.table }
         ensures keeps { IfOk result (λ reply. (all : Outcome) → line_reply reply ≡ reply_with (Some all) → KeepsText self.new.machine.graph text.now self.new.table) }
+        ensures pins { self.new.pins ≡ self.old.pins }
     {
         law_of_queries();
         match &read_query(self.alloc, text) {
@@ -47,6 +48,7 @@ impl Session {
         ensures alike { IsAlike self.old self.new }
         ensures adds { AddsOrRenews (path_term query.now.path) self.old.machine.watches self.old.table self.new.table }
         ensures keeps { IfOk result (λ reply. (all : Outcome) → line_reply reply ≡ reply_with (Some all) → KeepsPath self.new.machine.graph (path_term query.now.path) self.new.table) }
+        ensures pins { self.new.pins ≡ self.old.pins }
     {
         if !has_ends(wanted, query) {
             return Ok(Reply::Bad(TextCode::Names));

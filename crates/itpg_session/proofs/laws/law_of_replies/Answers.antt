@@ -1,5 +1,7 @@
 use Rattle.itpg_graph.proofs.Goodness.{good_none}
-use Rattle.itpg_session.proofs.OneTurn.{one_reply, some_reply, good_reply}
+use Rattle.itpg_session.proofs.OneTurn.{one_reply}
+use Rattle.itpg_session.proofs.GoodTurn.{good_reply}
+use Rattle.itpg_session.proofs.SomeTurn.{some_reply}
 use Rattle.itpg_session.proofs.laws.law_of_replies.Goals as goal
 
 pub returns-clause-one : goal.returns-clause-one
@@ -63,4 +65,4 @@ returns-clause-good c = good_reply (record {
 })
 
 pub returns-clause-opening : goal.returns-clause-opening
-returns-clause-opening c = record { graph = good_none; differ = tt; asks = λ w a. absurd a; kinds = λ w a. absurd a }
+returns-clause-opening c = record { graph = good_none; differ = tt; asks = λ w a. absurd a; kinds = λ w a. absurd a; pins = tt }

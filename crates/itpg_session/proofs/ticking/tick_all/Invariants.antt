@@ -1,7 +1,8 @@
 use Rattle.std.proofs.Common.{map, take}
 use Rattle.itpg_session.specs.PlainWatches.{all_plain}
 use Rattle.itpg_session.specs.Ticks.{ticked_of, AreTicked}
-use Rattle.itpg_session.specs.Keeping.{IsTableRight, IsWorkedFor, IsStale, KeepAllTicked}
+use Rattle.plan_cache.specs.RightRows.{IsTableRight}
+use Rattle.itpg_session.specs.Keeping.{IsWorkedFor, IsStale, KeepAllTicked}
 use Rattle.itpg_session.proofs.ticking.tick_all.Given as goal
 
 abbrev pub invariant-loop-place : goal.invariant-loop-place

@@ -1,8 +1,8 @@
-use Rattle.itpg_session.proofs.Told.{rows_seen, counts_seen, bad_seen, refused_seen, wide_seen}
+use Rattle.itpg_session.proofs.Told.{rows_seen, pin_seen, counts_seen, bad_seen, refused_seen, wide_seen}
 use Rattle.itpg_session.proofs.reply.Reply.seen.Goals as goal
 
 pub returns-in-Rows : goal.returns-in-Rows
-returns-in-Rows c = rw (c.in-Rows.is) (λ g number. rows_seen g number _)
+returns-in-Rows c = rw (c.in-Rows.is) (λ m number. rows_seen m.graph number _)
 
 pub returns-in-Bad : goal.returns-in-Bad
 returns-in-Bad c = rw (c.in-Bad.is) (λ g number. bad_seen number _)
@@ -15,3 +15,6 @@ returns-in-Wide c = rw (c.in-Wide.is) (λ g number. wide_seen number)
 
 pub returns-in-Counted : goal.returns-in-Counted
 returns-in-Counted c = rw (c.in-Counted.is) (λ g number. counts_seen number _)
+
+pub returns-in-OfPin : goal.returns-in-OfPin
+returns-in-OfPin c = rw (c.in-OfPin.is) (λ m number. pin_seen m number _ _)

@@ -13,21 +13,24 @@ pub returns-in_err-foot-clause-decides : goal.returns-in_err-foot-clause-decides
 returns-in_err-foot-clause-decides c = let p = err_from_is_err_and c.from_residual.result c.from_residual.ensures.1 in rw (p.1) (alike_same c.args.self.now, tt)
 
 pub invariant_of-self : goal.invariant_of-self
-invariant_of-self c = elim c.match-add.branch [
-  | in-Ok w ↦
-      let q = query_term c.args.query in
-      let foot = node_foot c.self.inside.plans.nodes c.args.no.0 q c.foot_of.result.now (subst (λ (s : Standing). IsNodeOf s.table.nodes c.args.no.0 (narrowed_member q.path All All)) (sym c.self.view_is) c.requires.planned) c.foot_of.ensures in
-      right_added c.self.inside.graph c.self.inside.limits c.self.inside.plans c.self.inside.watches c.add.new.self c.args.name q c.args.no.0 c.in_ok-foot.foot w.in-Ok.ensures.added
-      (subst (λ (s : Standing). IsNodeOf s.table.nodes c.args.no.0 (narrowed_member q.path All All)) (sym c.self.view_is) c.requires.planned) (c.in_ok-foot.ensures ∙ foot) c.self.invariant
-  | in-Err w ↦ right_same c.self.inside.graph c.self.inside.limits c.self.inside.plans c.self.inside.watches c.add.new.self w.in-Err.ensures.same c.self.invariant
-]
+invariant_of-self c = record {
+  kept = (elim c.match-add.branch [
+    | in-Ok w ↦
+        let q = query_term c.args.query in
+        let foot = node_foot c.self.inside.plans.nodes c.args.no.0 q c.foot_of.result.now (subst (λ (s : Standing). IsNodeOf s.table.nodes c.args.no.0 (narrowed_member q.path All All)) (sym c.self.view_is) c.requires.planned) c.foot_of.ensures in
+        right_added c.self.inside.graph c.self.inside.limits c.self.inside.plans c.self.inside.watches c.add.new.self c.args.name q c.args.no.0 c.in_ok-foot.foot w.in-Ok.ensures.added
+        (subst (λ (s : Standing). IsNodeOf s.table.nodes c.args.no.0 (narrowed_member q.path All All)) (sym c.self.view_is) c.requires.planned) (c.in_ok-foot.ensures ∙ foot) c.self.invariant.kept
+    | in-Err w ↦ right_same c.self.inside.graph c.self.inside.limits c.self.inside.plans c.self.inside.watches c.add.new.self w.in-Err.ensures.same c.self.invariant.kept
+  ]);
+  pins_limit = c.self.invariant.pins_limit;
+}
 
 pub returns-clause-decides : goal.returns-clause-decides
 returns-clause-decides c = elim c.match-add.branch [
   | in-Ok w ↦
-      rw (w.result-is) (added_watch c.self.inside.graph c.self.inside.limits c.self.inside.plans c.self.inside.watches c.args.self.now c.self.view_is c.add.new.self c.args.name (query_term c.args.query) c.args.no.0 c.in_ok-foot.foot
+      rw (w.result-is) (added_watch c.self.inside.graph c.self.inside.limits c.self.inside.plans c.self.inside.watches c.self.inside.pins.pins c.args.self.now c.self.view_is c.add.new.self c.args.name (query_term c.args.query) c.args.no.0 c.in_ok-foot.foot
       c.requires.unbroken w.in-Ok.ensures.added)
-  | in-Err w ↦ rw (w.result-is) (unadded_watch c.self.inside.graph c.self.inside.limits c.self.inside.plans c.self.inside.watches c.args.self.now c.self.view_is c.add.new.self w.in-Err.ensures.same, tt)
+  | in-Err w ↦ rw (w.result-is) (unadded_watch c.self.inside.graph c.self.inside.limits c.self.inside.plans c.self.inside.watches c.self.inside.pins.pins c.args.self.now c.self.view_is c.add.new.self w.in-Err.ensures.same, tt)
 ]
 
 pub returns-clause-table : goal.returns-clause-table

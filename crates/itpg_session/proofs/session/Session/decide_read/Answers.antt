@@ -8,7 +8,7 @@ use Rattle.itpg_session.proofs.Written.{if_ok, on_ok, on_fault}
 use Rattle.itpg_session.proofs.KeptFresh.{decided_keeps, one_keeps, asked_keeps, wanted_keeps}
 use Rattle.itpg_session.proofs.Outcomes.{wanted_decides, wanted_kept}
 use Rattle.itpg_session.specs.Replies.{Silent, Rows, reply_of}
-use Rattle.itpg_session.proofs.Answering.{blank_answers, asks_answers, asked_asks, watches_answers, shows_answers, unwatches_answers, ticks_answers}
+use Rattle.itpg_session.proofs.Answering.{blank_answers, asks_answers, asked_asks, watches_answers, shows_answers, unwatches_answers, ticks_answers, opens_answers, closes_answers, asks_in_answers}
 use Rattle.itpg_session.proofs.Told.{decided_as, decides_as, said, said_alike}
 use Rattle.itpg_session.proofs.session.Session.decide_read.Goals as goal
 
@@ -128,3 +128,15 @@ returns-in-Count-clause-table c = rw (c.in-Count.is) c.reply_wanted-in-Count.ens
 
 pub returns-in-Edit-clause-unmade : goal.returns-in-Edit-clause-unmade
 returns-in-Edit-clause-unmade c = on_fault (λ same edit is. same) c.edit.result c.edit.ensures.unmade
+
+pub returns-in-OpenPin-clause-decides : goal.returns-in-OpenPin-clause-decides
+returns-in-OpenPin-clause-decides c = rw (c.in-OpenPin.is) (decides_as c.args.self.now c.open.new.self (opens_answers c.args.self.now.limit c.args.self.now.machine _) (λ w. w) c.open.result c.open.ensures.decides)
+
+pub returns-in-ClosePin-clause-decides : goal.returns-in-ClosePin-clause-decides
+returns-in-ClosePin-clause-decides c = rw (c.in-ClosePin.is) (decided_as c.args.self.now c.close.new.self (closes_answers c.args.self.now.limit c.args.self.now.machine _) _ c.close.ensures.decides)
+
+pub returns-in-InPin-clause-decides : goal.returns-in-InPin-clause-decides
+returns-in-InPin-clause-decides c = rw (c.in-InPin.is) (decides_as c.args.self.now c.ask_in.new.self (asks_in_answers c.args.self.now.limit c.args.self.now.machine _ _) (λ u. u) c.ask_in.result c.ask_in.ensures.decides)
+
+pub returns-in-InPin-clause-asked : goal.returns-in-InPin-clause-asked
+returns-in-InPin-clause-asked c = rw (c.in-InPin.is) c.ask_in.ensures.asked

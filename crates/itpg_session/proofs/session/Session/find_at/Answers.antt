@@ -18,7 +18,7 @@ use Rattle.itpg_session.proofs.session.Session.find_at.Goals.{in-Ok, in-Err-Wide
 
 pub find-requires-clause-planned : goal.find-requires-clause-planned
 find-requires-clause-planned c =
-    planned_at c.self.inside.graph c.self.inside.limits c.self.inside.plans.nodes c.self.inside.watches c.self.invariant.watches_right c.args.place c.plan.result.0 (query_term c.query.result.now) c.plan.ensures c.query.ensures.query
+    planned_at c.self.inside.graph c.self.inside.limits c.self.inside.plans.nodes c.self.inside.watches c.self.invariant.kept.watches_right c.args.place c.plan.result.0 (query_term c.query.result.now) c.plan.ensures c.query.ensures.query
 
 pub returns-clause-found : goal.returns-clause-found
 returns-clause-found c =
@@ -34,7 +34,7 @@ returns-clause-found c =
     ]
 
 pub returns-clause-alike : goal.returns-clause-alike
-returns-clause-alike c = worked_alike c.self.inside.graph c.self.inside.limits c.self.inside.plans c.self.inside.watches c.args.self.now c.self.view_is c.find.new.plans
+returns-clause-alike c = worked_alike c.self.inside.graph c.self.inside.limits c.self.inside.plans c.self.inside.watches c.self.inside.pins.pins c.args.self.now c.self.view_is c.find.new.plans
 
 pub returns-clause-worked : goal.returns-clause-worked
 returns-clause-worked c =
@@ -42,7 +42,7 @@ returns-clause-worked c =
     let ws = c.self.inside.watches in
     let table = c.self.inside.plans in
     let here = asking_at ws c.args.place q c.query.ensures.query in
-    let node = planned_at c.self.inside.graph c.self.inside.limits table.nodes ws c.self.invariant.watches_right c.args.place c.plan.result.0 q c.plan.ensures c.query.ensures.query in
+    let node = planned_at c.self.inside.graph c.self.inside.limits table.nodes ws c.self.invariant.kept.watches_right c.args.place c.plan.result.0 q c.plan.ensures c.query.ensures.query in
     subst (λ (s : Standing). IsWorkedFor (λ w. slice_get s.machine.watches c.args.place ≡ Some w) s.table c.find.new.plans) c.self.view_is
     (found_for (λ w. slice_get (all_plain ws) c.args.place ≡ Some w) table c.find.new.plans c.plan.result.0 here.0 here.1
     (subst (λ (r : QueryTerm). IsNodeOf table.nodes c.plan.result.0 (narrowed_member r.path All All)) (sym here.2) node) c.find.ensures.worked c.find.ensures.only)

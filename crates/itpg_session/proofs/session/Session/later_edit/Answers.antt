@@ -7,27 +7,29 @@ use Rattle.itpg_session.proofs.session.Session.later_edit.Goals as goal
 
 pub returns-in-Err-Rule-clause-decides : goal.returns-in-Err-Rule-clause-decides
 returns-in-Err-Rule-clause-decides c =
-    refused_edit c.self.inside.graph c.self.inside.limits c.self.inside.plans c.self.inside.watches c.args.self.now c.self.view_is c.apply.new.graph c.in-Err-Rule.ensures.same c.args.edit.now c.in-Err-Rule.rule
+    refused_edit c.self.inside.graph c.self.inside.limits c.self.inside.plans c.self.inside.watches c.self.inside.pins.pins c.args.self.now c.self.view_is c.apply.new.graph c.in-Err-Rule.ensures.same c.args.edit.now c.in-Err-Rule.rule
     (subst (Excuses c.self.inside.graph c.args.edit.now) c.in-Err-Rule.field-0-is c.in-Err-Rule.ensures.excuse)
 
 pub returns-in-Err-Memory-clause-decides : goal.returns-in-Err-Memory-clause-decides
 returns-in-Err-Memory-clause-decides c =
-    unmade_edit c.self.inside.graph c.self.inside.limits c.self.inside.plans c.self.inside.watches c.args.self.now c.self.view_is c.apply.new.graph c.in-Err-Memory.ensures.same c.args.edit.now
+    unmade_edit c.self.inside.graph c.self.inside.limits c.self.inside.plans c.self.inside.watches c.self.inside.pins.pins c.args.self.now c.self.view_is c.apply.new.graph c.in-Err-Memory.ensures.same c.args.edit.now
     (subst (Excuses c.self.inside.graph c.args.edit.now) c.in-Err-Memory.field-0-is c.in-Err-Memory.ensures.excuse)
 
 pub invariant_of-self-2 : goal.invariant_of-self-2
-invariant_of-self-2 c =
-    kept_lasts c.self.inside.graph c.apply.new.graph c.args.edit.now c.in-Ok.touch c.self.inside.limits c.law_of_graphs.ensures c.law_of_graphs-2.ensures c.in-Ok.ensures.makes
-    c.self.inside.plans c.forget.new.self c.self.inside.watches c.touched.new.self c.forget.ensures.nodes c.forget.ensures.kept c.touched.ensures c.self.invariant
+invariant_of-self-2 c = record {
+  kept = (kept_lasts c.self.inside.graph c.apply.new.graph c.args.edit.now c.in-Ok.touch c.self.inside.limits c.law_of_graphs.ensures c.law_of_graphs-2.ensures c.in-Ok.ensures.makes
+      c.self.inside.plans c.forget.new.self c.self.inside.watches c.touched.new.self c.forget.ensures.nodes c.forget.ensures.kept c.touched.ensures c.self.invariant.kept);
+  pins_limit = c.self.invariant.pins_limit;
+}
 
 pub returns-clause-decides : goal.returns-clause-decides
 returns-clause-decides c =
-    made_edit c.self.inside.graph c.self.inside.limits c.self.inside.plans c.self.inside.watches c.args.self.now c.self.view_is c.apply.new.graph c.in-Ok.touch c.forget.new.self c.touched.new.self c.args.edit.now
-    c.in-Ok.ensures.makes (λ w a. (c.self.invariant.watches_right w a).footed) c.touched.ensures
+    made_edit c.self.inside.graph c.self.inside.limits c.self.inside.plans c.self.inside.watches c.self.inside.pins.pins c.args.self.now c.self.view_is c.apply.new.graph c.in-Ok.touch c.forget.new.self c.touched.new.self c.args.edit.now
+    c.in-Ok.ensures.makes (λ w a. (c.self.invariant.kept.watches_right w a).footed) c.touched.ensures
 
 pub returns-in-Err-Rule-clause-forgets : goal.returns-in-Err-Rule-clause-forgets
 returns-in-Err-Rule-clause-forgets c = λ unbroken.
-    absurd (broken_edit c.self.inside.graph c.self.inside.limits c.self.inside.plans c.self.inside.watches c.args.self.now c.self.view_is c.args.edit.now c.in-Err-Rule.rule
+    absurd (broken_edit c.self.inside.graph c.self.inside.limits c.self.inside.plans c.self.inside.watches c.self.inside.pins.pins c.args.self.now c.self.view_is c.args.edit.now c.in-Err-Rule.rule
     (subst (Excuses c.self.inside.graph c.args.edit.now) c.in-Err-Rule.field-0-is c.in-Err-Rule.ensures.excuse) unbroken)
 
 pub returns-in-Err-Rule-clause-table : goal.returns-in-Err-Rule-clause-table
@@ -38,12 +40,12 @@ returns-in-Err-Memory-clause-table c = inr (ap (λ (s : Standing). s.table) c.se
 
 pub returns-clause-forgets : goal.returns-clause-forgets
 returns-clause-forgets c = λ unbroken.
-    forgotten_edit c.self.inside.graph c.self.inside.limits c.self.inside.plans c.self.inside.watches c.args.self.now c.self.view_is c.apply.new.graph c.in-Ok.touch c.forget.new.self c.touched.new.self c.args.edit.now
+    forgotten_edit c.self.inside.graph c.self.inside.limits c.self.inside.plans c.self.inside.watches c.self.inside.pins.pins c.args.self.now c.self.view_is c.apply.new.graph c.in-Ok.touch c.forget.new.self c.touched.new.self c.args.edit.now
     c.in-Ok.ensures.makes c.forget.ensures.nodes c.forget.ensures.kept
 
 pub returns-clause-table : goal.returns-clause-table
 returns-clause-table c =
-    inl (forgotten_edit c.self.inside.graph c.self.inside.limits c.self.inside.plans c.self.inside.watches c.args.self.now c.self.view_is c.apply.new.graph c.in-Ok.touch c.forget.new.self c.touched.new.self c.args.edit.now
+    inl (forgotten_edit c.self.inside.graph c.self.inside.limits c.self.inside.plans c.self.inside.watches c.self.inside.pins.pins c.args.self.now c.self.view_is c.apply.new.graph c.in-Ok.touch c.forget.new.self c.touched.new.self c.args.edit.now
     c.in-Ok.ensures.makes c.forget.ensures.nodes c.forget.ensures.kept)
 
 pub returns-in-Err-Memory-clause-unmade : goal.returns-in-Err-Memory-clause-unmade

@@ -36,7 +36,7 @@ returns-clause-keeps c = step_fresh _ c.args.self.now c.decide.new.self c.settle
 
 pub returns-clause-asked : goal.returns-clause-asked
 returns-clause-asked c =
-    asked_settled c.args.line.now _ c.args.self.now c.decide.new.self c.settle.new.self (line_reply c.in_ok-unsaid.unsaid) _ c.read_line.ensures.only c.settle.ensures.table c.settle.ensures.stands c.in_ok-unsaid.ensures.asked
+    asked_settled c.args.line.now _ c.args.self.now c.decide.new.self c.settle.new.self (line_reply c.in_ok-unsaid.unsaid) _ c.read_line.ensures.only c.settle.ensures.table c.settle.ensures.pins c.settle.ensures.stands c.in_ok-unsaid.ensures.asked
 
 pub returns-clause-forgets : goal.returns-clause-forgets
 returns-clause-forgets c =

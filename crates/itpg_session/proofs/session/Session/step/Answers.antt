@@ -78,7 +78,7 @@ returns-in-Some-clause-asked g c = kept_asks c.args.self.now c.args.line.now _ _
 
 pub returns-clause-asked : goal.returns-clause-asked
 returns-clause-asked g c =
-    asked_settled c.args.line.now _ c.args.self.now c.decide.new.self c.settle.new.self (line_reply c.in_ok-reply.reply) _ c.read_line.ensures.only c.settle.ensures.table c.settle.ensures.stands c.in_ok-reply.ensures.asked
+    asked_settled c.args.line.now _ c.args.self.now c.decide.new.self c.settle.new.self (line_reply c.in_ok-reply.reply) _ c.read_line.ensures.only c.settle.ensures.table c.settle.ensures.pins c.settle.ensures.stands c.in_ok-reply.ensures.asked
 
 pub returns-in_err-write_rows-clause-unmade : goal.returns-in_err-write_rows-clause-unmade
 returns-in_err-write_rows-clause-unmade g c = on_err _ _ (same_unmade c.args.self.now c.args.line.now)

@@ -17,7 +17,7 @@ write_all-requires g c =
     let are = subst (λ (s : Standing). AreTicked s.machine.graph s.limit s.machine.watches (map ticked_of c.in-PerWatch.found.items)) (sym c.self.view_is) suits in
     subst (λ xs. AreTicksDeclared c.self.inside.graph (map ticked_of xs)) (sym c.deref.ensures.value)
     (ticks_declared c.self.inside.graph c.self.inside.limits (all_plain c.self.inside.watches) (map ticked_of c.in-PerWatch.found.items)
-    (bases_declared c.self.inside.graph c.self.inside.limits c.self.inside.plans.nodes c.self.inside.watches c.self.invariant.watches_right) are)
+    (bases_declared c.self.inside.graph c.self.inside.limits c.self.inside.plans.nodes c.self.inside.watches c.self.invariant.kept.watches_right) are)
 
 pub write_found-requires : goal.write_found-requires
 write_found-requires g c =
