@@ -2,6 +2,10 @@ pub mod MachineLaws
 pub mod Kept
 pub mod Split
 pub mod Running
+pub mod PinStays
+pub mod PinReplies
+pub mod StillLists
+pub mod StillReplies
 pub mod Fed
 pub mod Feeding
 pub mod Pumped

@@ -80,3 +80,10 @@ some_run laws limit m number (x ∷ xs) good =
     let first = some_line laws limit m number x good in
     let rest = some_run laws limit first.0.next (number + 1) xs (good_line laws limit m number x good first.0 first.1) in
     (both first.0 rest.0, record { first = first.0; rest = rest.0; begins = first.1; goes_on = rest.1; is = refl })
+
+-- each run leaves a good machine
+pub good_run : Laws → (limit : ℕ) (m : Machine) (number : ℕ) (xs : List (List ℕ)) (t : Output) → IsGood m → Runs limit m number xs t → IsGood t.next
+unfolding Runs
+good_run laws limit m number [] t good r = subst (λ (u : Output). IsGood u.next) (sym r) good
+good_run laws limit m number (x ∷ xs) t good r =
+    subst (λ (u : Output). IsGood u.next) (sym r.is) (good_run laws limit r.first.next (number + 1) xs r.rest (good_line laws limit m number x good r.first r.begins) r.goes_on)

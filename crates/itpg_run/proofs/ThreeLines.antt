@@ -16,7 +16,7 @@ use Rattle.match_parser.specs.Reading.{Reads, FaultOf}
 use Rattle.path_eval.specs.Answering.{AnswersQuery}
 use Rattle.itpg_session.specs.Questions.{IsTooWide}
 use Rattle.itpg_session.specs.Rules.{QueryBreaks, ask_rules}
-use Rattle.itpg_session.specs.Replies.{Reply, Silent, Bad, Refused, Wide, Rows, Counted, Shown, PerWatch, IsReply}
+use Rattle.itpg_session.specs.Replies.{Reply, Silent, Bad, Refused, Wide, Rows, Counted, Shown, OfPin, PerWatch, IsReply}
 use Rattle.itpg_session.specs.Machine.{Machine, Turn, opening, Replies, TurnOf, Answers}
 use Rattle.trial_script.specs.Script.{Text, AskNothing, edits, ask_lines, risk_line, contact_line, alone_line, script}
 use Rattle.itpg_run.specs.Summary.{Told, told_both, told_of, Tells}
@@ -102,6 +102,7 @@ asked_line laws limit m k line text q rest all asks begun (inl asked) =
     by_reply Silent e r = absurd r.2.1
     by_reply (Counted counts) e r = absurd r.2.1
     by_reply (Shown place found) e r = absurd r.2.1
+    by_reply (OfPin place answer) e r = absurd r.2.1
     by_reply (PerWatch found) e r = absurd r.2.1
     by_reply Wide e r =
         line_of Wide e (inl (record { wide = subst (λ (p : QueryTerm). IsTooWide m.graph limit p) (laws.one_query text r.0 q r.1 asks.reads) r.2.1; is = refl }))

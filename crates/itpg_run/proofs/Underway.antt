@@ -1,8 +1,8 @@
 -- A trial, line by line.
 use Rattle.std.proofs.Common.{◌≡◌, inl, inr, ℕ, ◌+◌, Bool, true, false, ◌||◌, List, [], ◌∷◌, ◌++◌, Some, None, Result, Ok, Err, IsErrOf, MatchOption, refl, ap, ◌∙◌, sym, subst, append_assoc, arith}
 use Rattle.std.specs.declared.option.Option.{Option}
-use Rattle.itpg_session.specs.declared.session.StepFault.{StepFault}
-use Rattle.itpg_session.specs.declared.session.StepFault.TheVariants.{Memory, Write}
+use Rattle.itpg_session.specs.declared.fault.StepFault.{StepFault}
+use Rattle.itpg_session.specs.declared.fault.StepFault.TheVariants.{Memory, Write}
 use Rattle.std.specs.Io.KnownBytes.{Appends, Keeps}
 use Rattle.std.proofs.lemmas.List.{append-nil}
 use Rattle.std.proofs.KnownBytes.{Appends-nil, Appends-trans, Appends-kept}

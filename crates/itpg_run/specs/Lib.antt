@@ -10,6 +10,8 @@ pub mod Tried
 pub mod Fed
 pub mod Pumped
 pub mod OutputLaws
+pub mod Still
+pub mod StillLaws
 pub mod Codes
 pub mod ScriptEdits
 pub mod ScriptQueries

@@ -16,7 +16,7 @@ no_output m = record { text = []; failing = false; next = m }
 
 -- the output of a turn that is taken at the line of a number
 abbrev pub written : Machine → ℕ → Turn → Output
-written m number turn = record { text = text_of m.graph number turn.reply; failing = fails turn.reply; next = turn.next }
+written m number turn = record { text = text_of m number turn.reply; failing = fails turn.reply; next = turn.next }
 
 -- the output that the line of a number may have
 pub record LineOut (limit : ℕ) (m : Machine) (number : ℕ) (line : List ℕ) (o : Output) : Type 0 where

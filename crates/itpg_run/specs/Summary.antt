@@ -6,7 +6,7 @@ use Rattle.std.specs.Io.KnownBytes.{Appends}
 use Rattle.itpg_base.specs.Outside.{AppendsSome}
 use Rattle.itpg_base.specs.declared.outside.Sink.{Ghosts as SinkGhosts}
 use Rattle.relation_rows.specs.Answered.{row_number}
-use Rattle.itpg_session.specs.Replies.{Reply, Silent, Bad, Refused, Wide, Rows, Counted, Shown, PerWatch, IsReply}
+use Rattle.itpg_session.specs.Replies.{Reply, Silent, Bad, Refused, Wide, Rows, Counted, Shown, OfPin, PerWatch, IsReply}
 use Rattle.itpg_session.specs.Machine.{Machine, Turn, opening, Replies}
 use Rattle.trial_script.specs.Script.{Asks, script}
 use Rattle.itpg_run.specs.Sums.{answer_sum}
@@ -40,6 +40,7 @@ told_of k (Refused rule) = nothing
 told_of k Silent = nothing
 told_of k (Counted counts) = nothing
 told_of k (Shown place found) = nothing
+told_of k (OfPin place answer) = nothing
 told_of k (PerWatch found) = nothing
 
 -- the line asks the question k, whose reply is told; the lines behind it find the machine as it was

@@ -4,7 +4,8 @@
 //! script as a definition (`specs/`): the turns of the plain machine to its lines, one behind the other. It promises that
 //! `serve` writes the bytes of that output, whatever script is read, or the summary of a trial (`serve`'s clauses), that there
 //! is exactly one output for each script (`one_output`, `some_output`), and one summary for each trial (`law_of_summaries`),
-//! of three lines (`law_of_three_lines`). Of graphs only the laws of a trial's script speak (`script_law`).
+//! of three lines (`law_of_three_lines`), and that a pin's replies don't see the edits since it was opened (`law_of_pins`). Of
+//! graphs only the laws of a trial's script speak (`script_law`).
 #![tactic(auto)]
 
 ghost use Rattle.itpg_run.specs.Codes.{code_of};
@@ -18,7 +19,9 @@ mod summary;
 mod sums;
 mod trial;
 
-pub use law::{law_of_summaries, one_output, output_begins, output_grows, some_output};
+pub use law::{
+    law_of_pins, law_of_summaries, one_output, output_begins, output_grows, some_output,
+};
 pub use run::serve;
 pub use script_law::{law_of_script_graphs, law_of_script_lines, law_of_three_lines};
 use thiserror::Error;
