@@ -32,8 +32,8 @@ import subprocess
 import sys
 
 TOP = pathlib.Path(__file__).resolve().parent.parent
-ASKS = "ask", "first", "last", "count"
-COMMANDS = {"graph", "extend", "node", "edge", "live", "gone", "set", "unset", "drop", *ASKS, "watch", "show", "unwatch", "tick"}
+ASKS = "ask", "first", "last", "count", "in"
+COMMANDS = {"graph", "extend", "node", "edge", "live", "gone", "set", "unset", "drop", *ASKS, "watch", "show", "unwatch", "tick", "open", "close"}
 REPLY = re.compile(r"(line \d+ (rows \d+|counts \d+|wide|bad \w+|refused \w+)|tick (?!NAME\b)\w+ (gained \d+ lost \d+|wide)|ask \d (rows|wide)\b.*)$")
 CODE = re.compile(r"(bad|refused) [a-z]+$")
 CODES_IN_A_ROW = re.compile(r"`[^`]+`(?:, `[^`]+`)*")

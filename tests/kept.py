@@ -4,15 +4,16 @@
     tests/kept.py PROGRAM [--scripts N] [--from SEED] [--edits M] [--long] [--sets] [--fresh OTHER]
 
 Draws N scripts (200 unless given), each of M edits (100) over few names, labels and properties, with watches of five queries, which
-are also asked by `ask`, `first`, `last` and `count`, and shows and ticks between. Every second script has a small limit of rows, so
-that answers are wide now and then.
+are also asked by `ask`, `first`, `last` and `count`, and of pins that come and go, and shows and ticks between. Every second script has a
+small limit of rows, so that answers are wide now and then.
 With --long a script has 10,000 edits unless M is given, and 32 watches of as many queries. Most edits come 600 at a time; then the
-watches tick, and one or two edits come before each of six questions. In each tenth script great questions fill the table of plans, so
-that it is made anew. With --sets objects have up to three labels.
+watches tick, and one or two edits come before each of six questions. In each tenth script great questions fill the table of plans, of
+the graph or of a pin by turns, so that it is made anew. With --sets objects have up to three labels.
 
 Each question that the program answers there is also asked of a fresh run, of OTHER if it is given, which reads the edits accepted so
 far and this one question. So in a fresh run nothing is kept.
 - The reply to `ask`, `first`, `last`, `count` and `show` must be that of the fresh run, line for line.
+- The reply to a question on a pin's graph must be that of a fresh run which reads the edits accepted before the pin was opened.
 - A tick must be wide exactly if the fresh run is. Otherwise its rows must hold what the answer has and the base doesn't, and what
   the base has and the answer doesn't, as points. The base is the fresh run's answer at the watch's last tick that wasn't wide. In a
   long script two watches of a tick are compared so.
@@ -29,9 +30,9 @@ QUIET, COMPARED = 600, 2  # edits at a time in a long script, and watches of a t
 QUESTIONS = ["ask", "first", "last", "count"]
 
 
-def names(nodes, edges, watches):
-    return {"node": [f"n{i}" for i in range(nodes)], "edge": [f"e{i}" for i in range(edges)], "watch": [f"w{i}" for i in range(watches)]}
-
+def names(nodes, edges, watches, pins):
+    counts = {"node": nodes, "edge": edges, "watch": watches, "pin": pins}
+    return {kind: [f"{kind[0]}{i}" for i in range(count)] for kind, count in counts.items()}
 
 
 # What a word in angles stands for. The forms after the bar may hold one another, down to a depth. Some labels are of nodes and edges.
@@ -52,7 +53,7 @@ FORMS = {
     "moment": [str(t) for t in range(LAST + 1)],
     "one_or_more": ["<label>", "<label>,<label>", "<label>,<label>,<label>"],
 }
-FEW, MANY = names(6, 5, 6), names(16, 20, 32)
+FEW, MANY = names(6, 5, 6, 3), names(16, 20, 32, 8)
 # What follows the name of an edit of an object.
 MORE = {"set": " <property> <value> <span>", "unset": " <property> <span>", "live": " <span>", "gone": " <span>", "drop": ""}
 
@@ -99,12 +100,16 @@ class Draw:
 
     def other(self, *kinds):
         """A line that is no edit."""
-        kind = self.random.choice(kinds or ["ask"] * 8 + ["part"] * 4 + ["show"] * 12 + ["tick"] * 5 + ["watch"] * 3 + ["unwatch"])
-        name = {"watch": self.declared, "unwatch": self.dropped}.get(kind, self.stands)("watch")
+        kind = self.random.choice(kinds or ["ask"] * 8 + ["part"] * 4 + ["show"] * 12 + ["tick"] * 5 + ["watch"] * 3 + ["unwatch"]
+                                           + ["in"] * 8 + ["open"] * 3 + ["close"] * 2)
+        of = "pin" if kind in ("open", "close", "in") else "watch"
+        name = {"watch": self.declared, "open": self.declared, "unwatch": self.dropped, "close": self.dropped}.get(kind, self.stands)(of)
         query = self.random.choice(self.queries)
         if kind == "part":
             kind = self.question(query)
-        return f"{kind} {query}" if kind in QUESTIONS else {"tick": "tick", "watch": f"watch {name} {query}"}.get(kind, f"{kind} {name}")
+        if kind in QUESTIONS:
+            return f"{kind} {query}"
+        return {"tick": "tick", "watch": f"watch {name} {query}", "in": f"in {name} ask {query}"}.get(kind, f"{kind} {name}")
 
     def question(self, query):
         """The word of a line that asks for a part of the answer, or for counts if one end has a name. It is wrong now and then."""
@@ -121,24 +126,27 @@ class Draw:
             lines += [f"ask {query}" for query in self.queries] * (self.random.random() < 0.4)
         return lines
 
-    def great(self):
+    def great(self, word):
         """A question of nearly 1,000 terms, most of which no other has."""
         paths = ["/".join(f"{{risk = 'v{self.random.getrandbits(60)}'}}" for _ in range(30)) for _ in range(16)]
-        return "ask MATCH (x {" + " OR ".join(f"?({path})" for path in paths) + "})"
+        return word + " MATCH (x {" + " OR ".join(f"?({path})" for path in paths) + "})"
 
     def long_script(self, edits, great):
+        """The script, with great questions that begin with the words `great`, if it has any."""
         lines = [f"graph g 0 {LAST}"]
         for kind in ["node"] * 12 + ["edge"] * 12:
             lines += self.edits(kind)
-        lines += [f"watch {self.declared('watch')} {query}" for query in self.queries]
+        lines += ["open s", *(f"watch {self.declared('watch')} {query}" for query in self.queries)]
         made = 0
         while made < edits:
+            lines += [self.other("close"), self.other("open"), self.other("open")][:self.random.choice([0, 2, 3])]
             quiet = [line for _ in range(min(QUIET, edits - made)) for line in self.edits()][:edits - made]
             made += len(quiet)
-            lines += [*quiet, *(self.great() for _ in range(5 * great)), self.other("tick")]
+            lines += [*quiet, *(self.great(great) for _ in range(5 * bool(great))), self.other("tick")]
             for _ in range(6):
                 lines += [*self.edits(), *self.edits()][:self.random.choice([1, 1, 2])]
-                lines += [self.other("show", "show", "ask", "part"), *([self.other("unwatch"), self.other("watch")] * (self.random.random() < 0.1))]
+                lines += [self.other("show", "show", "ask", "part", "in"), f"in s ask {self.random.choice(self.queries)}"]
+                lines += [self.other("unwatch"), self.other("watch")] * (self.random.random() < 0.1)
         return lines
 
 
@@ -173,6 +181,7 @@ class Trial:
         self.output, self.at = run(program, limit, "\n".join(lines).encode()), 0
         self.random = random.Random(len(self.output))
         self.edits, self.numbers = bytearray(), {}  # accepted so far; of each name a number of the last object declared
+        self.pins = {}  # of each name how long the edits were when it was opened
         self.watches = {}  # of each name its query; where its base was found how long the edits were, and the numbers of names
         self.replies = 0
 
@@ -191,8 +200,8 @@ class Trial:
         if got != wanted:
             raise Differs(f"line {number} {self.lines[number - 1]}: {got}, by fresh runs {wanted}")
 
-    def answer(self, number, query, word="ask"):
-        told, rows = self.fresh(query, len(self.edits), word)
+    def answer(self, number, query, word="ask", size=None):
+        told, rows = self.fresh(query, len(self.edits) if size is None else size, word)
         self.check(number, self.take(1 + len(rows)), [f"line {number} {told}", *rows])
 
     def tick(self, number):
@@ -223,6 +232,12 @@ class Trial:
                 self.answer(number, line[len(command) + 1:], command)
             elif command == "show":
                 self.answer(number, self.watches[name][0])
+            elif command == "in":
+                self.answer(number, rest.strip().removeprefix("ask "), size=self.pins[name])
+            elif command == "open":
+                self.pins[name] = len(self.edits)
+            elif command == "close":
+                del self.pins[name]
             elif command == "tick":
                 self.tick(number)
             elif command == "watch":
@@ -248,8 +263,9 @@ def main():
     replies = differ = 0
     for seed in range(options["from"], options["from"] + options["scripts"]):
         limit = SMALL_LIMITS[seed // 2 % len(SMALL_LIMITS)] * (10 if is_long else 1) if seed % 2 else 100_000
+        great = None if seed % 10 else ["ask", "in s ask"][seed // 10 % 2]
         draw = Draw(seed, *((MANY, 32) if is_long else (FEW, 5)), options["sets"])
-        lines = draw.long_script(options["edits"] or 10_000, seed % 10 == 0) if is_long else draw.script(options["edits"] or 100)
+        lines = draw.long_script(options["edits"] or 10_000, great) if is_long else draw.script(options["edits"] or 100)
         trial = Trial(program, options["fresh"] or program, limit, lines, COMPARED if is_long else 32)
         try:
             trial.read()

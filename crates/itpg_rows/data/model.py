@@ -10,8 +10,9 @@ leads to, by the meaning of its path, and a repetition is walked step by step; r
 the five conditions of a normal list; wide is told by the rows of each worked member. So it says nothing of horizons longer
 than MOST_MOMENTS. A watch keeps the relation that the last tick worked out, and what was gained and lost are the points that
 one relation leads to and the other doesn't. A `first` or `last` tries each pair of a relation, a `count` each object at each
-moment. Trials are worked out by `trial_model.py`, but for those with a limit of rows.
+moment. A pin keeps a whole copy of the graph. Trials are worked out by `trial_model.py`, but for those with a limit of rows.
 """
+import copy
 import functools
 import itertools
 import pathlib
@@ -723,6 +724,7 @@ def members(path, a, b):
 FORMS = {
     "graph": "nii", "extend": "ii", "node": "nl", "edge": "nlnn", "live": "nii", "gone": "nii", "set": "nnqii", "unset": "nnii", "drop": "n",
     "ask": None, "first": None, "last": None, "count": None, "watch": "n", "show": "n", "unwatch": "n", "tick": "",
+    "open": "n", "close": "n", "in": "nn",
 }
 QUESTIONS = [command for command in FORMS if FORMS[command] is None]
 KINDS = {"word": "n", "number": "i", "quoted": "q"}
@@ -751,6 +753,7 @@ class Watch:
 class Machine:
     def __init__(self, limit):
         self.graph, self.limit, self.watches = Graph(), limit, []
+        self.pins = {}  # of each name a copy of the graph
 
     def reply(self, number, line):
         """The lines of the reply."""
@@ -775,12 +778,14 @@ class Machine:
         if command in QUESTIONS or command == "watch":
             refuse("graphname", query[3] is not None and query[3] != self.graph.name)
         if command in QUESTIONS:
-            return self.answer(number, query, command)
+            return self.answer(number, self.graph, query, command)
         values = values_of(command, parts)
+        if command in ("open", "close", "in"):
+            return self.session(number, command, values[0], query)
         if command == "watch":
             return self.watch(*values, query)
         if command == "show":
-            return self.answer(number, self.watched(*values).query)
+            return self.answer(number, self.graph, self.watched(*values).query)
         if command == "unwatch":
             self.watches.remove(self.watched(*values))
             return []
@@ -797,7 +802,9 @@ class Machine:
             return [], rest
         if command == "watch" and rest and rest[0][0] == "word":
             return rest[:1], rest[1:]
-        if command == "watch" or not re.fullmatch(FORMS[command].replace("l", LABELS), kinds_of(rest)):
+        if command == "in" and rest and rest[0][0] == "word" and rest[1:2] == [("word", "ask")]:
+            return rest[:2], rest[2:]
+        if command in ("watch", "in") or not re.fullmatch(FORMS[command].replace("l", LABELS), kinds_of(rest)):
             raise Fault("text")
         return rest, None
 
@@ -812,6 +819,19 @@ class Machine:
         self.watches.append(Watch(name, query))
         return []
 
+    def session(self, number, command, name, query):
+        if command == "open":
+            refuse("taken", name in self.pins)
+            refuse("full", len(self.pins) >= 8)
+            self.pins[name] = copy.deepcopy(self.graph)
+            return []
+        refuse("unknown", name not in self.pins)
+        if command == "close":
+            del self.pins[name]
+            return []
+        refuse("graphname", query[3] is not None and query[3] != self.pins[name].name)
+        return self.answer(number, self.pins[name], query)
+
     def extend(self, low, high):
         """Widens the horizon. The bits of the points change, so the bases get the new ones."""
         before = Meaning(self.graph) if self.watches else None
@@ -822,32 +842,32 @@ class Machine:
             watch.base = {moved[x]: sum(1 << moved[y] for y in bits(ends)) for x, ends in watch.base.items()}
         return []
 
-    def answer(self, number, query, command="ask"):
-        relation, meaning, kind = self.relation(query), Meaning(self.graph), "rows"
+    def answer(self, number, graph, query, command="ask"):
+        relation, meaning, kind = self.relation(graph, query), Meaning(graph), "rows"
         if relation is None:
             return [f"line {number} wide"]
         if command == "count":
             texts, kind = [f"{low}..{high} {many}" for low, high, many in count_rows(meaning, relation)], "counts"
         else:
             kept = {"first": first_arrivals, "last": last_departures}.get(command)
-            texts = self.rows(query, kept(meaning, relation) if kept else relation)
+            texts = self.rows(graph, query, kept(meaning, relation) if kept else relation)
         if command != "ask" and len(texts) > self.limit:
             return [f"line {number} wide"]
         return [f"line {number} {kind} {len(texts)}", *texts]
 
     def tick(self, watch):
-        now = self.relation(watch.query)
+        now = self.relation(self.graph, watch.query)
         if now is None:
             return [f"tick {watch.name} wide"]
-        gained, lost = (self.rows(watch.query, less(a, b)) for a, b in ((now, watch.base), (watch.base, now)))
+        gained, lost = (self.rows(self.graph, watch.query, less(a, b)) for a, b in ((now, watch.base), (watch.base, now)))
         watch.base = now
         return [f"tick {watch.name} gained {len(gained)} lost {len(lost)}",
                 *("+ " + row for row in gained), *("- " + row for row in lost)]
 
-    def relation(self, query):
+    def relation(self, graph, query):
         """The relation that answers the query, or None where that is wide; of one time each point leads to itself."""
         first, last, path, _ = query
-        meaning = Meaning(self.graph)
+        meaning = Meaning(graph)
         worked = {(meaning.shortest(member), *between) for member, *between in members(path, ALL, ALL)}
         if any(self.is_wide(meaning, *member) for member in worked):
             return None
@@ -857,19 +877,19 @@ class Machine:
         points = relation if first else {x for ends in relation.values() for x in bits(ends)}
         return {x: 1 << x for x in points}
 
-    def rows(self, query, relation):
-        meaning = Meaning(self.graph)
+    def rows(self, graph, query, relation):
+        meaning = Meaning(graph)
         if query[0] and query[1]:
-            return [self.row(*row) for row in normal_rows(meaning, relation)]
+            return [self.row(graph, *row) for row in normal_rows(meaning, relation)]
         times = {}
         for o, t in map(meaning.point, relation):
             times.setdefault(o, set()).add(t)
-        return [f"{self.graph.objects[o].name} {low}..{high}" for o in sorted(times) for low, high in runs(times[o])]
+        return [f"{graph.objects[o].name} {low}..{high}" for o in sorted(times) for low, high in runs(times[o])]
 
     def is_wide(self, meaning, path, a, b):
         """Whether the relation of a path between two scopes has more normal rows than the limit."""
         def within(o, labels):
-            return labels is ALL or bool(self.graph.objects[o].labels & labels)
+            return labels is ALL or bool(meaning.graph.objects[o].labels & labels)
         relation = meaning.of(path)
         if a is not ALL:
             relation = {x: ends for x, ends in relation.items() if within(meaning.points[x][0], a)}
@@ -879,8 +899,8 @@ class Machine:
         # A row has one run at each of its departures, so there are no more rows than runs.
         return count_of_runs(relation) > self.limit and len(normal_rows(meaning, relation)) > self.limit
 
-    def row(self, o, p, low, high, *ends):
-        names = [self.graph.objects[number].name for number in (o, p)]
+    def row(self, graph, o, p, low, high, *ends):
+        names = [graph.objects[number].name for number in (o, p)]
         shown = [str(n) if kind == "fixed" else f"t{n:+}" if n else "t" for kind, n in ends]
         return f"{names[0]} {low}..{high} {names[1]} {shown[0]}..{shown[1]}"
 

@@ -6,6 +6,8 @@ mod of_arrivals;
 #[cfg(test)]
 mod of_band_normal;
 #[cfg(test)]
+mod of_itpg_pins;
+#[cfg(test)]
 mod of_itpg_run;
 #[cfg(test)]
 mod of_itpg_session;
@@ -17,6 +19,8 @@ mod of_plan_cache;
 mod of_relation_rows;
 #[cfg(test)]
 mod of_repeat_engine;
+#[cfg(test)]
+mod of_source_rows;
 #[cfg(test)]
 mod of_zone_compose;
 #[cfg(test)]

@@ -1,4 +1,4 @@
-//! A query that is interned twice.
+//! A query that is interned twice, and a third time in a copy.
 
 use itpg_base::Name;
 use path_ast::{Leaf, Path, Query, Test};
@@ -23,4 +23,8 @@ fn a_query_has_one_node(rt: HostRuntime) {
     let second = plans.intern(&query).expect(&rt, "memory");
     assert!(rt; second == first);
     assert!(rt; plans.len() == 3);
+    let mut copy = plans.copy().expect(&rt, "memory");
+    let third = copy.intern(&query).expect(&rt, "memory");
+    assert!(rt; third == first);
+    assert!(rt; copy.len() == 3);
 }

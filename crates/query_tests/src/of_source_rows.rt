@@ -1,0 +1,36 @@
+//! What is near a node.
+
+use itpg_base::{Limits, MemSink, Name};
+use itpg_session::Session;
+use source_rows::near_objects;
+
+// Objects 0 to 4: the nodes a, b, c, an edge from a to b and one from b to c.
+const GRAPH: [&[u8]; 6] = [
+    b"graph g 0 9",
+    b"node a T",
+    b"node b T",
+    b"node c T",
+    b"edge m e a b",
+    b"edge n e b c",
+];
+
+#[test]
+fn in_one_step_an_edge_and_its_ends_are_near(rt: HostRuntime) {
+    let alloc = rt.alloc();
+    let room = vec![in alloc; 0; 64].expect(&rt, "memory");
+    let mut sink = MemSink::new(Vec::new(alloc), 0, room);
+    let limits = Limits::new(100).expect(&rt, "a limit");
+    let mut session = Session::new(alloc, limits);
+    for line in GRAPH {
+        let seen = session.step(1, line, &mut sink);
+        assert!(rt; seen.is_ok());
+    }
+    let name = Name::new(b"a").expect(&rt, "a name");
+    let graph = session.graph();
+    let start = graph.find(&name).expect(&rt, "a node");
+    let near = near_objects(alloc, graph, start, Some(1)).expect(&rt, "memory");
+    assert!(rt; near.len() == 3);
+    assert!(rt; near[0].0 == 0);
+    assert!(rt; near[1].0 == 1);
+    assert!(rt; near[2].0 == 3);
+}
