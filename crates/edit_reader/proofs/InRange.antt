@@ -57,6 +57,9 @@ form_moments text Command.Tick [] reading e none = same_moments e tt
 form_moments text Command.Open (AWord name ∷ []) reading e none = same_moments e tt
 form_moments text Command.Close (AWord name ∷ []) reading e none = same_moments e tt
 form_moments text Command.In (AWord name ∷ AWord word ∷ rest) reading e none = subst AsksOfMoments (sym (is_in name word (text 2) reading e)) tt
+form_moments text Command.Follow (AWord name ∷ rest) reading e none = same_moments e tt
+form_moments text Command.Near (AWord name ∷ AWord id ∷ []) reading e none = same_moments e tt
+form_moments text Command.Unfollow (AWord name ∷ []) reading e none = same_moments e tt
 form_moments text _ _ reading e none = absurd (let never : ⊥ = cc in never)
 
 tokens_moments : (line : List ℕ) (tokens : List Placed) (reading : Reading) → form_of line tokens ≡ Some reading → ¬ HasFarNumber (parts_of tokens) → AsksOfMoments reading
@@ -103,6 +106,9 @@ form_labels text Command.Tick [] reading e = same_labels e tt
 form_labels text Command.Open (AWord name ∷ []) reading e = same_labels e tt
 form_labels text Command.Close (AWord name ∷ []) reading e = same_labels e tt
 form_labels text Command.In (AWord name ∷ AWord word ∷ rest) reading e = subst AsksForLabels (sym (is_in name word (text 2) reading e)) tt
+form_labels text Command.Follow (AWord name ∷ rest) reading e = same_labels e tt
+form_labels text Command.Near (AWord name ∷ AWord id ∷ []) reading e = same_labels e tt
+form_labels text Command.Unfollow (AWord name ∷ []) reading e = same_labels e tt
 form_labels text _ _ reading e = absurd (let never : ⊥ = cc in never)
 
 tokens_labels : (line : List ℕ) (tokens : List Placed) (reading : Reading) → form_of line tokens ≡ Some reading → AsksForLabels reading

@@ -36,6 +36,16 @@ listed_more n word rest more e = rw e refl
 pub listed_last : (n : ℕ) (word : Word) (rest : List Lexeme) → behind_comma rest ≡ None → listed (suc n) (AWord word ∷ rest) ≡ Some (record { words = word ∷ []; rest = rest })
 listed_last n word rest e = rw e refl
 
+-- a word that has no comma behind it is the whole list
+pub one_listed : {line left : List ℕ} {at : ℕ} {tokens : List Placed} {label : Word} → (u : IsTaken line tokens (AWord label) left at) → behind_comma (lexemes u.rest) ≡ None → AreListed line 8 tokens left at
+one_listed {label = label} u alone = record {
+  words = label ∷ [];
+  rest = u.rest;
+  are = ap (listed 8) (taken_parts u) ∙ listed_last 7 label (lexemes u.rest) alone;
+  same = u.same;
+  behind = u.behind;
+}
+
 -- what a list of labels is made of
 record IsLast (word : Word) (rest : List Lexeme) (l : Listed) : Type 0 where
   pub is : l ≡ record { words = word ∷ []; rest = rest }

@@ -1,9 +1,9 @@
 -- A token taken from the front of the tokens of a line.
-use Rattle.std.proofs.Common.{◌≡◌, ℕ, List, [], ◌∷◌, Option, None, refl, sym, ap, subst}
+use Rattle.std.proofs.Common.{◌≡◌, ℕ, List, [], ◌∷◌, Option, Some, None, refl, sym, ap, subst}
 use Rattle.itpg_base.specs.declared.text_code.TextCode.{TextCode}
-use Rattle.script_lex.specs.Lines.{Placed, IsNext, EndsAt, AreTokens}
-use Rattle.script_lex.proofs.OneList.{next_unique, next_goes_on}
-use Rattle.edit_reader.specs.Taken.{IsTaken}
+use Rattle.script_lex.specs.Lines.{Placed, IsNext, IsLineFault, EndsAt, AreTokens}
+use Rattle.script_lex.proofs.OneList.{next_unique, next_goes_on, tokens_unique}
+use Rattle.edit_reader.specs.Taken.{IsReached, IsWhole, IsTaken}
 
 -- the next token is the first of them
 pub next_taken : (line : List ℕ) (at : ℕ) (t : Placed) (tokens : List Placed) → IsNext line at t → AreTokens line at tokens None → IsTaken line tokens t.what line t.to
@@ -23,3 +23,18 @@ next_taken line at t (x ∷ xs) next are =
 pub none_left : (line : List ℕ) (at : ℕ) (end : Option TextCode) (tokens : List Placed) → EndsAt line at end → AreTokens line at tokens None → tokens ≡ []
 none_left line at end [] ends are = refl
 none_left line at end (x ∷ xs) ends are = absurd (next_goes_on line at x end are.0 ends)
+
+-- where the tokens end with the line, the line has no fault behind some of them
+pub no_fault_left : (line : List ℕ) (at : ℕ) (code : TextCode) (tokens : List Placed) → IsLineFault line at code → AreTokens line at tokens None → ⊥
+no_fault_left line at code tokens fault are = let same = (tokens_unique line at tokens [] None (Some code) are fault).1 in let never : ⊥ = cc in never
+
+-- so it is with the whole line, and behind the next token
+pub reached_first : (line : List ℕ) → IsReached line 0
+reached_first line = λ rest tokens end stop left are. (tokens_unique line 0 tokens rest stop end are left).1
+
+pub reached_more : (line : List ℕ) (at : ℕ) (t : Placed) → IsReached line at → IsNext line at t → IsReached line t.to
+reached_more line at t r next = λ rest tokens end stop left are. r (t ∷ rest) tokens end stop (next, left) are
+
+-- where nothing but blanks follows, all tokens have been read
+pub reached_end : (line : List ℕ) (at : ℕ) → IsReached line at → EndsAt line at None → IsWhole line
+reached_end line at r ends = λ tokens end are. r [] tokens None end ends are

@@ -1,5 +1,5 @@
--- The twenty command words.
-use Rattle.std.specs.Prelude.{ℕ, nat_eq, List, [], ◌∷◌, codes, Option, None}
+-- The twenty-three command words.
+use Rattle.std.specs.Prelude.{ℕ, Bool, true, false, nat_eq, List, [], ◌∷◌, codes, Option, None}
 use Rattle.std.specs.Cmp.Lexicographic.{pointwise}
 use Rattle.std.specs.List.{find}
 use Rattle.script_lex.specs.Lexemes.{Lexeme, AWord, ANumber, AQuote, AMark}
@@ -27,11 +27,25 @@ command_word Command.Tick = codes "tick"
 command_word Command.Open = codes "open"
 command_word Command.Close = codes "close"
 command_word Command.In = codes "in"
+command_word Command.Follow = codes "follow"
+command_word Command.Near = codes "near"
+command_word Command.Unfollow = codes "unfollow"
+
+-- a query text stands behind the command word
+abbrev pub has_query : Command → Bool
+has_query Command.Ask = true
+has_query Command.First = true
+has_query Command.Last = true
+has_query Command.Count = true
+has_query Command.Watch = true
+has_query Command.In = true
+has_query Command.Follow = true
+has_query _ = false
 
 -- all commands
 abbrev pub commands : List Command
 commands =
-    Command.Live ∷ Command.Set ∷ Command.Node ∷ Command.Edge ∷ Command.Gone ∷ Command.Unset ∷ Command.Drop ∷ Command.Ask ∷ Command.Show ∷ Command.Tick ∷ Command.In ∷ Command.Watch ∷ Command.Unwatch ∷ Command.Open ∷ Command.Close ∷ Command.First ∷ Command.Last ∷ Command.Count ∷ Command.Extend ∷ Command.Graph ∷ []
+    Command.Live ∷ Command.Set ∷ Command.Node ∷ Command.Edge ∷ Command.Gone ∷ Command.Unset ∷ Command.Drop ∷ Command.Ask ∷ Command.Show ∷ Command.Tick ∷ Command.In ∷ Command.Near ∷ Command.Watch ∷ Command.Unwatch ∷ Command.Open ∷ Command.Close ∷ Command.Follow ∷ Command.Unfollow ∷ Command.First ∷ Command.Last ∷ Command.Count ∷ Command.Extend ∷ Command.Graph ∷ []
 
 -- the command that has this word
 unfoldable pub command_of : List ℕ → Option Command

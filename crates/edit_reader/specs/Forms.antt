@@ -10,7 +10,7 @@ use Rattle.script_lex.specs.Lines.{Placed}
 use Rattle.script_lex.specs.Numbers.{number_value}
 use Rattle.edit_reader.specs.declared.command.Command.{Command}
 use Rattle.edit_reader.specs.declared.line.Wanted.TheVariants.{First, Last, Count}
-use Rattle.edit_reader.specs.Readings.{Reading, Changes, Asks, Wants, Watches, Shows, Unwatches, Ticks, Opens, Closes, AsksIn}
+use Rattle.edit_reader.specs.Readings.{Reading, Changes, Asks, Wants, Watches, Shows, Unwatches, Ticks, Opens, Closes, AsksIn, Follows, Nears, Unfollows}
 use Rattle.edit_reader.specs.Commands.{command_word, command_at}
 use Rattle.edit_reader.specs.Labels.{listed, set_of}
 
@@ -51,6 +51,9 @@ form text Command.Tick [] = Some Ticks
 form text Command.Open (AWord name ∷ []) = Some (Opens name)
 form text Command.Close (AWord name ∷ []) = Some (Closes name)
 form text Command.In (AWord name ∷ AWord word ∷ _) = in_form name word (text 2)
+form text Command.Follow (AWord name ∷ _) = Some (Follows name (text 1))
+form text Command.Near (AWord name ∷ AWord id ∷ []) = Some (Nears name id)
+form text Command.Unfollow (AWord name ∷ []) = Some (Unfollows name)
 form text _ _ = None
 
 -- which tokens those are, without their places
@@ -75,6 +78,7 @@ before_query Command.Last parts = []
 before_query Command.Count parts = []
 before_query Command.Watch parts = take 1 parts
 before_query Command.In parts = take 2 parts
+before_query Command.Follow parts = take 1 parts
 before_query _ parts = parts
 
 -- the tokens of a line behind its command word, but without those of a query text

@@ -9,7 +9,8 @@ use Rattle.edit_reader.specs.declared.line.Wanted.TheVariants.{First, Last, Coun
 
 -- nothing, a change of the graph, the answer to a query text, or its first arrivals, last departures or counts, to watch a
 -- query text under a name, a watch's answer, to forget a watch, the changes of all watches, to pin the graph under a name, to
--- give up a pin, or the answer to a query text on a pin's graph
+-- give up a pin, the answer to a query text on a pin's graph, to follow a query text under a name, the rows of a follow from an
+-- object, or to forget a follow
 pub data Reading : Type 0 where
   Nothing : Reading
   Changes : Edit → Reading
@@ -22,6 +23,9 @@ pub data Reading : Type 0 where
   Opens : Word → Reading
   Closes : Word → Reading
   AsksIn : Word → List ℕ → Reading
+  Follows : Word → List ℕ → Reading
+  Nears : Word → Word → Reading
+  Unfollows : Word → Reading
 
 -- what a line of the code asks for
 abbrev pub reading_of : Line → Reading
@@ -38,6 +42,9 @@ reading_of Line.Tick = Ticks
 reading_of (Line.OpenPin name) = Opens name
 reading_of (Line.ClosePin name) = Closes name
 reading_of (Line.InPin name query) = AsksIn name query.now
+reading_of (Line.Follow name query) = Follows name query.now
+reading_of (Line.Near name id) = Nears name id
+reading_of (Line.Unfollow name) = Unfollows name
 
 -- the answer of the code as plain data: what the line asks for, or its fault
 abbrev pub told : Result Line TextCode → Result Reading TextCode

@@ -14,7 +14,7 @@ use Rattle.script_lex.specs.Lexemes.{Lexeme, AWord, ANumber, AQuote}
 use Rattle.script_lex.specs.Numbers.{digits_of, number_value}
 use Rattle.edit_reader.specs.declared.command.Command.{Command}
 use Rattle.edit_reader.specs.Commands.{command_word}
-use Rattle.edit_reader.specs.Readings.{Reading, Changes, Watches, Shows, Unwatches, Ticks, Opens, Closes, AsksIn}
+use Rattle.edit_reader.specs.Readings.{Reading, Changes, Watches, Shows, Unwatches, Ticks, Opens, Closes, AsksIn, Follows, Nears, Unfollows}
 
 -- what a line asks for, or its fault
 abbrev pub Told : Type 0
@@ -137,3 +137,12 @@ ask_then word go_on = if pointwise nat_eq (command_word Command.Ask) word then g
 
 abbrev pub in_told : List ℕ → List Lexeme → Told
 in_told text parts = word_then parts (λ word behind. word_then behind (λ command rest. ask_then command (name_then word (λ name. Ok (AsksIn name text)))))
+
+abbrev pub follow_told : List ℕ → List Lexeme → Told
+follow_told text parts = word_then parts (λ word rest. name_then word (λ name. Ok (Follows name text)))
+
+abbrev pub near_told : List Lexeme → Told
+near_told parts = word_then parts (λ follow behind. word_then behind (λ id rest. end_then rest (name_then follow (λ name. name_then id (λ object. Ok (Nears name object))))))
+
+abbrev pub unfollow_told : List Lexeme → Told
+unfollow_told parts = only_name_then parts (λ name. Ok (Unfollows name))

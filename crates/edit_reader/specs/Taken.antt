@@ -1,5 +1,5 @@
 -- Tokens taken from the front of what is left: no public clause names what stands here.
-use Rattle.std.specs.Prelude.{◌≡◌, ◌⊎◌, ℕ, ◌<◌, ◌≤◌, ℤ, List, [], ◌∷◌, length, Some, None, Result, MatchResult}
+use Rattle.std.specs.Prelude.{◌≡◌, ◌⊎◌, ℕ, ◌<◌, ◌≤◌, ℤ, List, [], ◌∷◌, length, Option, Some, None, Result, MatchResult}
 use Rattle.itpg_base.specs.Spans.{IsMoment}
 use Rattle.itpg_base.specs.Words.{Word}
 use Rattle.itpg_base.specs.declared.name.TheConstants.{MAX_NAME}
@@ -14,6 +14,14 @@ use Rattle.script_lex.specs.Numbers.{number_value}
 -- this holds of the tokens of the line from `at` on, where they end with the line
 abbrev pub OfRest : List ℕ → ℕ → (List Placed → Type 0) → Type 0
 OfRest line at P = (tokens : List Placed) → AreTokens line at tokens None → P tokens
+
+-- the tokens from this place on end as all tokens of the line do
+abbrev pub IsReached : List ℕ → ℕ → Type 0
+IsReached line at = (rest tokens : List Placed) (end stop : Option TextCode) → AreTokens line at rest end → AreTokens line 0 tokens stop → stop ≡ end
+
+-- the tokens of the line end with the line
+abbrev pub IsWhole : List ℕ → Type 0
+IsWhole line = (tokens : List Placed) (end : Option TextCode) → AreTokens line 0 tokens end → end ≡ None
 
 -- of these tokens of the line the first is this one, and the others are left in the line `left` from `at` on
 pub record IsTaken (line : List ℕ) (tokens : List Placed) (what : Lexeme) (left : List ℕ) (at : ℕ) : Type 0 where

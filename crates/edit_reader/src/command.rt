@@ -1,6 +1,6 @@
 //! The command words.
 ghost use Rattle.std.specs.Prelude.{◌≡◌};
-ghost use Rattle.edit_reader.specs.Commands.{command_word, command_of};
+ghost use Rattle.edit_reader.specs.Commands.{command_word, command_of, has_query};
 
 #[derive(Clone, Copy)]
 pub(crate) enum Command {
@@ -24,10 +24,13 @@ pub(crate) enum Command {
     Open,
     Close,
     In,
+    Follow,
+    Near,
+    Unfollow,
 }
 
 // The words that scripts have most of stand first.
-const COMMANDS: [Command; 20] = [
+const COMMANDS: [Command; 23] = [
     Command::Live,
     Command::Set,
     Command::Node,
@@ -39,10 +42,13 @@ const COMMANDS: [Command; 20] = [
     Command::Show,
     Command::Tick,
     Command::In,
+    Command::Near,
     Command::Watch,
     Command::Unwatch,
     Command::Open,
     Command::Close,
+    Command::Follow,
+    Command::Unfollow,
     Command::First,
     Command::Last,
     Command::Count,
@@ -59,6 +65,22 @@ impl Command {
             .iter()
             .copied()
             .find(|command| command.word() == word)
+    }
+
+    // Whether a query text stands behind the word.
+    pub(crate) fn has_query(self) -> bool
+        ensures { result ≡ has_query self }
+    {
+        matches!(
+            self,
+            Command::Ask
+                | Command::First
+                | Command::Last
+                | Command::Count
+                | Command::Watch
+                | Command::In
+                | Command::Follow
+        )
     }
 
     fn word(self) -> &'static [u8]
@@ -85,6 +107,9 @@ impl Command {
             Command::Open => b"open",
             Command::Close => b"close",
             Command::In => b"in",
+            Command::Follow => b"follow",
+            Command::Near => b"near",
+            Command::Unfollow => b"unfollow",
         }
     }
 }

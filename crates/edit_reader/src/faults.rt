@@ -11,8 +11,8 @@ ghost use Rattle.std.specs.List.{list_all};
 use itpg_base::TextCode;
 use script_lex::{MAX_TOKENS, next_token};
 
-// The line without its last byte where that is a CR.
-pub(crate) fn without_end(line: &[u8]) -> &[u8]
+/// The line without its last byte where that is a CR.
+pub fn without_end(line: &[u8]) -> &[u8]
     ensures line { result.now ≡ faults.without_end line.now }
     ensures shorter { length result.now ≤ length line.now }
 {

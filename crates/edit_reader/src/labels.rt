@@ -1,5 +1,5 @@
 //! Lists of labels: words parted by commas.
-ghost use Rattle.std.specs.Prelude.{◌≡◌, None, MatchOption, MatchResult};
+ghost use Rattle.std.specs.Prelude.{◌≡◌, None, IfOk, IfSome, MatchOption, MatchResult};
 ghost use Rattle.edit_reader.specs.Forms.{lexemes};
 ghost use Rattle.edit_reader.specs.Labels as labels;
 ghost use Rattle.edit_reader.specs.Taken.{OfRest, IsBehindComma, AreListed, NoneListed, AreLabels};
@@ -11,10 +11,11 @@ use script_lex::{Mark, What};
 impl<'a> Parts<'a> {
     // What stands behind the list of labels that comes first.
     pub(crate) fn behind_labels(self) -> Result<Parts<'a>, TextCode>
-        ensures { OfRest self.entry.line.now self.entry.at (λ tokens.
+        ensures taken { OfRest self.entry.line.now self.entry.at (λ tokens.
             MatchResult result
             (λ r. AreListed self.entry.line.now MAX_LABELS tokens r.line.now r.at)
             (λ code. NoneListed MAX_LABELS tokens code)) }
+        ensures line { IfOk result (λ r. r.line.now ≡ self.entry.line.now) }
     {
         let mut parts = self;
         for _ in 0..MAX_LABELS {
@@ -27,22 +28,8 @@ impl<'a> Parts<'a> {
         Err(TextCode::Text)
     }
 
-    // The labels of the list that comes first. Mostly it is one word, for which no array is made.
+    // The labels of the list that comes first.
     pub(crate) fn labels(self) -> Result<LabelSet, TextCode>
-        ensures { OfRest self.entry.line.now self.entry.at (λ tokens. AreLabels tokens result) }
-    {
-        let (word, rest) = self.word()?;
-        match rest.behind_comma() {
-            Some(_) => self.several_labels(),
-            None => {
-                let label = name(word)?;
-                Ok(LabelSet::one(label))
-            }
-        }
-    }
-
-    // The same, whatever the number of words.
-    fn several_labels(self) -> Result<LabelSet, TextCode>
         ensures { OfRest self.entry.line.now self.entry.at (λ tokens. AreLabels tokens result) }
     {
         let mut names = [Name::default(); MAX_LABELS];
@@ -59,10 +46,11 @@ impl<'a> Parts<'a> {
     }
 
     // What stands behind the comma that comes first, if one does.
-    fn behind_comma(self) -> Option<Parts<'a>>
-        ensures { OfRest self.entry.line.now self.entry.at (λ tokens.
+    pub(crate) fn behind_comma(self) -> Option<Parts<'a>>
+        ensures taken { OfRest self.entry.line.now self.entry.at (λ tokens.
             MatchOption result (labels.behind_comma (lexemes tokens) ≡ None)
             (λ r. IsBehindComma self.entry.line.now tokens r.line.now r.at)) }
+        ensures line { IfSome result (λ r. r.line.now ≡ self.entry.line.now) }
     {
         match self.token() {
             Some((What::Mark(Mark::Comma), rest)) => Some(rest),

@@ -8,6 +8,7 @@
 mod command;
 mod edits;
 mod faults;
+mod follows;
 mod labels;
 mod laws;
 mod line;
@@ -15,6 +16,7 @@ mod parts;
 mod pins;
 mod reading;
 
+pub use faults::without_end;
 pub use laws::{law_of_labels, law_of_lines, law_of_long_lines, law_of_moments};
 pub use line::{Line, Wanted};
-pub use reading::read_line;
+pub use reading::{MAX_LINE, read_line};

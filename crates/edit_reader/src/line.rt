@@ -10,6 +10,8 @@ use itpg_edit::Edit;
 ///     count MATCH (x:Person)           Count: " MATCH (x:Person)"
 ///     watch w MATCH (x:Person)         Watch w, " MATCH (x:Person)"
 ///     in s ask MATCH (x:Person)        InPin s, " MATCH (x:Person)"
+///     follow f MATCH (x:Person)        Follow f, " MATCH (x:Person)"
+///     near f a                         Near f, a
 /// ```
 #[derive(Clone, Copy)]
 pub enum Line<'a> {
@@ -39,6 +41,12 @@ pub enum Line<'a> {
     ClosePin(Name),
     /// The answer to a query text on the graph of the pin of this name: the bytes behind the word `ask`.
     InPin(Name, &'a [u8]),
+    /// To follow a query text under this name: the bytes behind the name, up to the end of the line.
+    Follow(Name, &'a [u8]),
+    /// The rows of the follow of the first name from the object of the second.
+    Near(Name, Name),
+    /// To forget the follow of this name.
+    Unfollow(Name),
 }
 
 /// What the lines `first`, `last` and `count` want of a query text.

@@ -3,7 +3,7 @@ ghost use Rattle.std.specs.Prelude.{◌≡◌, ◌≢◌, ◌≤◌, length, dro
 ghost use Rattle.script_lex.specs.Lexemes.{lexeme, AWord, ANumber, AQuote};
 ghost use Rattle.script_lex.specs.Numbers.{HasNumber, IsNumber};
 ghost use Rattle.edit_reader.specs.Forms.{lexemes};
-ghost use Rattle.edit_reader.specs.Taken.{OfRest, IsTaken, NoWord, NoNumber, NoQuoted, Writes, IsFar, Names, IsLong};
+ghost use Rattle.edit_reader.specs.Taken.{OfRest, IsReached, IsWhole, IsTaken, NoWord, NoNumber, NoQuoted, Writes, IsFar, Names, IsLong};
 ghost use Rattle.edit_reader.specs.Taken.{AreSpan, NoSpan, AreNameAndSpan, NoNameAndSpan, IsOnlyName, NoOnlyName};
 
 use itpg_base::{MAX_NAME, Name, TextCode};
@@ -15,6 +15,7 @@ pub(crate) struct Parts<'a> {
     line: &'a [u8],
     at: usize,
     ghost within: { at ≤ length line.now },
+    ghost reached: { IsReached line.now at },
 }
 
 impl<'a> Parts<'a> {
@@ -37,6 +38,7 @@ impl<'a> Parts<'a> {
         ensures token { OfRest self.entry.line.now self.entry.at (λ tokens.
             MatchOption result (tokens ≡ []) (λ r. IsTaken self.entry.line.now tokens (lexeme r.0) r.1.line.now r.1.at)) }
         ensures number { IfSome result (λ r. HasNumber (lexeme r.0)) }
+        ensures line { IfSome result (λ r. r.1.line.now ≡ self.entry.line.now) }
     {
         match next_token(self.line, self.at) {
             Ok(Some(token)) => Some((
@@ -53,10 +55,11 @@ impl<'a> Parts<'a> {
 
     // The word that comes first, and what stands behind it.
     pub(crate) fn word(self) -> Result<(&'a [u8], Parts<'a>), TextCode>
-        ensures { OfRest self.entry.line.now self.entry.at (λ tokens.
+        ensures taken { OfRest self.entry.line.now self.entry.at (λ tokens.
             MatchResult result
             (λ r. IsTaken self.entry.line.now tokens (AWord r.0.now) r.1.line.now r.1.at)
             (λ code. (code ≡ TextCode.Text) × NoWord (lexemes tokens))) }
+        ensures line { IfOk result (λ r. r.1.line.now ≡ self.entry.line.now) }
     {
         match self.token() {
             Some((What::Word(word), rest)) => Ok((word, rest)),
@@ -71,6 +74,7 @@ impl<'a> Parts<'a> {
             (λ r. IsTaken self.entry.line.now tokens (ANumber r.0.now) r.1.line.now r.1.at)
             (λ code. (code ≡ TextCode.Text) × NoNumber (lexemes tokens))) }
         ensures number { IfOk result (λ r. IsNumber r.0.now) }
+        ensures line { IfOk result (λ r. r.1.line.now ≡ self.entry.line.now) }
     {
         match self.token() {
             Some((What::Number(number), rest)) => Ok((number, rest)),
@@ -80,10 +84,11 @@ impl<'a> Parts<'a> {
 
     // The quoted text that comes first, and what stands behind it.
     pub(crate) fn quoted(self) -> Result<(&'a [u8], Parts<'a>), TextCode>
-        ensures { OfRest self.entry.line.now self.entry.at (λ tokens.
+        ensures taken { OfRest self.entry.line.now self.entry.at (λ tokens.
             MatchResult result
             (λ r. IsTaken self.entry.line.now tokens (AQuote r.0.now) r.1.line.now r.1.at)
             (λ code. (code ≡ TextCode.Text) × NoQuoted (lexemes tokens))) }
+        ensures line { IfOk result (λ r. r.1.line.now ≡ self.entry.line.now) }
     {
         match self.token() {
             Some((What::Quoted(text), rest)) => Ok((text, rest)),
@@ -93,20 +98,23 @@ impl<'a> Parts<'a> {
 
     // That nothing but blanks stands here.
     pub(crate) fn end(self) -> Result<(), TextCode>
-        ensures { OfRest self.entry.line.now self.entry.at (λ tokens.
+        ensures taken { OfRest self.entry.line.now self.entry.at (λ tokens.
             MatchResult result (λ _. tokens ≡ []) (λ code. (code ≡ TextCode.Text) × (tokens ≢ []))) }
+        ensures whole { IfOk result (λ _. IsWhole self.entry.line.now) }
     {
-        match self.token() {
-            Some(_) => Err(TextCode::Text),
-            None => Ok(()),
+        match next_token(self.line, self.at) {
+            Ok(None) => Ok(()),
+            Ok(Some(_)) => Err(TextCode::Text),
+            Err(_) => Err(TextCode::Text),
         }
     }
 
     // Two numbers, and nothing behind them.
     pub(crate) fn span(self) -> Result<(i64, i64), TextCode>
-        ensures { OfRest self.entry.line.now self.entry.at (λ tokens.
+        ensures taken { OfRest self.entry.line.now self.entry.at (λ tokens.
             MatchResult result (λ r. AreSpan (lexemes tokens) r.0 r.1)
             (λ code. NoSpan (lexemes tokens) code)) }
+        ensures whole { IfOk result (λ _. IsWhole self.entry.line.now) }
     {
         let (from, rest) = self.number()?;
         let (to, rest) = rest.number()?;
@@ -116,9 +124,10 @@ impl<'a> Parts<'a> {
 
     // A name and two numbers, and nothing behind them.
     pub(crate) fn name_and_span(self) -> Result<(Name, i64, i64), TextCode>
-        ensures { OfRest self.entry.line.now self.entry.at (λ tokens.
+        ensures taken { OfRest self.entry.line.now self.entry.at (λ tokens.
             MatchResult result (λ r. AreNameAndSpan (lexemes tokens) r.0 r.1 r.2)
             (λ code. NoNameAndSpan (lexemes tokens) code)) }
+        ensures whole { IfOk result (λ _. IsWhole self.entry.line.now) }
     {
         let (word, rest) = self.word()?;
         let (from, to) = rest.span()?;
@@ -127,9 +136,10 @@ impl<'a> Parts<'a> {
 
     // A name, and nothing behind it.
     pub(crate) fn only_name(self) -> Result<Name, TextCode>
-        ensures { OfRest self.entry.line.now self.entry.at (λ tokens.
+        ensures taken { OfRest self.entry.line.now self.entry.at (λ tokens.
             MatchResult result (λ name. IsOnlyName (lexemes tokens) name)
             (λ code. NoOnlyName (lexemes tokens) code)) }
+        ensures whole { IfOk result (λ _. IsWhole self.entry.line.now) }
     {
         let (word, rest) = self.word()?;
         rest.end()?;

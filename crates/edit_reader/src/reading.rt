@@ -1,22 +1,29 @@
 //! Reading a line.
-ghost use Rattle.std.specs.Prelude.{◌≡◌, ℕ, List, None, Result, IfOk, drop, slice_get};
+//!
+//! What leads to a form is inlined, and the forms are not, so that each writes the line, a large value, straight to where the
+//! caller wants it.
+ghost use Rattle.std.specs.Prelude.{◌≡◌, ℕ, List, Option, Result, Err, IfOk, IsFalse, length, drop, slice_get};
 ghost use Rattle.itpg_base.specs.declared.text_code.TextCode.{TextCode};
 ghost use Rattle.edit_reader.specs.Readings.{Reading, reading_of, told};
-ghost use Rattle.edit_reader.specs.Forms.{form, form_of, lexemes, before_query, parts_of, bytes_behind};
+ghost use Rattle.edit_reader.specs.Forms.{form, lexemes, before_query, bytes_behind};
+ghost use Rattle.edit_reader.specs.Commands.{has_query};
+ghost use Rattle.script_lex.specs.Lines.{Placed, AreTokens};
 ghost use Rattle.edit_reader.specs.Lines.{LineOf};
 ghost use Rattle.edit_reader.specs.Moments.{AsksOfMoments};
 ghost use Rattle.edit_reader.specs.Steps.{show_told, unwatch_told, tick_told, watch_told};
-ghost use Rattle.edit_reader.specs.Telling.{form_told};
+ghost use Rattle.edit_reader.specs.Telling.{form_told, tokens_told, line_told};
 ghost use Rattle.edit_reader.specs.Answers.{Tells};
-ghost use Rattle.edit_reader.specs.Taken.{OfRest};
+ghost use Rattle.edit_reader.specs.Taken.{OfRest, IsWhole};
 
 use crate::command::Command;
 use crate::edits::{begin, clear, edge, extend, gone, live, node, put, remove};
 use crate::faults::{check_tokens, is_silent, without_end};
+use crate::follows::{follow, near, unfollow};
 use crate::line::Line;
 use crate::parts::{Parts, name};
 use crate::pins::{ask_in, close, open};
 use itpg_base::TextCode;
+use script_lex::MAX_TOKENS;
 
 /// How many bytes a line may have, without one last CR.
 pub const MAX_LINE: usize = 65_536;
@@ -29,6 +36,7 @@ pub const MAX_LINE: usize = 65_536;
 ///     set a p 'in use' 0 9   Edit: Put { id: a, prop: p, value: in use, from: 0, to: 9 }
 ///     watch w (x:Person)     Watch w, " (x:Person)"
 ///     in s ask (x:Person)    InPin s, " (x:Person)"
+///     near f a               Near f, a
 ///     live a 0 - 9           fault Byte: the `-` stands directly before no digit
 ///     show                   fault Text
 /// ```
@@ -47,6 +55,7 @@ pub const MAX_LINE: usize = 65_536;
 ///
 /// A blank line or a comment has no fault but `Long`, and the bytes of a query text are looked at only as tokens: its
 /// numbers and words may have any size.
+#[inline(always)]
 pub fn read_line(line: &[u8]) -> Result<Line<'_>, TextCode>
     ensures line { LineOf line.now (told result) }
     ensures only { (other : Result Reading TextCode) → LineOf line.now other → other ≡ told result }
@@ -59,30 +68,55 @@ pub fn read_line(line: &[u8]) -> Result<Line<'_>, TextCode>
     if is_silent(line) {
         return Ok(Line::Blank);
     }
-    check_tokens(line)?;
     read_form(line)
 }
 
-// What a line of good tokens asks for, where they are one of the forms.
+// What a line that is neither blank nor a comment asks for, or its first fault.
+//
+// Where a form without a query text is there, all tokens have been read, and each is good.
+#[inline(always)]
 fn read_form(line: &[u8]) -> Result<Line<'_>, TextCode>
-    ensures { OfRest line.now 0 (λ tokens.
-        told result ≡ form_told (form_of line.now tokens) (parts_of tokens)) }
+    ensures { (tokens : List Placed) (end : Option TextCode) → AreTokens line.now 0 tokens end →
+        told result ≡ line_told line.now tokens end }
 {
-    let (word, parts) = Parts::new(line).word()?;
-    let Some(command) = Command::of(word) else {
-        return Err(TextCode::Text);
+    let Ok((word, parts)) = Parts::new(line).word() else {
+        return Err(no_form(line));
     };
-    read_command(command, parts)
+    let Some(command) = Command::of(word) else {
+        return Err(no_form(line));
+    };
+    if command.has_query() || line.len() > MAX_TOKENS {
+        check_tokens(line)?;
+        return read_command(command, parts);
+    }
+    let read = read_command(command, parts);
+    if read.is_err() {
+        check_tokens(line)?;
+    }
+    read
+}
+
+// The first fault of a line whose tokens are no form.
+fn no_form(line: &[u8]) -> TextCode
+    ensures { (tokens : List Placed) (end : Option TextCode) → AreTokens line.now 0 tokens end →
+        Err result ≡ tokens_told end (length tokens) (Err TextCode.Text) }
+{
+    match check_tokens(line) {
+        Ok(()) => TextCode::Text,
+        Err(code) => code,
+    }
 }
 
 // What a line with this command word asks for, where what stands behind the word is a form.
+#[inline(always)]
 fn read_command(command: Command, parts: Parts<'_>) -> Result<Line<'_>, TextCode>
-    ensures { OfRest parts.entry.line.now parts.entry.at (λ tokens. (text : ℕ → List ℕ) →
+    ensures told { OfRest parts.entry.line.now parts.entry.at (λ tokens. (text : ℕ → List ℕ) →
         text 0 ≡ drop parts.entry.at parts.entry.line.now →
         text 1 ≡ bytes_behind parts.entry.line.now (slice_get tokens 0) →
         text 2 ≡ bytes_behind parts.entry.line.now (slice_get tokens 1) →
         told result ≡ form_told (form text command (lexemes tokens))
         (before_query command (lexemes tokens))) }
+    ensures whole { IsFalse (has_query command) → IfOk result (λ _. IsWhole parts.entry.line.now) }
 {
     match command {
         Command::Graph => begin(parts),
@@ -105,10 +139,14 @@ fn read_command(command: Command, parts: Parts<'_>) -> Result<Line<'_>, TextCode
         Command::Open => open(parts),
         Command::Close => close(parts),
         Command::In => ask_in(parts),
+        Command::Follow => follow(parts),
+        Command::Near => near(parts),
+        Command::Unfollow => unfollow(parts),
     }
 }
 
 // `NAME QUERY`
+#[inline(never)]
 fn watch(parts: Parts<'_>) -> Result<Line<'_>, TextCode>
     ensures { OfRest parts.entry.line.now parts.entry.at (λ tokens. told result
         ≡ watch_told (bytes_behind parts.entry.line.now (slice_get tokens 0)) (lexemes tokens)) }
@@ -118,22 +156,28 @@ fn watch(parts: Parts<'_>) -> Result<Line<'_>, TextCode>
 }
 
 // `NAME`
+#[inline(never)]
 fn show(parts: Parts<'_>) -> Result<Line<'_>, TextCode>
-    ensures { Tells parts.entry.line.now parts.entry.at show_told result }
+    ensures told { Tells parts.entry.line.now parts.entry.at show_told result }
+    ensures whole { IfOk result (λ _. IsWhole parts.entry.line.now) }
 {
     Ok(Line::Show(parts.only_name()?))
 }
 
 // `NAME`
+#[inline(never)]
 fn unwatch(parts: Parts<'_>) -> Result<Line<'_>, TextCode>
-    ensures { Tells parts.entry.line.now parts.entry.at unwatch_told result }
+    ensures told { Tells parts.entry.line.now parts.entry.at unwatch_told result }
+    ensures whole { IfOk result (λ _. IsWhole parts.entry.line.now) }
 {
     Ok(Line::Unwatch(parts.only_name()?))
 }
 
 // nothing
+#[inline(never)]
 fn tick(parts: Parts<'_>) -> Result<Line<'_>, TextCode>
-    ensures { Tells parts.entry.line.now parts.entry.at tick_told result }
+    ensures told { Tells parts.entry.line.now parts.entry.at tick_told result }
+    ensures whole { IfOk result (λ _. IsWhole parts.entry.line.now) }
 {
     parts.end()?;
     Ok(Line::Tick)

@@ -9,7 +9,8 @@ written COUNT times, or `byte COUNT NUMBER`, this byte COUNT times.
     unwatch NAME                   live ID FROM TO                    clear ID PROP FROM TO
     tick                           gone ID FROM TO                    remove ID
     extend LO HI                   open NAME                          in NAME FROM TO
-    close NAME
+    unfollow NAME                  close NAME                         follow NAME FROM TO
+    near NAME ID
 
 The labels stand by rising name, each once, with commas between them. The two numbers of a query text are its first byte's place in the line and the place behind its last.
 
@@ -39,6 +40,8 @@ FORMS = {
     b"tick": ("", "tick"),
     b"open": ("w", "open {}"),
     b"close": ("w", "close {}"),
+    b"near": ("ww", "near {} {}"),
+    b"unfollow": ("w", "unfollow {}"),
 }
 
 
@@ -77,12 +80,12 @@ def reading_of(line):
     command, parts = tokens[0][1], tokens[1:]
     if command in (b"ask", b"first", b"last", b"count"):
         return f"{command.decode()} {tokens[0][2]} {len(line)}"
-    if command == b"watch":
+    if command in (b"watch", b"follow"):
         if not parts or parts[0][0] != "w":
             return "fault text"
         if len(parts[0][1]) > 64:
             return "fault name"
-        return f"watch {parts[0][1].decode()} {parts[0][2]} {len(line)}"
+        return f"{command.decode()} {parts[0][1].decode()} {parts[0][2]} {len(line)}"
     if command == b"in":
         if len(parts) < 2 or parts[0][0] != "w" or parts[1][:2] != ("w", b"ask"):
             return "fault text"
@@ -120,7 +123,7 @@ by_hand = [
     ([(1, " "), (1, "\t"), (1, "# live"), (1, "\x00"), (1, "'"), (1, "\xff")], "blank"),
     ([(1, "# two"), (2, "\r")], "blank"),
     ([(1, "tick # x")], "fault byte"),
-    # the twenty forms
+    # the twenty-three forms
     ([(1, "graph g -5 100")], "begin g -5 100"),
     ([(1, "extend -5 100")], "extend -5 100"),
     ([(1, "node a Person")], "node a Person"),
@@ -141,6 +144,9 @@ by_hand = [
     ([(1, "open s")], "open s"),
     ([(1, "close s")], "close s"),
     ([(1, "in s ask MATCH (x:Person)")], "in s 8 25"),
+    ([(1, "follow f MATCH (x:Person)")], "follow f 8 25"),
+    ([(1, "near f a")], "near f a"),
+    ([(1, "unfollow f")], "unfollow f"),
     # each with a CR, and with blanks round its tokens
     ([(1, "graph g 0 1"), (1, "\r")], "begin g 0 1"),
     ([(1, "extend 0 1"), (1, "\r")], "extend 0 1"),
@@ -154,6 +160,11 @@ by_hand = [
     ([(1, "close s"), (1, "\r")], "close s"),
     ([(1, "in s ask x"), (1, "\r")], "in s 8 10"),
     ([(1, "in s ask"), (1, "\r")], "in s 8 8"),
+    ([(1, "follow f x"), (1, "\r")], "follow f 8 10"),
+    ([(1, "follow f"), (1, "\r")], "follow f 8 8"),
+    ([(1, "near f a"), (1, "\r")], "near f a"),
+    ([(1, "near f a"), (2, "\r")], "fault byte"),
+    ([(1, "unfollow f"), (1, "\r")], "unfollow f"),
     ([(1, "tick"), (2, "\r")], "fault byte"),
     ([(1, "ask x"), (2, "\r")], "fault byte"),
     ([(1, "tick"), (1, "\r"), (1, "x")], "fault byte"),
@@ -161,6 +172,8 @@ by_hand = [
     ([(2, " "), (1, "ask"), (2, " "), (1, "x"), (2, "\t")], "ask 5 10"),
     ([(1, "\t"), (1, "watch  w"), (3, " ")], "watch w 9 12"),
     ([(1, "\t"), (1, "in  s"), (2, "\t"), (1, "ask"), (3, " ")], "in s 11 14"),
+    ([(2, "\t"), (1, "follow   f"), (2, " ")], "follow f 12 14"),
+    ([(1, " "), (1, "near"), (2, "\t"), (1, "f  a"), (1, "\t")], "near f a"),
     # tokens that need no blank between them
     ([(1, "set a p'v'0 9")], "put a p 'v' 0 9"),
     ([(1, "set a p'v'-1-2")], "put a p 'v' -1 -2"),
@@ -182,6 +195,14 @@ by_hand = [
     ([(1, "in s ask'x'")], "in s 8 11"),
     ([(1, "in s ask7")], "fault text"),
     ([(1, "ins ask x")], "fault text"),
+    ([(1, "follow f")], "follow f 8 8"),
+    ([(1, "follow f"), (1, " ")], "follow f 8 9"),
+    ([(1, "follow f(x)")], "follow f 8 11"),
+    ([(1, "follow f'x'")], "follow f 8 11"),
+    ([(1, "follow f-7")], "follow f 8 10"),
+    ([(1, "followf x")], "fault text"),
+    ([(1, "near f7")], "fault text"),
+    ([(1, "nearf a")], "fault text"),
     # command words as names, and words that are nearly commands
     ([(1, "live live 0 9")], "live live 0 9"),
     ([(1, "node node edge")], "node node edge"),
@@ -200,6 +221,13 @@ by_hand = [
     ([(1, "in ask ask ask ask")], "in ask 10 18"),
     ([(1, "node open close")], "node open close"),
     ([(1, "watch in ask x")], "watch in 8 14"),
+    ([(1, "follow follow follow")], "follow follow 13 20"),
+    ([(1, "follow near a")], "follow near 11 13"),
+    ([(1, "near near near")], "near near near"),
+    ([(1, "near follow unfollow")], "near follow unfollow"),
+    ([(1, "unfollow near")], "unfollow near"),
+    ([(1, "node follow unfollow")], "node follow unfollow"),
+    ([(1, "in follow ask near")], "in follow 13 18"),
     ([(1, "Tick")], "fault text"),
     ([(1, "TICK")], "fault text"),
     ([(1, "ticks")], "fault text"),
@@ -220,6 +248,15 @@ by_hand = [
     ([(1, "in s Ask x")], "fault text"),
     ([(1, "in s asks x")], "fault text"),
     ([(1, "in s as x")], "fault text"),
+    ([(1, "Follow f x")], "fault text"),
+    ([(1, "follows f x")], "fault text"),
+    ([(1, "follo f x")], "fault text"),
+    ([(1, "Near f a")], "fault text"),
+    ([(1, "nears f a")], "fault text"),
+    ([(1, "nea f a")], "fault text"),
+    ([(1, "unfollows f")], "fault text"),
+    ([(1, "unfollo f")], "fault text"),
+    ([(1, "un follow f")], "fault text"),
     ([(1, "foo")], "fault text"),
     ([(1, "7")], "fault text"),
     ([(1, "'tick'")], "fault text"),
@@ -322,6 +359,27 @@ by_hand = [
     ([(1, "in s count x")], "fault text"),
     ([(1, "in s show w")], "fault text"),
     ([(1, "in s tick")], "fault text"),
+    ([(1, "follow")], "fault text"),
+    ([(1, "follow 'f' x")], "fault text"),
+    ([(1, "follow 7 x")], "fault text"),
+    ([(1, "follow(f)")], "fault text"),
+    ([(1, "near")], "fault text"),
+    ([(1, "near f")], "fault text"),
+    ([(1, "near f a b")], "fault text"),
+    ([(1, "near f a,")], "fault text"),
+    ([(1, "near f, a")], "fault text"),
+    ([(1, "near f a 7")], "fault text"),
+    ([(1, "near f 7")], "fault text"),
+    ([(1, "near 7 a")], "fault text"),
+    ([(1, "near f 'a'")], "fault text"),
+    ([(1, "near 'f' a")], "fault text"),
+    ([(1, "near f (a)")], "fault text"),
+    ([(1, "near f a MATCH (x)")], "fault text"),
+    ([(1, "unfollow")], "fault text"),
+    ([(1, "unfollow a b")], "fault text"),
+    ([(1, "unfollow 7")], "fault text"),
+    ([(1, "in s near f a")], "fault text"),
+    ([(1, "in s follow f x")], "fault text"),
     ([(1, "tick 1")], "fault text"),
     ([(1, "tick tick")], "fault text"),
     # bad bytes and open quotes
@@ -350,6 +408,12 @@ by_hand = [
     ([(1, "in s ask x 'open")], "fault text"),
     ([(1, "in 's ask x")], "fault text"),
     ([(1, "in s-t ask x")], "fault byte"),
+    ([(1, "follow f a-b")], "fault byte"),
+    ([(1, "follow f 'open")], "fault text"),
+    ([(1, "follow 'f x")], "fault text"),
+    ([(1, "near f a;")], "fault byte"),
+    ([(1, "near f-a b")], "fault byte"),
+    ([(1, "near f 'a")], "fault text"),
     ([(1, "set a p 'v 0 9")], "fault text"),
     ([(1, "set a p '' 0 9")], "put a p '' 0 9"),
     ([(1, "set a p 'in use # (~' 0 9")], "put a p 'in use # (~' 0 9"),
@@ -413,13 +477,25 @@ by_hand = [
     ([(1, f"in {A64} ask x")], f"in {A64} 71 73"),
     ([(1, f"in {A65} ask x")], "fault name"),
     ([(1, f"in {A65} ask")], "fault name"),
+    ([(1, f"follow {A64} x")], f"follow {A64} 71 73"),
+    ([(1, f"follow {A65} x")], "fault name"),
+    ([(1, f"follow {A65}")], "fault name"),
+    ([(1, f"near {A64} a")], f"near {A64} a"),
+    ([(1, f"near f {A64}")], f"near f {A64}"),
+    ([(1, f"near {A65} a")], "fault name"),
+    ([(1, f"near f {A65}")], "fault name"),
+    ([(1, f"near {A65} {A65}")], "fault name"),
+    ([(1, f"unfollow {A64}")], f"unfollow {A64}"),
+    ([(1, f"unfollow {A65}")], "fault name"),
     ([(1, "show "), (60000, "a")], "fault name"),
     # what a query text may have
     ([(1, f"ask {A65} '{A65}' {MOST + 1}")], f"ask 3 {3 + 66 + 68 + 14}"),
     ([(1, f"watch w {A65} {MOST + 1}")], f"watch w 7 {7 + 66 + 14}"),
     ([(1, f"in s ask {A65} '{A65}' {MOST + 1}")], f"in s 8 {8 + 66 + 68 + 14}"),
+    ([(1, f"follow f {A65} '{A65}' {MOST + 1}")], f"follow f 8 {8 + 66 + 68 + 14}"),
     ([(1, "ask )]} ((")], "ask 3 10"),
     ([(1, "in s ask )]} ((")], "in s 8 15"),
+    ([(1, "follow f )]} ((")], "follow f 8 15"),
     # how many tokens
     ([(1, "ask"), (4095, "(")], "ask 3 4098"),
     ([(1, "ask"), (4096, "(")], "fault tokens"),
@@ -427,6 +503,8 @@ by_hand = [
     ([(1, "watch w"), (4095, "(")], "fault tokens"),
     ([(1, "in s ask"), (4093, "(")], "in s 8 4101"),
     ([(1, "in s ask"), (4094, "(")], "fault tokens"),
+    ([(1, "follow f"), (4094, "(")], "follow f 8 4102"),
+    ([(1, "follow f"), (4095, "(")], "fault tokens"),
     ([(1, "ask"), (4095, "(-")], "fault byte"),
     ([(1, "ask "), (16000, "a-/")], "fault tokens"),
     ([(1, "ask "), (65000, "a")], "ask 3 65004"),
@@ -452,6 +530,11 @@ by_hand = [
     ([(1, "in s ask "), (65527, "a")], "in s 8 65536"),
     ([(1, "in s ask "), (65527, "a"), (1, "\r")], "in s 8 65536"),
     ([(1, "in s ask "), (65528, "a")], "fault long"),
+    ([(1, "follow f "), (65527, "a")], "follow f 8 65536"),
+    ([(1, "follow f "), (65527, "a"), (1, "\r")], "follow f 8 65536"),
+    ([(1, "follow f "), (65528, "a")], "fault long"),
+    ([(1, "near f a"), (65528, " ")], "near f a"),
+    ([(1, "near f a"), (65529, " ")], "fault long"),
     ([(70000, "x")], "fault long"),
     # lines of whole scripts
     ([(1, "# contacts"), (1, "\r")], "blank"),
@@ -492,6 +575,14 @@ by_hand = [
     ([(1, f"in {A65} ask {MOST + 1}")], "fault name"),
     ([(1, f"in {A65} ask 'open")], "fault text"),
     ([(1, f"in s {A65} x")], "fault text"),
+    ([(1, f"follow {A65} 'open")], "fault text"),
+    ([(1, f"follow {A65} {MOST + 1}")], "fault name"),
+    ([(1, f"follow {A65} a-b")], "fault byte"),
+    ([(1, f"near {A65}")], "fault text"),
+    ([(1, f"near {A65} a b")], "fault text"),
+    ([(1, f"near f a {A65}")], "fault text"),
+    ([(1, f"near {A65} {MOST + 1}")], "fault text"),
+    ([(1, f"unfollow {A65} x")], "fault text"),
     ([(1, f"live {A65} 0 {MOST + 1}")], "fault number"),
     ([(1, f"set a p '{A65}' {MOST + 1} 0")], "fault number"),
     ([(1, f"graph {A65} -{MOST + 1} 0")], "fault number"),
@@ -509,7 +600,7 @@ def made_up(rng):
     command = rng.choice(sorted(FORMS)).decode()
     parts = [kinds[kind]() for kind in FORMS[command.encode()][0]]
     if rng.random() < 0.25:
-        command, parts = rng.choice(["ask", "watch", "watch w", "graph g", "in", "in s", "in s ask"]), [rng.choice([word, number, quoted, other])() for _ in range(rng.randint(0, 5))]
+        command, parts = rng.choice(["ask", "watch", "watch w", "graph g", "in", "in s", "in s ask", "follow", "follow f"]), [rng.choice([word, number, quoted, other])() for _ in range(rng.randint(0, 5))]
     for _ in range(rng.choice([0, 0, 0, 1, 1, 2])):
         at = rng.randint(0, len(parts))
         change = rng.randint(0, 2)

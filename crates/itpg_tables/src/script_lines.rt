@@ -88,6 +88,12 @@ fn describe(alloc: Global, line: &[u8]) -> Result<String> {
             let (from, to) = places(line, query)?;
             Ok(format!(in alloc; "in {} {from} {to}", word(name)?)?)
         }
+        Ok(Line::Follow(name, query)) => {
+            let (from, to) = places(line, query)?;
+            Ok(format!(in alloc; "follow {} {from} {to}", word(name)?)?)
+        }
+        Ok(Line::Near(name, id)) => Ok(format!(in alloc; "near {} {}", word(name)?, word(id)?)?),
+        Ok(Line::Unfollow(name)) => Ok(format!(in alloc; "unfollow {}", word(name)?)?),
         Err(code) => Ok(format!(in alloc; "fault {}", code.word())?),
     }
 }

@@ -6,13 +6,13 @@ use Rattle.edit_reader.specs.Forms.{lexemes}
 use Rattle.edit_reader.proofs.PartSteps.{goes_on_name_and_span, stops_at_name_and_span}
 use Rattle.edit_reader.proofs.edits.gone.Goals as goal
 
-pub returns-in_err-id : goal.returns-in_err-id
-returns-in_err-id c = λ tokens are.
+pub returns-in_err-id-clause-told : goal.returns-in_err-id-clause-told
+returns-in_err-id-clause-told c = λ tokens are.
     let p = err_from_is_err_and c.from_residual.result c.from_residual.ensures.1 in
-    rw (p.1, p.2) (sym (stops_at_name_and_span (lexemes tokens) (c.in_err-id.ensures tokens are) (λ name from to. Ok (Changes (Edit.Gone name from to)))))
+    rw (p.1, p.2) (sym (stops_at_name_and_span (lexemes tokens) (c.in_err-id.ensures.taken tokens are) (λ name from to. Ok (Changes (Edit.Gone name from to)))))
 
-pub returns : goal.returns
-returns c = λ tokens are.
+pub returns-clause-told : goal.returns-clause-told
+returns-clause-told c = λ tokens are.
     let from : SFits w64 c.in_ok-id.from = search rules in
     let to : SFits w64 c.in_ok-id.to = search rules in
-    simp to_z-of_z (sym (goes_on_name_and_span (lexemes tokens) (c.in_ok-id.ensures tokens are) (λ name from to. Ok (Changes (Edit.Gone name from to)))))
+    simp to_z-of_z (sym (goes_on_name_and_span (lexemes tokens) (c.in_ok-id.ensures.taken tokens are) (λ name from to. Ok (Changes (Edit.Gone name from to)))))

@@ -1,49 +1,13 @@
-use Rattle.std.proofs.Common.{Ok, Err, sym, ◌∙◌, ap}
+use Rattle.std.proofs.Common.{sym}
 use Rattle.std.proofs.lemmas.Result.{err_from_is_err_and}
-use Rattle.itpg_base.specs.Words.{Word}
-use Rattle.itpg_edit.specs.declared.edit.Edit.{Edit}
-use Rattle.edit_reader.specs.Forms.{lexemes}
-use Rattle.edit_reader.specs.Labels.{Listed, set_of}
-use Rattle.edit_reader.specs.Readings.{Changes}
-use Rattle.edit_reader.specs.Steps.{Told, names_then}
-use Rattle.edit_reader.proofs.FormSteps.{node_stops_at_list, node_stops_at_end, node_steps}
-use Rattle.edit_reader.proofs.LabelLists.{names_short, names_long}
-use Rattle.edit_reader.proofs.PartFaults.{named, overlong}
+use Rattle.edit_reader.proofs.FormSteps.{node_stops_at_end}
+use Rattle.edit_reader.proofs.LabelLists.{one_listed}
 use Rattle.edit_reader.proofs.edits.node.Goals as goal
 
-pub returns-in_err-rest : goal.returns-in_err-rest
-returns-in_err-rest c = λ tokens are.
-    let p = err_from_is_err_and c.from_residual-in_err-rest.result c.from_residual-in_err-rest.ensures.1 in
-    let t = c.in_ok-id.ensures tokens are in
-    rw (p.1, p.2) (sym (node_stops_at_list t (c.in_err-rest.ensures t.rest t.behind)))
-
-pub returns-in_err-end : goal.returns-in_err-end
-returns-in_err-end c = λ tokens are.
-    let p = err_from_is_err_and c.from_residual-in_err-end.result c.from_residual-in_err-end.ensures.1 in
-    let t = c.in_ok-id.ensures tokens are in
-    let a = c.in_ok-rest.ensures t.rest t.behind in
-    rw (p.1, p.2) (sym (node_stops_at_end t a (c.in_err-end.ensures a.rest a.behind)))
-
-pub returns-in_err-id-2 : goal.returns-in_err-id-2
-returns-in_err-id-2 c = λ tokens are.
-    let p = err_from_is_err_and c.from_residual-in_err-id-2.result c.from_residual-in_err-id-2.ensures.1 in
-    let t = c.in_ok-id.ensures tokens are in
-    let a = c.in_ok-rest.ensures t.rest t.behind in
-    rw (p.1, p.2) (sym (node_steps t a (c.in_ok-end.ensures a.rest a.behind) ∙ overlong _ c.in_err-id-2.ensures.long (λ (x : Word). names_then a.words (Ok (Changes (Edit.AddNode x (set_of a.words)))))))
-
-pub returns-in_err-labels : goal.returns-in_err-labels
-returns-in_err-labels c = λ tokens are.
-    let p = err_from_is_err_and c.from_residual-in_err-labels.result c.from_residual-in_err-labels.ensures.1 in
-    let t = c.in_ok-id.ensures tokens are in
-    let a = c.in_ok-rest.ensures t.rest t.behind in
-    let l : Listed = record { words = a.words; rest = lexemes a.rest } in
-    let s = c.in_err-labels.ensures t.rest t.behind l a.are in
-    rw (p.1, p.2) (sym (node_steps t a (c.in_ok-end.ensures a.rest a.behind) ∙ named c.in_ok-id-2.ensures.name (λ (x : Word). names_then a.words (Ok (Changes (Edit.AddNode x (set_of a.words))))) ∙ names_long a.words (let go : Told = Ok (Changes (Edit.AddNode c.in_ok-id-2.id (set_of a.words))) in go) s.1 ∙ ap Err (sym s.0)))
-
-pub returns : goal.returns
-returns c = λ tokens are.
-    let t = c.in_ok-id.ensures tokens are in
-    let a = c.in_ok-rest.ensures t.rest t.behind in
-    let l : Listed = record { words = a.words; rest = lexemes a.rest } in
-    let s = c.in_ok-labels.ensures t.rest t.behind l a.are in
-    sym (node_steps t a (c.in_ok-end.ensures a.rest a.behind) ∙ named c.in_ok-id-2.ensures.name (λ (x : Word). names_then a.words (Ok (Changes (Edit.AddNode x (set_of a.words))))) ∙ names_short a.words (let go : Told = Ok (Changes (Edit.AddNode c.in_ok-id-2.id (set_of a.words))) in go) s.0 ∙ ap (λ labels. Ok (Changes (Edit.AddNode c.in_ok-id-2.id labels))) (sym s.1))
+pub returns-in_err-end-in-None-clause-told : goal.returns-in_err-end-in-None-clause-told
+returns-in_err-end-in-None-clause-told c = λ tokens are.
+    let p = err_from_is_err_and c.from_residual-in_err-end-in-None.result c.from_residual-in_err-end-in-None.ensures.1 in
+    let t = c.in_ok-id.ensures.taken tokens are in
+    let u = c.in_ok-label.ensures.taken t.rest t.behind in
+    let a = one_listed u (c.in-None.ensures.taken u.rest u.behind) in
+    rw (p.1, p.2) (sym (node_stops_at_end t a (c.in_err-end-in-None.ensures.taken a.rest a.behind)))

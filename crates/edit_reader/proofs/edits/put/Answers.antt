@@ -11,43 +11,43 @@ use Rattle.edit_reader.specs.Forms.{lexemes}
 use Rattle.edit_reader.proofs.PartFaults.{named, overlong}
 use Rattle.edit_reader.proofs.edits.put.Goals as goal
 
-pub returns-in_err-from : goal.returns-in_err-from
-returns-in_err-from c = λ tokens are.
+pub returns-in_err-from-clause-told : goal.returns-in_err-from-clause-told
+returns-in_err-from-clause-told c = λ tokens are.
     let p = err_from_is_err_and c.from_residual-in_err-from.result c.from_residual-in_err-from.ensures.1 in
-    let t = c.in_ok-id.ensures tokens are in
-    let u = c.in_ok-prop.ensures t.rest t.behind in
-    let v = c.in_ok-value.ensures u.rest u.behind in
-    rw (p.1, p.2) (sym (word_step t _ ∙ word_step u _ ∙ quoted_step v _ ∙ stops_at_span (lexemes v.rest) (c.in_err-from.ensures v.rest v.behind) (λ from to. name_then c.in_ok-id.id.now (λ a. name_then c.in_ok-prop.prop.now (λ b. name_then c.in_ok-value.value.now (λ v. Ok (Changes (Edit.Put a b v from to))))))))
+    let t = c.in_ok-id.ensures.taken tokens are in
+    let u = c.in_ok-prop.ensures.taken t.rest t.behind in
+    let v = c.in_ok-value.ensures.taken u.rest u.behind in
+    rw (p.1, p.2) (sym (word_step t _ ∙ word_step u _ ∙ quoted_step v _ ∙ stops_at_span (lexemes v.rest) (c.in_err-from.ensures.taken v.rest v.behind) (λ from to. name_then c.in_ok-id.id.now (λ a. name_then c.in_ok-prop.prop.now (λ b. name_then c.in_ok-value.value.now (λ v. Ok (Changes (Edit.Put a b v from to))))))))
 
-pub returns-in_err-id-2 : goal.returns-in_err-id-2
-returns-in_err-id-2 c = λ tokens are.
+pub returns-in_err-id-2-clause-told : goal.returns-in_err-id-2-clause-told
+returns-in_err-id-2-clause-told c = λ tokens are.
     let p = err_from_is_err_and c.from_residual-in_err-id-2.result c.from_residual-in_err-id-2.ensures.1 in
-    let t = c.in_ok-id.ensures tokens are in
-    let u = c.in_ok-prop.ensures t.rest t.behind in
-    let v = c.in_ok-value.ensures u.rest u.behind in
-    rw (p.1, p.2) (sym (put_steps t u v c.in_ok-from.from c.in_ok-from.to (c.in_ok-from.ensures v.rest v.behind) ∙ overlong _ c.in_err-id-2.ensures.long (λ (a : Word). name_then c.in_ok-prop.prop.now (λ b. name_then c.in_ok-value.value.now (λ v. Ok (Changes (Edit.Put a b v c.in_ok-from.from c.in_ok-from.to)))))))
+    let t = c.in_ok-id.ensures.taken tokens are in
+    let u = c.in_ok-prop.ensures.taken t.rest t.behind in
+    let v = c.in_ok-value.ensures.taken u.rest u.behind in
+    rw (p.1, p.2) (sym (put_steps t u v c.in_ok-from.from c.in_ok-from.to (c.in_ok-from.ensures.taken v.rest v.behind) ∙ overlong _ c.in_err-id-2.ensures.long (λ (a : Word). name_then c.in_ok-prop.prop.now (λ b. name_then c.in_ok-value.value.now (λ v. Ok (Changes (Edit.Put a b v c.in_ok-from.from c.in_ok-from.to)))))))
 
-pub returns-in_err-prop-2 : goal.returns-in_err-prop-2
-returns-in_err-prop-2 c = λ tokens are.
+pub returns-in_err-prop-2-clause-told : goal.returns-in_err-prop-2-clause-told
+returns-in_err-prop-2-clause-told c = λ tokens are.
     let p = err_from_is_err_and c.from_residual-in_err-prop-2.result c.from_residual-in_err-prop-2.ensures.1 in
-    let t = c.in_ok-id.ensures tokens are in
-    let u = c.in_ok-prop.ensures t.rest t.behind in
-    let v = c.in_ok-value.ensures u.rest u.behind in
-    rw (p.1, p.2) (sym (put_steps t u v c.in_ok-from.from c.in_ok-from.to (c.in_ok-from.ensures v.rest v.behind) ∙ named c.in_ok-id-2.ensures.name (λ (a : Word). name_then c.in_ok-prop.prop.now (λ b. name_then c.in_ok-value.value.now (λ v. Ok (Changes (Edit.Put a b v c.in_ok-from.from c.in_ok-from.to))))) ∙ overlong _ c.in_err-prop-2.ensures.long (λ (b : Word). name_then c.in_ok-value.value.now (λ v. Ok (Changes (Edit.Put c.in_ok-id-2.id b v c.in_ok-from.from c.in_ok-from.to))))))
+    let t = c.in_ok-id.ensures.taken tokens are in
+    let u = c.in_ok-prop.ensures.taken t.rest t.behind in
+    let v = c.in_ok-value.ensures.taken u.rest u.behind in
+    rw (p.1, p.2) (sym (put_steps t u v c.in_ok-from.from c.in_ok-from.to (c.in_ok-from.ensures.taken v.rest v.behind) ∙ named c.in_ok-id-2.ensures.name (λ (a : Word). name_then c.in_ok-prop.prop.now (λ b. name_then c.in_ok-value.value.now (λ v. Ok (Changes (Edit.Put a b v c.in_ok-from.from c.in_ok-from.to))))) ∙ overlong _ c.in_err-prop-2.ensures.long (λ (b : Word). name_then c.in_ok-value.value.now (λ v. Ok (Changes (Edit.Put c.in_ok-id-2.id b v c.in_ok-from.from c.in_ok-from.to))))))
 
-pub returns-in_err-value-2 : goal.returns-in_err-value-2
-returns-in_err-value-2 c = λ tokens are.
+pub returns-in_err-value-2-clause-told : goal.returns-in_err-value-2-clause-told
+returns-in_err-value-2-clause-told c = λ tokens are.
     let p = err_from_is_err_and c.from_residual-in_err-value-2.result c.from_residual-in_err-value-2.ensures.1 in
-    let t = c.in_ok-id.ensures tokens are in
-    let u = c.in_ok-prop.ensures t.rest t.behind in
-    let v = c.in_ok-value.ensures u.rest u.behind in
-    rw (p.1, p.2) (sym (put_steps t u v c.in_ok-from.from c.in_ok-from.to (c.in_ok-from.ensures v.rest v.behind) ∙ named c.in_ok-id-2.ensures.name (λ (a : Word). name_then c.in_ok-prop.prop.now (λ b. name_then c.in_ok-value.value.now (λ v. Ok (Changes (Edit.Put a b v c.in_ok-from.from c.in_ok-from.to))))) ∙ named c.in_ok-prop-2.ensures.name (λ (b : Word). name_then c.in_ok-value.value.now (λ v. Ok (Changes (Edit.Put c.in_ok-id-2.id b v c.in_ok-from.from c.in_ok-from.to)))) ∙ overlong _ c.in_err-value-2.ensures.long (λ (v : Word). Ok (Changes (Edit.Put c.in_ok-id-2.id c.in_ok-prop-2.prop v c.in_ok-from.from c.in_ok-from.to)))))
+    let t = c.in_ok-id.ensures.taken tokens are in
+    let u = c.in_ok-prop.ensures.taken t.rest t.behind in
+    let v = c.in_ok-value.ensures.taken u.rest u.behind in
+    rw (p.1, p.2) (sym (put_steps t u v c.in_ok-from.from c.in_ok-from.to (c.in_ok-from.ensures.taken v.rest v.behind) ∙ named c.in_ok-id-2.ensures.name (λ (a : Word). name_then c.in_ok-prop.prop.now (λ b. name_then c.in_ok-value.value.now (λ v. Ok (Changes (Edit.Put a b v c.in_ok-from.from c.in_ok-from.to))))) ∙ named c.in_ok-prop-2.ensures.name (λ (b : Word). name_then c.in_ok-value.value.now (λ v. Ok (Changes (Edit.Put c.in_ok-id-2.id b v c.in_ok-from.from c.in_ok-from.to)))) ∙ overlong _ c.in_err-value-2.ensures.long (λ (v : Word). Ok (Changes (Edit.Put c.in_ok-id-2.id c.in_ok-prop-2.prop v c.in_ok-from.from c.in_ok-from.to)))))
 
-pub returns : goal.returns
-returns c = λ tokens are.
-    let t = c.in_ok-id.ensures tokens are in
-    let u = c.in_ok-prop.ensures t.rest t.behind in
-    let v = c.in_ok-value.ensures u.rest u.behind in
+pub returns-clause-told : goal.returns-clause-told
+returns-clause-told c = λ tokens are.
+    let t = c.in_ok-id.ensures.taken tokens are in
+    let u = c.in_ok-prop.ensures.taken t.rest t.behind in
+    let v = c.in_ok-value.ensures.taken u.rest u.behind in
     let from : SFits w64 c.in_ok-from.from = search rules in
     let to : SFits w64 c.in_ok-from.to = search rules in
-    simp to_z-of_z (sym (put_steps t u v c.in_ok-from.from c.in_ok-from.to (c.in_ok-from.ensures v.rest v.behind) ∙ named c.in_ok-id-2.ensures.name (λ (a : Word). name_then c.in_ok-prop.prop.now (λ b. name_then c.in_ok-value.value.now (λ v. Ok (Changes (Edit.Put a b v c.in_ok-from.from c.in_ok-from.to))))) ∙ named c.in_ok-prop-2.ensures.name (λ (b : Word). name_then c.in_ok-value.value.now (λ v. Ok (Changes (Edit.Put c.in_ok-id-2.id b v c.in_ok-from.from c.in_ok-from.to)))) ∙ named c.in_ok-value-2.ensures.name (λ (v : Word). Ok (Changes (Edit.Put c.in_ok-id-2.id c.in_ok-prop-2.prop v c.in_ok-from.from c.in_ok-from.to)))))
+    simp to_z-of_z (sym (put_steps t u v c.in_ok-from.from c.in_ok-from.to (c.in_ok-from.ensures.taken v.rest v.behind) ∙ named c.in_ok-id-2.ensures.name (λ (a : Word). name_then c.in_ok-prop.prop.now (λ b. name_then c.in_ok-value.value.now (λ v. Ok (Changes (Edit.Put a b v c.in_ok-from.from c.in_ok-from.to))))) ∙ named c.in_ok-prop-2.ensures.name (λ (b : Word). name_then c.in_ok-value.value.now (λ v. Ok (Changes (Edit.Put c.in_ok-id-2.id b v c.in_ok-from.from c.in_ok-from.to)))) ∙ named c.in_ok-value-2.ensures.name (λ (v : Word). Ok (Changes (Edit.Put c.in_ok-id-2.id c.in_ok-prop-2.prop v c.in_ok-from.from c.in_ok-from.to)))))

@@ -6,10 +6,10 @@ use Rattle.edit_reader.specs.Forms.{lexemes}
 use Rattle.edit_reader.proofs.PartSteps.{goes_on_only_name, stops_at_only_name}
 use Rattle.edit_reader.proofs.edits.remove.Goals as goal
 
-pub returns-in_err-id : goal.returns-in_err-id
-returns-in_err-id c = λ tokens are.
+pub returns-in_err-id-clause-told : goal.returns-in_err-id-clause-told
+returns-in_err-id-clause-told c = λ tokens are.
     let p = err_from_is_err_and c.from_residual.result c.from_residual.ensures.1 in
-    rw (p.1, p.2) (sym (stops_at_only_name (lexemes tokens) (c.in_err-id.ensures tokens are) _))
+    rw (p.1, p.2) (sym (stops_at_only_name (lexemes tokens) (c.in_err-id.ensures.taken tokens are) _))
 
-pub returns : goal.returns
-returns c = λ tokens are. sym (goes_on_only_name (lexemes tokens) (c.in_ok-id.ensures tokens are) (λ name. Ok (Changes (Edit.Remove name))))
+pub returns-clause-told : goal.returns-clause-told
+returns-clause-told c = λ tokens are. sym (goes_on_only_name (lexemes tokens) (c.in_ok-id.ensures.taken tokens are) (λ name. Ok (Changes (Edit.Remove name))))

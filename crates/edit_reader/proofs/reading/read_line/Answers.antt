@@ -1,12 +1,11 @@
 use Rattle.std.proofs.Common.{List, ℕ, Err, sym, ◌∙◌, subst}
-use Rattle.std.proofs.lemmas.Result.{err_from_is_err_and}
 use Rattle.itpg_base.specs.declared.text_code.TextCode.{TextCode}
 use Rattle.edit_reader.specs.Readings.{told}
 use Rattle.edit_reader.specs.Faults.{without_end}
 use Rattle.edit_reader.specs.Lines.{TakenAs}
 use Rattle.edit_reader.proofs.Firsts.{long_line, taken_once}
 use Rattle.edit_reader.proofs.InRange.{told_moments}
-use Rattle.edit_reader.proofs.Whole.{fault_read, form_read}
+use Rattle.edit_reader.proofs.Whole.{form_read}
 use Rattle.edit_reader.proofs.reading.read_line.Goals as goal
 
 pub returns-then-line-gt-MAX_LINE-clause-only : goal.returns-then-line-gt-MAX_LINE-clause-only
@@ -15,21 +14,10 @@ returns-then-line-gt-MAX_LINE-clause-only c =
     let long = subst (λ (b : List ℕ). TakenAs b (Err TextCode.Long)) c.without_end-line.ensures.line (long_line c.without_end-line.result.now c.if-line-gt-MAX_LINE.true) in
     λ other is. taken_once body other (Err TextCode.Long) is long
 
-pub returns-in_err-check_tokens-clause-line : goal.returns-in_err-check_tokens-clause-line
-returns-in_err-check_tokens-clause-line c =
-    let p = err_from_is_err_and c.from_residual.result c.from_residual.ensures.1 in
-    let loud = sym c.is_silent.ensures ∙ c.if-is_silent.false in
-    let fault = fault_read c.without_end-line.result.now c.if-line-gt-MAX_LINE.false loud c.in_err-check_tokens.field-0.0 c.in_err-check_tokens.ensures in
-    rw (p.1, p.2) (subst (λ (b : List ℕ). TakenAs b (Err c.in_err-check_tokens.field-0.0)) c.without_end-line.ensures.line fault)
-
-pub returns-in_err-check_tokens-clause-only : goal.returns-in_err-check_tokens-clause-only
-returns-in_err-check_tokens-clause-only c = λ other is.
-    taken_once (without_end c.args.line.now) other (told c.from_residual.result) is (returns-in_err-check_tokens-clause-line c)
-
 pub returns-clause-line : goal.returns-clause-line
 returns-clause-line c =
     let loud = sym c.is_silent.ensures ∙ c.if-is_silent.false in
-    let form = form_read c.without_end-line.result.now c.if-line-gt-MAX_LINE.false loud (told c.read_form.result) c.in_ok-check_tokens.ensures c.read_form.ensures in
+    let form = form_read c.without_end-line.result.now c.if-line-gt-MAX_LINE.false loud (told c.read_form.result) c.read_form.ensures in
     subst (λ (b : List ℕ). TakenAs b (told c.read_form.result)) c.without_end-line.ensures.line form
 
 pub returns-clause-only : goal.returns-clause-only

@@ -12,12 +12,12 @@ use Rattle.edit_reader.proofs.reading.watch.Goals as goal
 pub returns-in_err-name : goal.returns-in_err-name
 returns-in_err-name c = λ tokens are.
     let p = err_from_is_err_and c.from_residual-in_err-name.result c.from_residual-in_err-name.ensures.1 in
-    let t = c.in_ok-word.ensures tokens are in
+    let t = c.in_ok-word.ensures.taken tokens are in
     rw (p.1, p.2) (sym (word_step t _ ∙ overlong _ c.in_err-name.ensures.long (λ (name : Word). Ok (Watches name (bytes_behind c.args.parts.line.now (slice_get tokens 0))))))
 
 pub returns : goal.returns
 returns c = λ tokens are.
-    let t = c.in_ok-word.ensures tokens are in
+    let t = c.in_ok-word.ensures.taken tokens are in
     let text : c.text.result.now ≡ bytes_behind c.args.parts.line.now (slice_get tokens 0) =
     c.text.ensures ∙ ap₂ (λ (at : ℕ) (line : List ℕ). drop at line) t.to t.same ∙ ap (λ (ts : List Placed). bytes_behind c.args.parts.line.now (slice_get ts 0)) (sym t.are) in
     sym (word_step t _ ∙ named c.in_ok-name.ensures.name (λ (name : Word). Ok (Watches name (bytes_behind c.args.parts.line.now (slice_get tokens 0)))) ∙ ap (λ query. Ok (Watches c.in_ok-name.field-0 query)) (sym text))

@@ -1,6 +1,6 @@
 use Rattle.std.proofs.Common.{Some, None}
 use Rattle.script_lex.specs.Lines.{placed}
-use Rattle.edit_reader.proofs.Taking.{next_taken, none_left}
+use Rattle.edit_reader.proofs.Taking.{next_taken, none_left, reached_more}
 use Rattle.edit_reader.proofs.parts.Parts.token.Goals as goal
 
 pub returns-in-Ok-Some-clause-token : goal.returns-in-Ok-Some-clause-token
@@ -13,3 +13,8 @@ returns-in-Ok-None-clause-token c = λ tokens are. none_left c.args.self.line.no
 
 pub returns-in-Err-clause-token : goal.returns-in-Err-clause-token
 returns-in-Err-clause-token c = λ tokens are. none_left c.args.self.line.now c.args.self.at (Some c.in-Err.field-0) tokens c.in-Err.ensures.fault are
+
+pub invariant_of-result-clause-reached : goal.invariant_of-result-clause-reached
+invariant_of-result-clause-reached c =
+    let next = rw c.in-Ok-Some.field-0-is at c.in-Ok-Some.ensures.token in
+    reached_more c.args.self.line.now c.args.self.at (placed c.in-Ok-Some.token) c.args.self.reached next
