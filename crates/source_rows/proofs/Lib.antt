@@ -2,10 +2,14 @@ pub mod Agreeing
 pub mod Bounds
 pub mod Cuts
 pub mod Edits
+pub mod EntryLists
 pub mod Finding
+pub mod FollowLists
 pub mod Gaining
 pub mod Meeting
 pub mod Nearing
+pub mod NearLists
 pub mod Parts
+pub mod Unmet
 pub mod Untouched
 pub mod Walking

@@ -1,4 +1,6 @@
+pub mod Entries
 pub mod Examples
+pub mod Follows
 pub mod Found
 pub mod Near
 pub mod Reach

@@ -66,3 +66,9 @@ pub fn law_of_parts()
     ensures part { (g : Graph) (o : ℕ) (bound : Option ℕ) (objects : List ObjNo) → Good g → AreNumbers (Reach g o bound) objects → ArePart g objects }
     ensures near { (g : Graph) (o : ℕ) (bound : Option ℕ) (objects : List ObjNo) → AreNumbers (Reach g o bound) objects → IsNear g o bound (only_of g objects) }
 {}
+
+/// What is reached from a standing object of a good graph has a list, and an object has one neighbourhood.
+pub fn law_of_existing_neighbourhoods()
+    ensures list { (g : Graph) (o : ℕ) (bound : Option ℕ) → Good g → Stands g o → (objects : List ObjNo) × AreNumbers (Reach g o bound) objects }
+    ensures one { (g : Graph) (o : ℕ) (bound : Option ℕ) (a b : Graph) → IsNear g o bound a → IsNear g o bound b → a ≡ b }
+{}
