@@ -28,7 +28,7 @@ among_number (y ∷ ys) x (inr a) = inr (among_number ys x a)
 one_number : (xs : List ObjNo) (k : ℕ) → IsOneOf xs k → HasNumber xs k
 one_number xs k h = subst (HasNumber xs) h.2 (among_number xs h.0 h.1)
 
-rise_from : (xs : List ObjNo) → AreRising xs → Rise xs
+pub rise_from : (xs : List ObjNo) → AreRising xs → Rise xs
 rise_from [] r = tt
 rise_from (x ∷ xs) r = (λ y a. above x.0 xs y.0 r.0 (among_number xs y a), rise_from xs r.1)
 

@@ -7,7 +7,7 @@ use Rattle.itpg_base.specs.Spans.{Within}
 use Rattle.itpg_base.specs.Graphs.{Graph, Begun}
 use Rattle.itpg_base.specs.Points.{Point, Relation, IsAt}
 use Rattle.itpg_base.proofs.Objects.{there}
-use Rattle.itpg_base.proofs.Searches.{both, as_well, is_true}
+use Rattle.itpg_base.proofs.Searches.{both, as_well, is_true, same_number}
 use Rattle.itpg_base.proofs.PointSearch.{some_point}
 use Rattle.zone_core.specs.Zone.{Between}
 use Rattle.interval_set.proofs.Exists.{runs_exist}
@@ -30,6 +30,7 @@ use Rattle.label_scope.proofs.Within.{decide_within_scope}
 use Rattle.plan_cache.specs.RightRows.{member_relation, AllFit}
 use Rattle.path_eval.specs.Evaluated.{SomeIsWide, CutToPicked}
 use Rattle.path_eval.specs.Answering.{DepartsAt, ArrivesAt}
+use Rattle.path_eval.specs.Nearby.{FromObject}
 
 -- the moments between which all points lie
 first_of : Option Begun → ℤ
@@ -72,6 +73,9 @@ module _ (g : Graph) where
   picked_rows p sources targets = part_rows p (CutToPicked g p sources targets) (λ x y c. c.leads)
       (λ x y. as_well (λ h. record { leads = h.0; source = h.1.0; target = h.1.1 }) (λ c. (c.leads, (c.source, c.target)))
       (both (decide_rel p g x y) (both (is_true (sources x.object)) (is_true (targets y.object)))))
+
+  pub rows_from : (p : PathTerm) (o : ℕ) → (rows : List Row) × NormalRows (FromObject o (Rel p g)) rows
+  rows_from p o = part_rows p (FromObject o (Rel p g)) (λ x y c. c.1) (λ x y. both (same_number x.object o) (decide_rel p g x y))
 
   module _ (p : PathTerm) (a b : Scope) where
     cut_decided : (x y : Point) → Decided (Cut g p a b x y)

@@ -21,4 +21,5 @@ pub mod MembersWithin
 pub mod Composing
 pub mod Taking
 pub mod Ending
+mod Sources
 mod Beyond

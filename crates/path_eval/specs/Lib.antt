@@ -9,3 +9,4 @@ pub mod Keeping
 pub mod Reached
 pub mod Made
 pub mod Filled
+pub mod Nearby

@@ -53,14 +53,37 @@ pub fn relation(
     ensures warm { (slice_get plans.old.kept no.0 ≡ Some None) ⊎ (plans.new ≡ plans.old) }
     ensures good { Good graph.now }
 {
-    let whole = Part::whole(graph);
-    let horizon = whole.horizon().unwrap();
+    relation_on(alloc, &Part::whole(graph), plans, no, max_rows)
+}
+
+/// The same on a part of a graph.
+pub(crate) fn relation_on(
+    alloc: Global,
+    graph: &Part<'_>,
+    plans: &mut Plans,
+    no: PlanNo,
+    max_rows: u32,
+) -> Result<Rc<Relation>, RelFault>
+    requires begun { IsSome graph.now.begun }
+    requires there { no.0 < length plans.old.nodes }
+    requires right { AllKept (IsRight graph.now max_rows) plans.old.nodes plans.old.kept }
+    ensures rows { IfOk result (λ r. IsSomeAnd (slice_get plans.old.nodes no.0) (λ n. IsRight graph.now max_rows n.member r.value)) }
+    ensures wide { IsErrOf result RelFault.Wide → IsSomeAnd (slice_get plans.old.nodes no.0) (λ n. NeedsWide graph.now max_rows n.member) }
+    ensures nodes { plans.new.nodes ≡ plans.old.nodes }
+    ensures still_right { AllKept (IsRight graph.now max_rows) plans.new.nodes plans.new.kept }
+    ensures stays { Stays plans.old.kept plans.new.kept }
+    ensures only { KeepsOnlyReached plans.old no.0 plans.new.kept }
+    ensures keeps { IfOk result (λ _. KeepsReached graph.now plans.old no.0 plans.new) }
+    ensures warm { (slice_get plans.old.kept no.0 ≡ Some None) ⊎ (plans.new ≡ plans.old) }
+    ensures good { Good graph.now }
+{
+    let horizon = graph.horizon().unwrap();
     if let Some(kept) = plans.kept(no) {
         return Ok(kept.clone()?);
     }
     let ground = Ground {
         alloc,
-        graph: &whole,
+        graph,
         horizon,
         max_rows,
     };
@@ -170,7 +193,8 @@ fn from_parts(
     Ok(shared(ground.alloc, relation)?)
 }
 
-fn shared(alloc: Global, relation: Relation) -> Result<Rc<Relation>, AllocError>
+/// The relation on the heap, to be shared.
+pub(crate) fn shared(alloc: Global, relation: Relation) -> Result<Rc<Relation>, AllocError>
     ensures { IfOk result (λ r. r.value ≡ relation) }
 {
     Ok(Rc::new(alloc, relation)?)

@@ -1,6 +1,8 @@
 //! The laws by which each question has one answer. Each is the contract of a function that does nothing.
 ghost use Rattle.std.specs.Prelude.{◌≡◌, ◌⊎◌, ℕ, Bool, List};
-ghost use Rattle.itpg_base.specs.Graphs.{Graph};
+ghost use Rattle.itpg_base.specs.Graphs.{Graph, Good, Stands};
+ghost use Rattle.itpg_edit.specs.declared.edit.Edit.{Edit};
+ghost use Rattle.itpg_edit.specs.Next.{Next};
 ghost use Rattle.relation_rows.specs.declared.rows.Row.{Row};
 ghost use Rattle.relation_rows.specs.declared.times.OneRow.{OneRow};
 ghost use Rattle.relation_rows.specs.Rows.{NormalRows};
@@ -12,7 +14,10 @@ ghost use Rattle.label_scope.specs.Narrowing.{Cut};
 ghost use Rattle.label_scope.specs.Members.{Member};
 ghost use Rattle.plan_cache.specs.RightRows.{AllFit};
 ghost use Rattle.path_eval.specs.Evaluated.{SomeIsWide, CutToPicked};
+ghost use Rattle.source_rows.specs.Steps.{path_steps};
+ghost use Rattle.source_rows.specs.Touched.{IsUntouched};
 ghost use Rattle.path_eval.specs.Answering.{DepartsAt, ArrivesAt};
+ghost use Rattle.path_eval.specs.Nearby.{AreRowsFrom, IsTooWideNear};
 
 /// On every graph the relation of a path, repetitions among them, between two scopes has exactly one normal list of rows.
 pub fn law_of_cuts()
@@ -40,4 +45,16 @@ pub fn law_of_times()
     ensures arrivals { (g : Graph) (p : PathTerm) → (rows : List OneRow) × AreTimes (ArrivesAt (Rel p g)) rows }
     ensures one_departing { (g : Graph) (p : PathTerm) (xs ys : List OneRow) → AreTimes (DepartsAt (Rel p g)) xs → AreTimes (DepartsAt (Rel p g)) ys → xs ≡ ys }
     ensures one_arriving { (g : Graph) (p : PathTerm) (xs ys : List OneRow) → AreTimes (ArrivesAt (Rel p g)) xs → AreTimes (ArrivesAt (Rel p g)) ys → xs ≡ ys }
+{}
+
+/// Near a standing object of a good graph a path is too wide, or it has exactly one list of rows from the object. An edit that
+/// touches nothing there leaves these rows, and doesn't make it too wide.
+pub fn law_of_near_rows()
+    ensures exists { (g : Graph) (limit : ℕ) (p : PathTerm) (o : ℕ) → Good g → Stands g o →
+        IsTooWideNear g limit p o ⊎ ((¬ IsTooWideNear g limit p o) × ((rows : List Row) × AreRowsFrom g p o rows)) }
+    ensures one { (g : Graph) (p : PathTerm) (o : ℕ) (a b : List Row) → AreRowsFrom g p o a → AreRowsFrom g p o b → a ≡ b }
+    ensures rows { (g new : Graph) (edit : Edit) (p : PathTerm) (o : ℕ) (rows : List Row) → Good g → Stands g o → Next g edit new →
+        IsUntouched g edit o (path_steps p) → AreRowsFrom g p o rows → AreRowsFrom new p o rows }
+    ensures fits { (g new : Graph) (edit : Edit) (limit : ℕ) (p : PathTerm) (o : ℕ) → Good g → Stands g o → Next g edit new →
+        IsUntouched g edit o (path_steps p) → IsTooWideNear new limit p o → IsTooWideNear g limit p o }
 {}
