@@ -8,6 +8,8 @@ mod of_interval_set;
 #[cfg(test)]
 mod of_itpg_base;
 #[cfg(test)]
+mod of_json_port;
+#[cfg(test)]
 mod of_path_ast;
 #[cfg(test)]
 mod of_script_lex;

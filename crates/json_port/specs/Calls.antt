@@ -1,0 +1,43 @@
+-- What the calls inside find: no public clause but those of faults names what stands here.
+use Rattle.std.specs.Prelude.{◌≡◌, ℕ, Bool, List, [], map, unwrap_or, Option, Some, None, Result, Ok, Err}
+use Rattle.std.specs.List.{list_all}
+use Rattle.std.specs.Borrow.{Bor}
+use Rattle.itpg_base.specs.Words.{Word}
+use Rattle.itpg_base.specs.declared.text_code.TextCode.{TextCode}
+use Rattle.itpg_edit.specs.declared.edit.Edit.{Edit}
+use Rattle.serde_json.specs.View.{view}
+use Rattle.serde_json.specs.declared.value.Value.{Value}
+use Rattle.json_port.specs.declared.line.JsonLine.{JsonLine}
+use Rattle.json_port.specs.declared.line.JsonFault.{JsonFault}
+use Rattle.json_port.specs.Parts.{name_of}
+use Rattle.json_port.specs.Objects.{Asked, Change, Line}
+use Rattle.json_port.specs.Faults.{is_short, IsTold}
+use Rattle.json_port.specs.Lines.{value_in}
+
+-- the word that an item is, or no byte
+abbrev pub listed_name : Value → Word
+listed_name item = unwrap_or (name_of (view item)) []
+
+-- the words that all items are
+abbrev pub listed_names : List Value → List Word
+listed_names items = map listed_name items
+
+-- none of the texts that are lent is too long for a name
+abbrev pub are_short : List (Bor (List ℕ)) → Bool
+are_short names = list_all (λ name. is_short name.now) names
+
+-- what is told of an edit alone if this is asked for
+abbrev pub TellsEdit : Option Asked → Result Edit TextCode → Type 0
+TellsEdit None result = result ≡ Err TextCode.Text
+TellsEdit (Some (Line text)) result = ⊥
+TellsEdit (Some (Change asked)) result = IsTold asked result
+
+-- an edit, or its fault, as what a line is
+abbrev pub line_of : Result Edit TextCode → Result JsonLine JsonFault
+line_of (Ok edit) = Ok (JsonLine.Edit edit)
+line_of (Err code) = Err (JsonFault.Bad code)
+
+-- the fault is that the line has no value, or that memory ran out
+abbrev pub IsRefusal : List ℕ → JsonFault → Type 0
+IsRefusal line (JsonFault.Bad code) = (code ≡ TextCode.Text) × (value_in line ≡ None)
+IsRefusal line JsonFault.Memory = Unit {0}

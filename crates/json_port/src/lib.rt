@@ -1,0 +1,19 @@
+//! Reads lines of JSON: edits as objects, and any plain line in one.
+//!
+//! It stands on serde_json, whose own definition says which value a line has, on `edit_reader` for what holds of every line,
+//! on `itpg_edit` for the edits that lines ask for, and on `itpg_base`. It promises that each line is read as the one thing
+//! that the table of objects says, or told by the first of its faults.
+#![tactic(auto)]
+
+mod edits;
+mod labels;
+mod laws;
+mod limits;
+mod line;
+mod op;
+mod parts;
+mod reading;
+
+pub use laws::{law_of_codes, law_of_json_lines, law_of_objects, law_of_refusals, law_of_words};
+pub use line::{JsonFault, JsonLine, JsonText};
+pub use reading::read_json;

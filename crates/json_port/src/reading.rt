@@ -1,0 +1,144 @@
+//! Reading a JSON line.
+ghost use Rattle.std.specs.Prelude.{◌≡◌, ◌≤◌, IfOk, IfErr, IsErrOf, IsFalse, Result, Some, length};
+ghost use Rattle.std.specs.List.{list_all};
+ghost use Rattle.script_lex.specs.Bytes as bytes;
+ghost use Rattle.edit_reader.specs.Faults as faults;
+ghost use Rattle.serde_json.specs.View.{view};
+ghost use Rattle.itpg_base.specs.declared.text_code.TextCode.{TextCode};
+ghost use Rattle.json_port.specs.declared.line.JsonLine.{JsonLine};
+ghost use Rattle.json_port.specs.declared.op.Op.{Op as PlainOp};
+ghost use Rattle.json_port.specs.Objects.{asked, asked_as};
+ghost use Rattle.json_port.specs.Objects as objects;
+ghost use Rattle.json_port.specs.Faults.{Tells};
+ghost use Rattle.json_port.specs.Lines.{JsonOf, IsAnswer, asked_by, value_in};
+ghost use Rattle.json_port.specs.Calls.{IsRefusal};
+ghost use Rattle.json_port.specs.Calls as calls;
+
+use crate::edits::{begin, clear, edge, extend, gone, live, node, put, remove};
+use crate::line::{JsonFault, JsonLine, JsonText};
+use crate::op::Op;
+use crate::parts::{count, text};
+use edit_reader::{MAX_LINE, without_end};
+use itpg_base::TextCode;
+use itpg_edit::Edit;
+use serde_json::Value;
+use std::alloc::Global;
+
+/// What a JSON line asks for. The line is handed in without its LF; where it ends with a CR, this call drops that one byte.
+///
+/// ```text
+///     {"op":"live","id":"a","from":0,"to":20}        Edit: Live { id: a, from: 0, to: 20 }
+///     {"op":"node","id":"a","labels":["T","S"]}      Edit: AddNode { id: a, labels: {S, T} }
+///     {"op":"text","line":"show w"}                  Text "show w"
+///     {"op":"live","id":"a","from":0,"to":1e1}       fault Text: the number isn't written as a whole one
+///     {"op":"drop","id":"a","why":null}              fault Text: a member too many
+/// ```
+///
+/// Of members with one name the last holds.
+///
+/// # Errors
+///
+/// `Memory` if memory runs out, or else the first of these that the line has, in this order:
+///
+/// - `Long`: more than `MAX_LINE` bytes, without the CR.
+/// - `Text`: the line has no value that serde_json reads, or one that is none of the objects with exactly their members. A
+///   number is a whole one of 64 bits with a sign, a name is one word token, a value is what may stand between quotes, and
+///   `labels` lists one to `MAX_LABELS` names, of which equal ones are counted each.
+/// - `Number`: a number further from zero than `MAX_MOMENT`.
+/// - `Name`: a name or a value longer than `MAX_NAME` bytes.
+///
+/// A line of blanks alone is blank, and takes no memory. There are no comments.
+#[tactic(auto, using(crate::proofs::OneLine::only_answer))]
+pub fn read_json(alloc: Global, line: &[u8]) -> Result<JsonLine, JsonFault>
+    ensures line { IsAnswer (JsonOf line.now) result }
+    ensures only { (other : Result JsonLine TextCode) → JsonOf line.now other → IsAnswer (λ answer. answer ≡ other) result }
+    ensures memory { IsErrOf result JsonFault.Memory → IsFalse (list_all bytes.is_blank (faults.without_end line.now)) }
+    ensures fits { IsErrOf result JsonFault.Memory → length (faults.without_end line.now) ≤ MAX_LINE }
+{
+    let line = without_end(line);
+    if line.len() > MAX_LINE {
+        return Err(JsonFault::Bad(TextCode::Long));
+    }
+    if is_blank(line) {
+        return Ok(JsonLine::Blank);
+    }
+    read_text(alloc, line)
+}
+
+// Whether the line has nothing but blanks.
+fn is_blank(line: &[u8]) -> bool
+    ensures { result ≡ list_all bytes.is_blank line.now }
+{
+    line.iter().all(|byte| *byte == b' ' || *byte == b'\t')
+}
+
+// What a line of JSON asks for.
+fn read_text(alloc: Global, line: &[u8]) -> Result<JsonLine, JsonFault>
+    ensures { IsAnswer (Tells (asked_by line.now)) result }
+{
+    let object = read_value(alloc, line)?;
+    read_object(alloc, &object)
+}
+
+// The value of a line.
+#[tactic(auto, using(crate::proofs::Values::value_read, crate::proofs::Values::value_refused))]
+fn read_value(alloc: Global, line: &[u8]) -> Result<Value, JsonFault>
+    ensures ok { IfOk result (λ v. value_in line.now ≡ Some (view v)) }
+    ensures err { IfErr result (IsRefusal line.now) }
+{
+    match Value::from_slice(alloc, line) {
+        Ok(value) => Ok(value),
+        Err(error) if error.is_memory() => Err(JsonFault::Memory),
+        Err(_) => Err(JsonFault::Bad(TextCode::Text)),
+    }
+}
+
+// What an object asks for.
+#[tactic(auto, using(crate::proofs::Values::answers_edit))]
+fn read_object(alloc: Global, object: &Value) -> Result<JsonLine, JsonFault>
+    ensures { IsAnswer (Tells (asked (view object.now))) result }
+{
+    match op_in(object) {
+        Some(Op::Graph) => line_of(begin(object)),
+        Some(Op::Extend) => line_of(extend(object)),
+        Some(Op::Node) => line_of(node(object)),
+        Some(Op::Edge) => line_of(edge(object)),
+        Some(Op::Live) => line_of(live(object)),
+        Some(Op::Gone) => line_of(gone(object)),
+        Some(Op::Set) => line_of(put(object)),
+        Some(Op::Unset) => line_of(clear(object)),
+        Some(Op::Drop) => line_of(remove(object)),
+        Some(Op::Text) => read_plain(alloc, object),
+        None => Err(JsonFault::Bad(TextCode::Text)),
+    }
+}
+
+// The kind that an object names, if it has as many members as the kind.
+fn op_in(object: &Value) -> Option<Op>
+    ensures { result ≡ objects.op_in (view object.now) }
+{
+    let op = Op::of(text(object, "op")?.as_bytes())?;
+    if count(object) == op.count() {
+        Some(op)
+    } else {
+        None
+    }
+}
+
+// An edit, or its fault, as what a line is.
+fn line_of(edit: Result<Edit, TextCode>) -> Result<JsonLine, JsonFault>
+    ensures { result ≡ calls.line_of edit }
+{
+    Ok(JsonLine::Edit(edit?))
+}
+
+// The plain line of a `text` object: `line`.
+fn read_plain(alloc: Global, object: &Value) -> Result<JsonLine, JsonFault>
+    ensures { IsAnswer (Tells (asked_as PlainOp.Text (view object.now))) result }
+{
+    let Some(line) = text(object, "line") else {
+        return Err(JsonFault::Bad(TextCode::Text));
+    };
+    let text = String::from_str(alloc, line)?;
+    Ok(JsonLine::Text(JsonText::new(text)))
+}
