@@ -3,7 +3,8 @@
 //! At a moment so many rows are there as end by it or later, less those that begin after it. This stays
 //! until the next row begins or the next one ends.
 
-ghost use Rattle.std.specs.Prelude.{◌≡◌, ◌↔◌, ◌⊎◌, ◌<◌, ◌≤◌, ◌-◌, ◌^◌, ℤ, pos, ◌+ℤ◌, ◌≤ℤ◌, ◌<ℤ◌, [], ◌++◌, length, take, drop, slice_get, Some, None, IfOk, OnOk, IsTrue};
+ghost use Rattle.std.specs.Prelude.{◌≡◌, ◌↔◌, ◌⊎◌, ◌<◌, ◌≤◌, ◌-◌, ◌^◌, ℤ, pos, ◌+ℤ◌, ◌≤ℤ◌};
+ghost use Rattle.std.specs.Prelude.{◌<ℤ◌, [], ◌++◌, length, take, drop, slice_get, Some, None, IfOk, OnOk, IsTrue};
 ghost use Rattle.std.specs.List.Sorted.{IsPermutation};
 ghost use Rattle.itpg_base.specs.Spans.{Within, IsSpan};
 ghost use Rattle.itpg_base.specs.Lists.{Among, Ordered};

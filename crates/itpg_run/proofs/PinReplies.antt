@@ -37,7 +37,7 @@ one_named (x ∷ xs) d p q (inr a) (inr b) e = one_named xs d.1 p q a b e
 
 -- the machine that has this graph and nothing else
 abbrev bare : Graph → Machine
-bare g = record { graph = g; watches = []; pins = [] }
+bare g = record { graph = g; watches = []; pins = []; follows = [] }
 
 -- what is written is the text of this reply on the graph, at the line of a number
 record TextIs (g : Graph) (number : ℕ) (reply : Reply) (o : Output) : Type 0 where

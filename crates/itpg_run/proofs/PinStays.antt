@@ -15,7 +15,7 @@ use Rattle.itpg_edit.specs.declared.edit.Edit.TheVariants.{Begin, Extend, AddNod
 use Rattle.itpg_edit.specs.Facts.{span_of}
 use Rattle.itpg_edit.specs.Next.{Next}
 use Rattle.itpg_edit.proofs.FirstOf.{first_or_unbroken}
-use Rattle.edit_reader.specs.Readings.{Reading, Nothing, Changes, Asks, Wants, Watches, Shows, Unwatches, Ticks, Opens, Closes, AsksIn}
+use Rattle.edit_reader.specs.Readings.{Reading, Nothing, Changes, Asks, Wants, Watches, Shows, Unwatches, Ticks, Opens, Closes, AsksIn, Follows, Nears, Unfollows}
 use Rattle.edit_reader.specs.Lines.{LineOf}
 use Rattle.itpg_session.specs.PlainPins.{Pin, new_pin, without_pin}
 use Rattle.itpg_session.specs.Rules.{OpenBreaks, open_rules}
@@ -158,6 +158,14 @@ module _ (name : Word) (g : Graph) (limit : ℕ) (m : Machine) (holds : Holds na
   answer_holds (AsksIn other text) stays t (inl (c, f, e)) = told_holds t (Bad c) e
   answer_holds (AsksIn other text) stays t (inr (q, r, inl a)) = refused_holds _ _ t a
   answer_holds (AsksIn other text) stays t (inr (q, r, inr a)) = told_holds t _ a.is
+  answer_holds (Follows other text) stays t (inl (c, f, e)) = told_holds t (Bad c) e
+  answer_holds (Follows other text) stays t (inr (q, r, inl (one, e))) = told_holds t _ e
+  answer_holds (Follows other text) stays t (inr (q, r, inr (both, inl a))) = refused_holds _ _ t a
+  answer_holds (Follows other text) stays t (inr (q, r, inr (both, inr a))) = subst (λ (u : Turn). Holds name g u.next) (sym a.is) (same_holds _ (record { graph = refl; pins = refl }))
+  answer_holds (Nears other id) stays t (inl a) = refused_holds _ _ t a
+  answer_holds (Nears other id) stays t (inr a) = told_holds t a.reply a.is
+  answer_holds (Unfollows other) stays t (inl a) = refused_holds _ _ t a
+  answer_holds (Unfollows other) stays t (inr a) = subst (λ (u : Turn). Holds name g u.next) (sym a.is) (same_holds _ (record { graph = refl; pins = refl }))
 
   turn_holds : (what : Result Reading TextCode) → (what ≡ Ok (Closes name) → ⊥) → (t : Turn) → TurnOf limit m what t → Holds name g t.next
   unfolding TurnOf

@@ -5,7 +5,7 @@ use Rattle.std.proofs.lemmas.Bool.{cases_lt}
 use Rattle.itpg_base.specs.Decided.{Decided}
 use Rattle.itpg_base.specs.declared.text_code.TextCode.{TextCode}
 use Rattle.itpg_edit.specs.declared.edit.Edit.{Edit}
-use Rattle.edit_reader.specs.Readings.{Reading, Nothing, Changes, Asks, Wants, Watches, Shows, Unwatches, Ticks, Opens, Closes, AsksIn}
+use Rattle.edit_reader.specs.Readings.{Reading, Nothing, Changes, Asks, Wants, Watches, Shows, Unwatches, Ticks, Opens, Closes, AsksIn, Follows, Nears, Unfollows}
 use Rattle.edit_reader.specs.Lines.{LineOf}
 use Rattle.itpg_run.specs.Still.{IsEditLine, IsStilled, AreStill}
 use Rattle.itpg_run.specs.StillLaws.{SomeStill, OneStill}
@@ -128,6 +128,9 @@ module _ (laws : LineLaws) where
       by_line (Ok (Opens name), is) = other (Ok (Opens name)) is (λ edit e. let no : ⊥ = cc in no)
       by_line (Ok (Closes name), is) = other (Ok (Closes name)) is (λ edit e. let no : ⊥ = cc in no)
       by_line (Ok (AsksIn name text), is) = other (Ok (AsksIn name text)) is (λ edit e. let no : ⊥ = cc in no)
+      by_line (Ok (Follows name text), is) = other (Ok (Follows name text)) is (λ edit e. let no : ⊥ = cc in no)
+      by_line (Ok (Nears name id), is) = other (Ok (Nears name id)) is (λ edit e. let no : ⊥ = cc in no)
+      by_line (Ok (Unfollows name), is) = other (Ok (Unfollows name)) is (λ edit e. let no : ⊥ = cc in no)
       by_line (Err code, is) = other (Err code) is (λ edit e. let no : ⊥ = cc in no)
 
   some_stilled : (line : List ℕ) → (now : List ℕ) × IsStilled line now

@@ -6,7 +6,7 @@ use Rattle.itpg_base.specs.Words.{Word}
 use Rattle.itpg_base.specs.Graphs.{Graph}
 use Rattle.itpg_base.specs.declared.text_code.TextCode.{TextCode}
 use Rattle.script_lex.specs.Lines.{Placed}
-use Rattle.edit_reader.specs.Readings.{Reading, Nothing, Closes, AsksIn}
+use Rattle.edit_reader.specs.Readings.{Reading, Nothing, Closes, AsksIn, Follows, Nears, Unfollows}
 use Rattle.edit_reader.specs.Faults.{OfTokens, HasFault}
 use Rattle.edit_reader.specs.Lines.{LineOf}
 use Rattle.itpg_session.specs.Machine.{Machine, IsGood, opening}

@@ -2,7 +2,7 @@
 use Rattle.std.specs.Prelude.{◌≡◌, ℕ, ◌+◌, ◌<◌, List, ◌++◌, ◌∷◌, length, Ok}
 use Rattle.itpg_base.specs.Words.{Word}
 use Rattle.itpg_edit.specs.Rules.{NoneOf}
-use Rattle.edit_reader.specs.Readings.{Opens, Closes, AsksIn}
+use Rattle.edit_reader.specs.Readings.{Opens, Closes, AsksIn, Follows, Nears, Unfollows}
 use Rattle.edit_reader.specs.Lines.{LineOf}
 use Rattle.itpg_session.specs.Rules.{OpenBreaks, open_rules}
 use Rattle.itpg_session.specs.Machine.{Machine, opening}

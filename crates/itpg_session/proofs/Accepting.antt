@@ -23,13 +23,15 @@ use Rattle.standing_queries.specs.Watches.{Watch, IsWatched as IsWatchedThere, n
 use Rattle.standing_queries.specs.Touched.{AreTouched}
 use Rattle.standing_queries.proofs.Watching.{without_among as among_without}
 use Rattle.itpg_pins.specs.Pins.{Held}
+use Rattle.source_rows.specs.Follows.{Follow}
 use Rattle.itpg_session.specs.PlainWatches.{PlainWatch, all_plain}
 use Rattle.itpg_session.specs.PlainPins.{plain_pins}
+use Rattle.itpg_session.specs.PlainFollows.{PlainFollow, plain_follows}
 use Rattle.itpg_session.specs.Rules.{WatchBreaks, NameBreaks, TickBreaks, watch_rules, name_rules, tick_rules}
 use Rattle.itpg_session.specs.Replies.{Silent, Refused, line_reply}
 use Rattle.itpg_session.specs.Keeping.{IsWatchRight, AreWatchesRight, IsKeptRight, AddsPath, AddsOrRenews, IsWorked}
 use Rattle.itpg_session.specs.declared.reply.Reply.{Reply as ReplyValue}
-use Rattle.itpg_session.specs.Machine.{Machine, Standing, Turn, Answers, WatchesQuery, DropsName, DropsWatch, told}
+use Rattle.itpg_session.specs.Machine.{Machine, Standing, Turn, stood, Answers, WatchesQuery, DropsName, DropsWatch, told}
 use Rattle.itpg_session.specs.Steps.{IsAlike, ForgetsEdit, IsDecided, Decides}
 use Rattle.itpg_session.proofs.Planned.{alike_same, alike_again}
 use Rattle.itpg_session.proofs.Told.{silent, said_alike}
@@ -37,36 +39,35 @@ use Rattle.itpg_session.proofs.Answering.{added, dropped, edit_made, edit_refuse
 use Rattle.itpg_session.proofs.Plain.{plain_append, plain_without, plain_watched, watched_plain, plain_touched, replanned_same}
 use Rattle.itpg_session.proofs.Watching.{each_added, none_declared}
 
--- what the session stands for, from its parts
-abbrev pub stood : Graph → ℕ → Table → List Watch → List Held → Standing
-stood g limit table ws ps = record { machine = record { graph = g; watches = all_plain ws; pins = plain_pins ps }; limit = limit; table = table; watches = ws; pins = ps }
-
-module _ (g : Graph) (limit : ℕ) (table : Table) (ws : List Watch) (ps : List Held) (now : Standing) (view : stood g limit table ws ps ≡ now) where
+module _ (g : Graph) (limit : ℕ) (table : Table) (ws : List Watch) (ps : List Held) (fs : List Follow) (now : Standing) (view : stood g limit table ws ps fs ≡ now) where
   -- ---- an edit
 
-  alike_graph : (same : Graph) → same ≡ g → IsAlike (stood g limit table ws ps) (stood same limit table ws ps)
-  alike_graph same is = record { machine = ap (λ (h : Graph). let m : Machine = record { graph = h; watches = all_plain ws; pins = plain_pins ps } in m) is; limit = refl; watches = replanned_same ws }
+  alike_graph : (same : Graph) → same ≡ g → IsAlike (stood g limit table ws ps fs) (stood same limit table ws ps fs)
+  alike_graph same is = record { machine = ap (λ (h : Graph). let m : Machine = record { graph = h; watches = all_plain ws; pins = plain_pins ps; follows = plain_follows fs } in m) is; limit = refl; watches = replanned_same ws }
 
-  pub refused_edit : (same : Graph) → same ≡ g → (edit : Edit) (rule : RuleCode) → Broken g edit rule → IsDecided (Answers now.limit now.machine (Changes edit)) now (stood same limit table ws ps) (Refused rule)
+  pub refused_edit : (same : Graph) → same ≡ g → (edit : Edit) (rule : RuleCode) → Broken g edit rule → IsDecided (Answers now.limit now.machine (Changes edit)) now (stood same limit table ws ps fs) (Refused rule)
   refused_edit same is edit rule broken =
-      subst (λ (s : Standing). IsDecided (Answers s.limit s.machine (Changes edit)) s (stood same limit table ws ps) (Refused rule)) view
-      (said_alike (stood g limit table ws ps) (stood same limit table ws ps) (Refused rule) (alike_graph same is)
-      (edit_refused limit (stood g limit table ws ps).machine edit rule broken _ refl))
+      subst (λ (s : Standing). IsDecided (Answers s.limit s.machine (Changes edit)) s (stood same limit table ws ps fs) (Refused rule)) view
+      (said_alike (stood g limit table ws ps fs) (stood same limit table ws ps fs) (Refused rule) (alike_graph same is)
+      (edit_refused limit (stood g limit table ws ps fs).machine edit rule broken _ refl))
 
-  pub unmade_edit : (same : Graph) → same ≡ g → (edit : Edit) → Unbroken g edit × TakesMemory edit → IsAlike now (stood same limit table ws ps) × (Unbroken now.machine.graph edit × TakesMemory edit)
+  pub unmade_edit : (same : Graph) → same ≡ g → (edit : Edit) → Unbroken g edit × TakesMemory edit → IsAlike now (stood same limit table ws ps fs) × (Unbroken now.machine.graph edit × TakesMemory edit)
   unmade_edit same is edit wants =
-      subst (λ (s : Standing). IsAlike s (stood same limit table ws ps) × (Unbroken s.machine.graph edit × TakesMemory edit)) view
+      subst (λ (s : Standing). IsAlike s (stood same limit table ws ps fs) × (Unbroken s.machine.graph edit × TakesMemory edit)) view
       (alike_graph same is, wants)
 
-  pub made_edit : (new : Graph) (touch : Touch) (left : Table) (vs : List Watch) (edit : Edit) → MakesGraph g edit new touch → ((w : Watch) → Among ws w → w.foot ≡ footprint w.query.path All All) → AreTouched touch ws vs
-      → IsDecided (Answers now.limit now.machine (Changes edit)) now (stood new limit left vs ps) Silent
-  made_edit new touch left vs edit makes feet touches =
-      subst (λ (s : Standing). IsDecided (Answers s.limit s.machine (Changes edit)) s (stood new limit left vs ps) Silent) view
-      (silent (stood g limit table ws ps) (stood new limit left vs ps) refl (edit_made limit (stood g limit table ws ps).machine edit new touch (all_plain vs) makes (plain_touched touch ws vs feet touches)))
+  pub made_edit : (new : Graph) (touch : Touch) (left : Table) (vs : List Watch) (hs : List Follow) (edit : Edit) → plain_follows hs ≡ plain_follows fs → MakesGraph g edit new touch → ((w : Watch) → Among ws w → w.foot ≡ footprint w.query.path All All)
+      → AreTouched touch ws vs → IsDecided (Answers now.limit now.machine (Changes edit)) now (stood new limit left vs ps hs) Silent
+  made_edit new touch left vs hs edit same makes feet touches =
+      let m : Machine = (stood g limit table ws ps fs).machine in
+      subst (λ (s : Standing). IsDecided (Answers s.limit s.machine (Changes edit)) s (stood new limit left vs ps hs) Silent) view
+      (silent (stood g limit table ws ps fs) (stood new limit left vs ps hs) refl
+      (subst (λ (xs : List PlainFollow). let n : Machine = record { graph = new; watches = all_plain vs; pins = plain_pins ps; follows = xs } in Answers limit m (Changes edit) (told n Silent)) (sym same)
+      (edit_made limit m edit new touch (all_plain vs) makes (plain_touched touch ws vs feet touches))))
 
-  pub forgotten_edit : (new : Graph) (touch : Touch) (left : Table) (vs : List Watch) (edit : Edit) → MakesGraph g edit new touch → left.nodes ≡ table.nodes → Forgets touch (footprints_of table.nodes) table.kept left.kept
-      → ForgetsEdit edit now (stood new limit left vs ps)
-  forgotten_edit new touch left vs edit makes nodes forgets = subst (λ (s : Standing). ForgetsEdit edit s (stood new limit left vs ps)) view (record { touch = touch; makes = makes; nodes = nodes; forgets = forgets })
+  pub forgotten_edit : (new : Graph) (touch : Touch) (left : Table) (vs : List Watch) (hs : List Follow) (edit : Edit) → MakesGraph g edit new touch → left.nodes ≡ table.nodes → Forgets touch (footprints_of table.nodes) table.kept left.kept
+      → ForgetsEdit edit now (stood new limit left vs ps hs)
+  forgotten_edit new touch left vs hs edit makes nodes forgets = subst (λ (s : Standing). ForgetsEdit edit s (stood new limit left vs ps hs)) view (record { touch = touch; makes = makes; nodes = nodes; forgets = forgets })
 
   -- an edit that is refused breaks a rule
   pub broken_edit : (edit : Edit) (rule : RuleCode) → Broken g edit rule → Unbroken now.machine.graph edit → ⊥
@@ -75,30 +76,30 @@ module _ (g : Graph) (limit : ℕ) (table : Table) (ws : List Watch) (ps : List 
   -- ---- a watch more
 
   pub added_watch : (vs : List Watch) (name : Word) (q : QueryTerm) (plan : ℕ) (foot : Footprint) → NoneOf (WatchBreaks now.machine.graph now.machine.watches name q) watch_rules
-      → vs ≡ ws ++ new_standing name q plan foot ∷ [] → IsDecided (WatchesQuery now.machine name q) now (stood g limit table vs ps) Silent
+      → vs ≡ ws ++ new_standing name q plan foot ∷ [] → IsDecided (WatchesQuery now.machine name q) now (stood g limit table vs ps fs) Silent
   added_watch vs name q plan foot unbroken is =
       let none = subst (λ (s : Standing). NoneOf (WatchBreaks s.machine.graph s.machine.watches name q) watch_rules) (sym view) unbroken in
-      subst (λ (s : Standing). IsDecided (WatchesQuery s.machine name q) s (stood g limit table vs ps) Silent) view
-      (silent (stood g limit table ws ps) (stood g limit table vs ps) refl
-      (inr (added (stood g limit table ws ps).machine name q none (all_plain vs) (ap all_plain is ∙ plain_append ws (new_standing name q plan foot ∷ [])))))
+      subst (λ (s : Standing). IsDecided (WatchesQuery s.machine name q) s (stood g limit table vs ps fs) Silent) view
+      (silent (stood g limit table ws ps fs) (stood g limit table vs ps fs) refl
+      (inr (added (stood g limit table ws ps fs).machine name q none (all_plain vs) (ap all_plain is ∙ plain_append ws (new_standing name q plan foot ∷ [])))))
 
-  pub unadded_watch : (vs : List Watch) → vs ≡ ws → IsAlike now (stood g limit table vs ps)
-  unadded_watch vs is = subst (λ (us : List Watch). IsAlike now (stood g limit table us ps)) (sym is) (subst (λ (s : Standing). IsAlike s (stood g limit table ws ps)) view (record { machine = refl; limit = refl; watches = replanned_same ws }))
+  pub unadded_watch : (vs : List Watch) → vs ≡ ws → IsAlike now (stood g limit table vs ps fs)
+  unadded_watch vs is = subst (λ (us : List Watch). IsAlike now (stood g limit table us ps fs)) (sym is) (subst (λ (s : Standing). IsAlike s (stood g limit table ws ps fs)) view (record { machine = refl; limit = refl; watches = replanned_same ws }))
 
   -- ---- a watch less
 
   pub dropped_watch : (vs : List Watch) (name : Word) → NoneOf (TickBreaks g) tick_rules → ((IsWatchedThere ws name → ⊥) → ⊥) → vs ≡ standing_without name ws
-      → IsDecided (DropsName now.machine name) now (stood g limit table vs ps) Silent
+      → IsDecided (DropsName now.machine name) now (stood g limit table vs ps fs) Silent
   dropped_watch vs name begun known is =
-      subst (λ (s : Standing). IsDecided (DropsName s.machine name) s (stood g limit table vs ps) Silent) view
-      (silent (stood g limit table ws ps) (stood g limit table vs ps) refl
-      (inr (dropped (stood g limit table ws ps).machine name (may_name (stood g limit table ws ps).machine name begun (λ no. known (λ there. no (plain_watched ws name there)))) (all_plain vs) (ap all_plain is ∙ plain_without name ws))))
+      subst (λ (s : Standing). IsDecided (DropsName s.machine name) s (stood g limit table vs ps fs) Silent) view
+      (silent (stood g limit table ws ps fs) (stood g limit table vs ps fs) refl
+      (inr (dropped (stood g limit table ws ps fs).machine name (may_name (stood g limit table ws ps fs).machine name begun (λ no. known (λ there. no (plain_watched ws name there)))) (all_plain vs) (ap all_plain is ∙ plain_without name ws))))
 
-  pub unknown_watch : (vs : List Watch) (name : Word) → NoneOf (TickBreaks g) tick_rules → (IsWatchedThere ws name → ⊥) → vs ≡ ws → IsDecided (DropsName now.machine name) now (stood g limit table vs ps) (Refused Unknown)
+  pub unknown_watch : (vs : List Watch) (name : Word) → NoneOf (TickBreaks g) tick_rules → (IsWatchedThere ws name → ⊥) → vs ≡ ws → IsDecided (DropsName now.machine name) now (stood g limit table vs ps fs) (Refused Unknown)
   unknown_watch vs name begun none is =
-      let m = (stood g limit table ws ps).machine in
-      subst (λ (s : Standing). IsDecided (DropsName s.machine name) s (stood g limit table vs ps) (Refused Unknown)) view
-      (said_alike (stood g limit table ws ps) (stood g limit table vs ps) (Refused Unknown) (subst (λ (us : List Watch). IsAlike (stood g limit table ws ps) (stood g limit table us ps)) (sym is) (alike_same (stood g limit table ws ps)))
+      let m = (stood g limit table ws ps fs).machine in
+      subst (λ (s : Standing). IsDecided (DropsName s.machine name) s (stood g limit table vs ps fs) (Refused Unknown)) view
+      (said_alike (stood g limit table ws ps fs) (stood g limit table vs ps fs) (Refused Unknown) (subst (λ (us : List Watch). IsAlike (stood g limit table ws ps fs) (stood g limit table us ps fs)) (sym is) (alike_same (stood g limit table ws ps fs)))
       (refusal m (NameBreaks m.graph m.watches name) name_rules (DropsWatch m name) Unknown (is_unknown m name begun (λ there. none (watched_plain ws name there))) _ refl))
 
 -- what is decided of a session is decided of one that is alike

@@ -10,7 +10,7 @@ use Rattle.itpg_edit.specs.declared.edit.Edit.{Edit}
 use Rattle.itpg_edit.specs.Rules.{FirstOf, NoneOf, Broken}
 use Rattle.itpg_base.specs.declared.touch.Touch.{Touch}
 use Rattle.itpg_edit.specs.Next.{Makes as MakesGraph}
-use Rattle.edit_reader.specs.Readings.{Reading, Nothing, Changes, Asks, Wants, Watches, Shows, Unwatches, Ticks, Opens, Closes, AsksIn}
+use Rattle.edit_reader.specs.Readings.{Reading, Nothing, Changes, Asks, Wants, Watches, Shows, Unwatches, Ticks, Opens, Closes, AsksIn, Follows, Nears, Unfollows}
 use Rattle.edit_reader.specs.declared.line.Wanted.{Wanted}
 use Rattle.edit_reader.specs.Lines.{LineOf}
 use Rattle.path_ast.specs.Terms.{QueryTerm}
@@ -22,7 +22,7 @@ use Rattle.itpg_session.specs.PlainPins.{Pin, IsPinned}
 use Rattle.itpg_session.specs.Rules.{QueryBreaks, WatchBreaks, NameBreaks, TickBreaks, OpenBreaks, PinBreaks, ask_rules, watch_rules, name_rules, tick_rules, open_rules}
 use Rattle.itpg_session.specs.Replies.{Reply, Bad, Refused, IsReply}
 use Rattle.itpg_session.specs.MachineLaws.{FrontReplies}
-use Rattle.itpg_session.specs.Machine.{Machine, Turn, Refuses, AsksText, WantsText, WatchesText, WatchesQuery, AddsWatch, ShowsName, DropsWatch, DropsName, TicksOrNot, OpensName, ClosesName, AsksPinQuery, AsksPinText, Answers, TurnOf, Replies, quiet_turn, told}
+use Rattle.itpg_session.specs.Machine.{Machine, Turn, Refuses, AsksText, WantsText, WatchesText, WatchesQuery, AddsWatch, ShowsName, DropsWatch, DropsName, TicksOrNot, OpensName, ClosesName, AsksPinQuery, AsksPinText, FollowsText, NearsName, UnfollowsName, Answers, TurnOf, Replies, quiet_turn, told}
 
 module _ (limit : ℕ) (m : Machine) where
   pub turn_read : (reading : Reading) (t : Turn) → Answers limit m reading t → TurnOf limit m (Ok reading) t
@@ -83,6 +83,18 @@ module _ (limit : ℕ) (m : Machine) where
   pub asks_in_answers : (name : Word) (text : List ℕ) (t : Turn) → AsksPinText limit m name text t → Answers limit m (AsksIn name text) t
   unfolding Answers
   asks_in_answers name text t a = a
+
+  pub follows_answers : (name : Word) (text : List ℕ) (t : Turn) → FollowsText m name text t → Answers limit m (Follows name text) t
+  unfolding Answers
+  follows_answers name text t a = a
+
+  pub nears_answers : (name id : Word) (t : Turn) → NearsName limit m name id t → Answers limit m (Nears name id) t
+  unfolding Answers
+  nears_answers name id t a = a
+
+  pub unfollows_answers : (name : Word) (t : Turn) → UnfollowsName m name t → Answers limit m (Unfollows name) t
+  unfolding Answers
+  unfollows_answers name t a = a
 
   pub pin_bad : (name : Word) (text : List ℕ) (code : TextCode) → FaultOf text code → (t : Turn) → t ≡ told m (Bad code) → AsksPinText limit m name text t
   pin_bad name text code fault t is = inl (code, fault, is)

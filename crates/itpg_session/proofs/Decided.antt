@@ -17,14 +17,14 @@ use Rattle.itpg_session.specs.PlainWatches.{PlainWatch, IsWatched}
 use Rattle.itpg_session.specs.PlainPins.{Pin, IsPinned}
 use Rattle.itpg_session.specs.Rules.{QueryBreaks, WatchBreaks, NameBreaks, TickBreaks, OpenBreaks, PinBreaks}
 
-decide_same : (a b : Word) → Decided (a ≡ b)
+pub decide_same : (a b : Word) → Decided (a ≡ b)
 decide_same a b = by_test (pointwise nat_eq a b) refl
   where
     by_test : (t : Bool) → pointwise nat_eq a b ≡ t → Decided (a ≡ b)
     by_test true e = inl (word_same a b e)
     by_test false e = inr (λ k. let r : pointwise nat_eq a a ≡ true = word_refl a in let s : pointwise nat_eq a b ≡ true = sym (ap (pointwise nat_eq a) k) ∙ r in let no : ⊥ = cc in no)
 
-decide_begun : (b : Option Begun) → Decided (IsNone b)
+pub decide_begun : (b : Option Begun) → Decided (IsNone b)
 decide_begun None = inl refl
 decide_begun (Some b) = inr (λ e. let no : ⊥ = cc in no)
 
@@ -57,7 +57,7 @@ decide_watched (w ∷ ws) name = elim (decide_same w.name name) [
   ]
 ]
 
-decide_not : {P : Type 0} → Decided P → Decided (P → ⊥)
+pub decide_not : {P : Type 0} → Decided P → Decided (P → ⊥)
 decide_not (inl p) = inr (λ n. n p)
 decide_not (inr n) = inl n
 

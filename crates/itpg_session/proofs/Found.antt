@@ -13,7 +13,7 @@ use Rattle.itpg_session.specs.PlainWatches.{plain}
 use Rattle.itpg_session.specs.Ticks.{Ticked, StaysWide, Moves, IsTicked, IsUnmoved}
 use Rattle.itpg_session.specs.Questions.{HasAnswer}
 use Rattle.itpg_session.specs.Keeping.{AreWatchesRight, IsWorked}
-use Rattle.itpg_session.proofs.Plain.{standing_at}
+use Rattle.itpg_session.proofs.NamedLists.{found_at}
 
 -- ---- one watch of those that stand well
 
@@ -21,7 +21,7 @@ module _ (g : Graph) (limit : ℕ) (nodes : List PlanNode) (ws : List Watch) (ri
   -- its plan is the node of its query
   pub planned_at : (plan : ℕ) (q : QueryTerm) → IsSomeAnd (slice_get ws i) (λ w. w.plan ≡ plan) → IsSomeAnd (slice_get ws i) (λ w. w.query ≡ q) → IsNodeOf nodes plan (narrowed_member q.path All All)
   planned_at plan q numbered asks =
-      let at = standing_at (λ w. w.plan ≡ plan) ws i numbered in
+      let at = found_at (λ w. w.plan ≡ plan) ws i numbered in
       let same : at.0.query ≡ q = subst (λ (o : Option Watch). IsSomeAnd o (λ w. w.query ≡ q)) at.2 asks in
       subst (λ (r : QueryTerm). IsNodeOf nodes plan (narrowed_member r.path All All)) same
       (subst (λ (n : ℕ). IsNodeOf nodes n (narrowed_member at.0.query.path All All)) at.3 (right at.0 at.1).planned)
@@ -29,7 +29,7 @@ module _ (g : Graph) (limit : ℕ) (nodes : List PlanNode) (ws : List Watch) (ri
   -- a kept answer, and a copy of it, is its query's answer
   pub kept_at : (answer copy : Answered) → IsSomeAnd (slice_get ws i) (λ w. w.now ≡ Some answer) → copy ≡ answer → IsSomeAnd (slice_get ws i) (λ w. HasAnswer g limit w.query copy)
   kept_at answer copy kept same =
-      let at = standing_at (λ w. w.now ≡ Some answer) ws i kept in
+      let at = found_at (λ w. w.now ≡ Some answer) ws i kept in
       let has : HasAnswer g limit at.0.query answer = subst (λ (o : Option Answered). IfSome o (HasAnswer g limit at.0.query)) at.3 (right at.0 at.1).answered in
       subst (λ (o : Option Watch). IsSomeAnd o (λ w. HasAnswer g limit w.query copy)) (sym at.2) (subst (HasAnswer g limit at.0.query) (sym same) has)
 
@@ -41,7 +41,7 @@ module _ (g : Graph) (limit : ℕ) (nodes : List PlanNode) (ws : List Watch) (ri
   pub unmoved_ticked : (x : Ticked) → IsUnmoved name answer x → IsSomeAnd (slice_get ws i) (λ w. IsTicked g limit (plain w) x)
   unmoved_ticked (StaysWide other) is = absurd is
   unmoved_ticked (Moves other now gained lost) is =
-      let at = standing_at (λ w. (w.base ≡ answer) × (w.now ≡ Some answer)) ws i settled in
+      let at = found_at (λ w. (w.base ≡ answer) × (w.now ≡ Some answer)) ws i settled in
       let both = at.3 in
       let own : at.0.name ≡ name = subst (λ (o : Option Watch). IsSomeAnd o (λ w. w.name ≡ name)) at.2 named in
       let has : HasAnswer g limit at.0.query answer = subst (λ (o : Option Answered). IfSome o (HasAnswer g limit at.0.query)) both.1 (right at.0 at.1).answered in

@@ -8,7 +8,7 @@ use Rattle.itpg_base.specs.declared.text_code.TextCode.{TextCode}
 use Rattle.itpg_edit.specs.declared.edit.Edit.{Edit}
 use Rattle.itpg_edit.specs.Rules.{Breaks, rules_of}
 use Rattle.itpg_edit.specs.Sites.{HasMoments, HasLabels}
-use Rattle.edit_reader.specs.Readings.{Reading, Nothing, Changes, Asks, Wants, Watches, Shows, Unwatches, Ticks, Opens, Closes, AsksIn}
+use Rattle.edit_reader.specs.Readings.{Reading, Nothing, Changes, Asks, Wants, Watches, Shows, Unwatches, Ticks, Opens, Closes, AsksIn, Follows, Nears, Unfollows}
 use Rattle.edit_reader.specs.Lines.{LineOf}
 use Rattle.edit_reader.specs.Moments.{AsksOfMoments, AsksForLabels}
 use Rattle.match_parser.specs.Reading.{Reads}
@@ -16,15 +16,17 @@ use Rattle.match_parser.proofs.InRange.{asks_for_one}
 use Rattle.path_ast.specs.Terms.{QueryTerm}
 use Rattle.standing_queries.specs.Watches.{IsOfKind}
 use Rattle.itpg_session.specs.PlainWatches.{PlainWatch, IsWatched, new_watch, marked_at}
-use Rattle.itpg_session.specs.Rules.{WatchBreaks, NameBreaks, TickBreaks, OpenBreaks, PinBreaks, watch_rules, name_rules, tick_rules, open_rules}
+use Rattle.itpg_session.specs.Rules.{WatchBreaks, NameBreaks, TickBreaks, OpenBreaks, PinBreaks, FollowBreaks, UnfollowBreaks, NearBreaks, watch_rules, name_rules, tick_rules, open_rules}
 use Rattle.itpg_session.specs.Watching.{AsksForOne}
 use Rattle.itpg_session.specs.Replies.{Reply, Silent, Bad, Refused, Wide, Rows, Counted, Shown, OfPin, PerWatch, IsReply}
-use Rattle.itpg_session.specs.Machine.{Machine, IsGood, Turn, Refuses, AsksText, WatchesText, AddsWatch, ShowsWatch, DropsWatch, TicksAll, OpensPin, ClosesPin, Answers, TurnOf, Replies, after}
+use Rattle.itpg_session.specs.Machine.{Machine, IsGood, Turn, Refuses, AsksText, WatchesText, AddsWatch, ShowsWatch, DropsWatch, TicksAll, OpensPin, ClosesPin, FollowsText, AddsFollow, DropsFollow, TellsNear, Answers, TurnOf, Replies, after}
 use Rattle.itpg_session.specs.MachineLaws.{GoodReply}
 use Rattle.itpg_session.proofs.PinTurns.{of_pin_after, good_opened, good_closed}
+use Rattle.itpg_session.proofs.FollowTurns.{near_after, good_followed, good_unfollowed}
 use Rattle.itpg_session.proofs.WantedReplies.{each_wanted}
 use Rattle.standing_queries.proofs.Named.{more_ordered}
-use Rattle.itpg_session.proofs.Watching.{without_among, without_ordered, kind_at_first, each_added}
+use Rattle.itpg_session.proofs.NamedLists.{left_among, left_ordered}
+use Rattle.itpg_session.proofs.Watching.{kind_at_first, each_added}
 use Rattle.itpg_session.proofs.Marks.{AreRemarked, remarked_at, remarked_after, differ_remarked, each_remarked}
 use Rattle.itpg_session.proofs.TickSteps.{among_moved, differ_moved}
 use Rattle.itpg_session.proofs.Changing.{kinds_moved}
@@ -63,6 +65,7 @@ module _ (below : Below) (limit : ℕ) (m : Machine) (good : IsGood m) where
         asks = each_added (λ (w : PlainWatch). AsksForOne w.query) m.watches (new_watch name q) good.asks (asks_for_one text q reads);
         kinds = each_added (λ (w : PlainWatch). IsOfKind w.query w.base) m.watches (new_watch name q) good.kinds (kind_at_first q);
         pins = good.pins;
+        follows = good.follows;
       })
 
   good_watch : (name : Word) (text : List ℕ) (t : Turn) → WatchesText m name text t → IsGood t.next
@@ -78,6 +81,7 @@ module _ (below : Below) (limit : ℕ) (m : Machine) (good : IsGood m) where
     asks = each_remarked (λ (w : PlainWatch). AsksForOne w.query) (λ w mark h. h) m.watches ws same good.asks;
     kinds = each_remarked (λ (w : PlainWatch). IsOfKind w.query w.base) (λ w mark h. h) m.watches ws same good.kinds;
     pins = good.pins;
+    follows = good.follows;
   }
 
   good_change : (edit : Edit) (t : Turn) → HasMoments edit → HasLabels edit → Answers limit m (Changes edit) t → IsGood t.next
@@ -94,10 +98,11 @@ module _ (below : Below) (limit : ℕ) (m : Machine) (good : IsGood m) where
   good_dropped : (name : Word) (t : Turn) → DropsWatch m name t → IsGood t.next
   good_dropped name t a = subst (λ (u : Turn). IsGood u.next) (sym a.is) (record {
     graph = good.graph;
-    differ = without_ordered name m.watches good.differ;
-    asks = λ w h. good.asks w (without_among name m.watches w h);
-    kinds = λ w h. good.kinds w (without_among name m.watches w h);
+    differ = left_ordered (λ (w : PlainWatch). w.name) name m.watches good.differ;
+    asks = λ w h. good.asks w (left_among (λ (w : PlainWatch). w.name) name m.watches w h);
+    kinds = λ w h. good.kinds w (left_among (λ (w : PlainWatch). w.name) name m.watches w h);
     pins = good.pins;
+    follows = good.follows;
   })
 
   -- other bases
@@ -108,11 +113,20 @@ module _ (below : Below) (limit : ℕ) (m : Machine) (good : IsGood m) where
     asks = λ w h. let v = among_moved m.watches a.found w h in subst AsksForOne v.3 (good.asks v.0 v.1);
     kinds = kinds_moved m.graph limit m.watches a.found a.finds good.kinds;
     pins = good.pins;
+    follows = good.follows;
   })
 
   good_of : (broken : RuleCode → Type 0) (rules : List RuleCode) (Other : Turn → Type 0) → ((t : Turn) → Other t → IsGood t.next) → (t : Turn) → Refuses m broken rules t ⊎ Other t → IsGood t.next
   good_of broken rules Other other t (inl a) = good_refusal broken rules t a
   good_of broken rules Other other t (inr b) = other t b
+
+  good_follow : (name : Word) (text : List ℕ) (t : Turn) → FollowsText m name text t → IsGood t.next
+  good_follow name text t (inl (c, f, e)) = same_good t (sym (ap (λ (u : Turn). u.next) e))
+  good_follow name text t (inr (q, s, inl b)) = same_good t (sym (ap (λ (u : Turn). u.next) b.1))
+  good_follow name text t (inr (q, s, inr (both, b))) = good_of (FollowBreaks m.graph m.follows name q) watch_rules (AddsFollow m name q) (good_followed limit m good name q) t b
+
+  good_near : (name id : Word) (t : Turn) → TellsNear limit m name id t → IsGood t.next
+  good_near name id t a = same_good t (near_after limit m (a.follow).query a.object a.reply a.finds ∙ sym (ap (λ (u : Turn). u.next) a.is))
 
   good_answer : (reading : Reading) (t : Turn) → AsksOfMoments reading → AsksForLabels reading → Answers limit m reading t → IsGood t.next
   unfolding Answers
@@ -131,6 +145,9 @@ module _ (below : Below) (limit : ℕ) (m : Machine) (good : IsGood m) where
   good_answer (AsksIn name text) t moments labels (inl (code, fault, is)) = same_good t (sym (ap (λ (u : Turn). u.next) is))
   good_answer (AsksIn name text) t moments labels (inr (q, reads, inl a)) = good_refusal (PinBreaks m.graph m.pins name) name_rules t a
   good_answer (AsksIn name text) t moments labels (inr (q, reads, inr a)) = same_good t (of_pin_after (a.pin).graph limit q m a.place a.reply a.replies ∙ sym (ap (λ (u : Turn). u.next) a.is))
+  good_answer (Follows name text) t moments labels a = good_follow name text t a
+  good_answer (Nears name id) t moments labels a = good_of (NearBreaks m.graph m.follows name id) name_rules (TellsNear limit m name id) (good_near name id) t a
+  good_answer (Unfollows name) t moments labels a = good_of (UnfollowBreaks m.graph m.follows name) name_rules (DropsFollow m name) (good_unfollowed limit m good name) t a
 
   good_turn : (line : List ℕ) (what : Result Reading TextCode) (t : Turn) → LineOf line what → TurnOf limit m what t → IsGood t.next
   unfolding TurnOf

@@ -7,7 +7,8 @@ use Rattle.itpg_base.specs.Lists.{Among}
 use Rattle.itpg_base.proofs.Lists.{among_append}
 use Rattle.itpg_base.specs.declared.touch.Touch.{Touch}
 use Rattle.itpg_base.specs.declared.text_code.TextCode.{TextCode}
-use Rattle.edit_reader.specs.Readings.{Reading, Nothing, Changes, Asks, Wants, Watches, Shows, Unwatches, Ticks, Opens, Closes, AsksIn}
+use Rattle.itpg_base.specs.declared.text_code.TextCode.TheVariants.{Names}
+use Rattle.edit_reader.specs.Readings.{Reading, Nothing, Changes, Asks, Wants, Watches, Shows, Unwatches, Ticks, Opens, Closes, AsksIn, Follows, Nears, Unfollows}
 use Rattle.edit_reader.specs.declared.line.Wanted.{Wanted}
 use Rattle.path_ast.specs.Terms.{QueryTerm}
 use Rattle.label_scope.specs.declared.scope.Scope.TheVariants.{All}
@@ -19,12 +20,12 @@ use Rattle.standing_queries.specs.Watches.{Watch}
 use Rattle.itpg_session.specs.PlainWatches.{PlainWatch, all_plain, IsMarkedAfter, AreMarkedAfter, new_watch, without, marked_at}
 use Rattle.itpg_session.specs.Ticks.{Ticked, StaysWide, Moves, moved, all_moved}
 use Rattle.itpg_session.specs.declared.reply.Reply.{Reply as ReplyValue}
-use Rattle.itpg_session.specs.Replies.{Reply, line_reply, Silent, Bad, Refused, Wide, Rows, Counted, Shown, OfPin, PerWatch, IsReply, IsReplyTo, of_pin}
+use Rattle.itpg_session.specs.Replies.{Reply, line_reply, Silent, Bad, Refused, Wide, Rows, Counted, Shown, OfPin, PerWatch, IsFoundNear, IsReply, IsReplyTo, of_pin}
 use Rattle.itpg_session.specs.Wanting.{IsReplyWanted}
 use Rattle.itpg_session.specs.Keeping.{KeepsPath, KeepsFound, KeepsTicked, KeepAllTicked}
-use Rattle.itpg_session.specs.Machine.{Machine, Standing, Turn, Answers, TurnOf, WatchesText, AsksPinText, told, after, quiet_turn}
+use Rattle.itpg_session.specs.Machine.{Machine, Standing, Turn, Answers, TurnOf, WatchesText, AsksPinText, FollowsText, told, after, quiet_turn}
 use Rattle.itpg_session.specs.Steps.{StandsAs, IsDecided, Decides, WasFresh, KeepsFresh, KeepsReply}
-use Rattle.itpg_session.proofs.Watching.{without_among}
+use Rattle.itpg_session.proofs.NamedLists.{left_among}
 use Rattle.itpg_session.proofs.WantedReplies.{each_wanted}
 
 -- each of these fresh watches was fresh among those
@@ -55,7 +56,7 @@ none_added ws name q w a fresh =
     ⊎_elim (λ h. (w, h, refl, refl, fresh)) (λ l. ⊎_elim (λ e. let stale : false ≡ true = ap (λ (u : PlainWatch). u.fresh) e ∙ fresh in let no : ⊥ = cc in absurd no) (λ k. absurd k) l) (among_append ws (new_watch name q ∷ []) w a)
 
 none_without : (name : Word) (ws : List PlainWatch) → NoneFresher ws (without name ws)
-none_without name ws w a fresh = (w, without_among name ws w a, refl, refl, fresh)
+none_without name ws w a fresh = (w, left_among (λ (w : PlainWatch). w.name) name ws w a, refl, refl, fresh)
 
 -- a turn that says nothing makes no watch fresh
 module _ (limit : ℕ) (m : Machine) where
@@ -101,6 +102,23 @@ module _ (limit : ℕ) (m : Machine) where
   silent_pin n t name text is (inr (q, reads, inl refused)) = let s = says n t (Refused refused.rule) is refused.is in let no : ⊥ = cc in no
   silent_pin n t name text is (inr (q, reads, inr a)) = silent_of_pin a.pin.graph q a.place a.reply (says n t (of_pin a.place a.reply) is a.is) a.replies
 
+  silent_follow : (n : Machine) (t : Turn) (name : Word) (text : List ℕ) → told n Silent ≡ t → FollowsText m name text t → NoneFresher m.watches n.watches
+  silent_follow n t name text is (inl (code, fault, e)) = absurd (let s = says n t (Bad code) is e in let no : ⊥ = cc in no)
+  silent_follow n t name text is (inr (q, reads, inl (one, e))) = absurd (let s = says n t (Bad Names) is e in let no : ⊥ = cc in no)
+  silent_follow n t name text is (inr (q, reads, inr (both, inl refused))) = absurd (let s = says n t (Refused refused.rule) is refused.is in let no : ⊥ = cc in no)
+  silent_follow n t name text is (inr (q, reads, inr (both, inr added))) = same_watches n _ t is added.is (none_same m.watches)
+
+  silent_near : (q : QueryTerm) (o : ℕ) (reply : Reply) → IsFoundNear m.graph limit q o reply → Silent ≡ reply → ⊥
+  silent_near q o Silent a e = absurd a
+  silent_near q o (Bad code) a e = absurd a
+  silent_near q o (Refused rule) a e = absurd a
+  silent_near q o Wide a e = let no : ⊥ = cc in no
+  silent_near q o (Rows answer) a e = let no : ⊥ = cc in no
+  silent_near q o (Counted counts) a e = absurd a
+  silent_near q o (Shown i found) a e = absurd a
+  silent_near q o (OfPin i answer) a e = absurd a
+  silent_near q o (PerWatch found) a e = absurd a
+
   silent_wanted : (wanted : Wanted) (text : List ℕ) (reply : Reply) → IsReplyWanted m.graph limit wanted text reply → Silent ≡ reply → ⊥
   silent_wanted = each_wanted m.graph limit (λ reply. Silent ≡ reply → ⊥) (λ code e. let no : ⊥ = cc in no) (λ rule e. let no : ⊥ = cc in no) (λ e. let no : ⊥ = cc in no) (λ counts e. let no : ⊥ = cc in no)
       (λ rows declared e. let no : ⊥ = cc in no)
@@ -124,6 +142,11 @@ module _ (limit : ℕ) (m : Machine) where
   silent_answer n t (Closes name) is (inl refused) = absurd (let s = says n t (Refused refused.rule) is refused.is in let no : ⊥ = cc in no)
   silent_answer n t (Closes name) is (inr closed) = same_watches n _ t is closed.is (none_same m.watches)
   silent_answer n t (AsksIn name text) is a = absurd (silent_pin n t name text is a)
+  silent_answer n t (Follows name text) is a = silent_follow n t name text is a
+  silent_answer n t (Nears name id) is (inl refused) = absurd (let s = says n t (Refused refused.rule) is refused.is in let no : ⊥ = cc in no)
+  silent_answer n t (Nears name id) is (inr near) = absurd (silent_near (near.follow).query near.object near.reply near.finds (says n t near.reply is near.is))
+  silent_answer n t (Unfollows name) is (inl refused) = absurd (let s = says n t (Refused refused.rule) is refused.is in let no : ⊥ = cc in no)
+  silent_answer n t (Unfollows name) is (inr dropped) = same_watches n _ t is dropped.is (none_same m.watches)
 
   silent_turn : (n : Machine) (what : Result Reading TextCode) → TurnOf limit m what (told n Silent) → NoneFresher m.watches n.watches
   unfolding TurnOf
@@ -246,6 +269,23 @@ pin_keeps limit m s name text t (inl (code, fault, is)) = replied_keeps s t _ is
 pin_keeps limit m s name text t (inr (q, reads, inl refused)) = replied_keeps s t _ refused.is tt
 pin_keeps limit m s name text t (inr (q, reads, inr a)) = replied_keeps s t _ a.is (of_pin_keeps a.pin.graph limit s q a.place a.reply a.replies)
 
+follow_keeps : (m : Machine) (s : Standing) (name : Word) (text : List ℕ) (t : Turn) → FollowsText m name text t → KeepsReply t.reply s
+follow_keeps m s name text t (inl (code, fault, is)) = replied_keeps s t _ is tt
+follow_keeps m s name text t (inr (q, reads, inl (one, is))) = replied_keeps s t _ is tt
+follow_keeps m s name text t (inr (q, reads, inr (both, inl refused))) = replied_keeps s t _ refused.is tt
+follow_keeps m s name text t (inr (q, reads, inr (both, inr added))) = replied_keeps s t _ added.is tt
+
+near_keeps : (g : Graph) (limit : ℕ) (s : Standing) (q : QueryTerm) (o : ℕ) (reply : Reply) → IsFoundNear g limit q o reply → KeepsReply reply s
+near_keeps g limit s q o Silent a = absurd a
+near_keeps g limit s q o (Bad code) a = absurd a
+near_keeps g limit s q o (Refused rule) a = absurd a
+near_keeps g limit s q o Wide a = tt
+near_keeps g limit s q o (Rows answer) a = tt
+near_keeps g limit s q o (Counted counts) a = absurd a
+near_keeps g limit s q o (Shown i found) a = absurd a
+near_keeps g limit s q o (OfPin i answer) a = absurd a
+near_keeps g limit s q o (PerWatch found) a = absurd a
+
 -- the reading shows no watch and is no tick
 abbrev pub IsOther : Reading → Type 0
 IsOther (Shows name) = ⊥
@@ -269,6 +309,11 @@ other_keeps limit m s (Opens name) o t (inr opened) = replied_keeps s t _ opened
 other_keeps limit m s (Closes name) o t (inl refused) = replied_keeps s t _ refused.is tt
 other_keeps limit m s (Closes name) o t (inr closed) = replied_keeps s t _ closed.is tt
 other_keeps limit m s (AsksIn name text) o t a = pin_keeps limit m s name text t a
+other_keeps limit m s (Follows name text) o t a = follow_keeps m s name text t a
+other_keeps limit m s (Nears name id) o t (inl refused) = replied_keeps s t _ refused.is tt
+other_keeps limit m s (Nears name id) o t (inr near) = replied_keeps s t _ near.is (near_keeps m.graph limit s (near.follow).query near.object near.reply near.finds)
+other_keeps limit m s (Unfollows name) o t (inl refused) = replied_keeps s t _ refused.is tt
+other_keeps limit m s (Unfollows name) o t (inr dropped) = replied_keeps s t _ dropped.is tt
 
 pub decided_keeps : {E : Type 0} (W : Type 0) (reading : Reading) → IsOther reading → (old new : Standing) (result : Result ReplyValue E) → Decides (Answers old.limit old.machine reading) W old new result → IfOk result (λ reply. KeepsReply (line_reply reply) new)
 decided_keeps W reading o old new (Ok reply) d = other_keeps old.limit old.machine new reading o _ d.turns

@@ -8,7 +8,7 @@ use Rattle.itpg_edit.specs.Rules.{Unbroken, Breaks, rules_of}
 use Rattle.itpg_edit.proofs.FirstOf.{first_or_unbroken}
 use Rattle.itpg_edit.specs.Next.{Makes as MakesGraph}
 use Rattle.edit_reader.specs.declared.line.Line.{Line}
-use Rattle.edit_reader.specs.Readings.{Reading, Nothing, Changes, Asks, Wants, Watches, Shows, Unwatches, Ticks, Opens, Closes, AsksIn, reading_of, told as read_as}
+use Rattle.edit_reader.specs.Readings.{Reading, Nothing, Changes, Asks, Wants, Watches, Shows, Unwatches, Ticks, Opens, Closes, AsksIn, Follows, Nears, Unfollows, reading_of, told as read_as}
 use Rattle.edit_reader.specs.Lines.{LineOf}
 use Rattle.plan_cache.specs.Nodes.{Table}
 use Rattle.itpg_pins.specs.Pins.{Held}
@@ -37,6 +37,9 @@ reading_leaves s Ticks = none_for (IsStale s.machine.watches) s.table
 reading_leaves s (Opens name) = refl
 reading_leaves s (Closes name) = refl
 reading_leaves s (AsksIn name text) = refl
+reading_leaves s (Follows name text) = refl
+reading_leaves s (Nears name id) = refl
+reading_leaves s (Unfollows name) = refl
 
 so_leaves : (s : Standing) (what : Result Reading TextCode) → LeavesSo what s s
 so_leaves s (Ok reading) = reading_leaves s reading
@@ -59,6 +62,9 @@ pins_same Ticks old new is = is
 pins_same (Opens name) old new is = inr is
 pins_same (Closes name) old new is = inr is
 pins_same (AsksIn name text) old new is = inr is
+pins_same (Follows name text) old new is = is
+pins_same (Nears name id) old new is = is
+pins_same (Unfollows name) old new is = is
 
 so_pins_same : (what : Result Reading TextCode) (old new : Standing) → new.pins ≡ old.pins → LeavesPinsSo what old new
 so_pins_same (Ok reading) old new is = pins_same reading old new is
@@ -80,6 +86,9 @@ pins_on Ticks old mid new is a = is ∙ a
 pins_on (Opens name) old mid new is a = subst (λ (ps : List Held). (ps ≡ old.pins ++ held name old.machine.graph old.table ∷ []) ⊎ (ps ≡ old.pins)) (sym is) a
 pins_on (Closes name) old mid new is a = subst (λ (ps : List Held). (ps ≡ without_held name old.pins) ⊎ (ps ≡ old.pins)) (sym is) a
 pins_on (AsksIn name text) old mid new is a = subst (λ (ps : List Held). AddsPinText name text old.pins ps) (sym is) a
+pins_on (Follows name text) old mid new is a = is ∙ a
+pins_on (Nears name id) old mid new is a = is ∙ a
+pins_on (Unfollows name) old mid new is a = is ∙ a
 
 so_pins_on : (what : Result Reading TextCode) (old mid new : Standing) → new.pins ≡ mid.pins → LeavesPinsSo what old mid → LeavesPinsSo what old new
 so_pins_on (Ok reading) old mid new is a = pins_on reading old mid new is a
@@ -110,6 +119,9 @@ shows_asks s Ticks answer k = tt
 shows_asks s (Opens name) answer k = tt
 shows_asks s (Closes name) answer k = tt
 shows_asks s (AsksIn name text) answer k = absurd k
+shows_asks s (Follows name text) answer k = tt
+shows_asks s (Nears name id) answer k = tt
+shows_asks s (Unfollows name) answer k = tt
 
 pub kept_asks : (s : Standing) (line : List ℕ) (what : Result Line TextCode) (answer : Answered) → ((other : Result Reading TextCode) → LineOf line other → other ≡ read_as what) → IsOkAnd what (λ l. ShowsKept s (reading_of l) answer) → KeepsAskedLine line s s
 kept_asks s line (Ok l) answer only kept = λ other of. subst (λ (w : Result Reading TextCode). KeepsAskedSo w s s) (sym (only other of)) (shows_asks s (reading_of l) answer kept)
@@ -184,6 +196,9 @@ module _ (old mid new : Standing) (table : new.table ≡ mid.table) (graph : new
   reading_on (Opens name) a = table ∙ a
   reading_on (Closes name) a = table ∙ a
   reading_on (AsksIn name text) a = table ∙ a
+  reading_on (Follows name text) a = table ∙ a
+  reading_on (Nears name id) a = table ∙ a
+  reading_on (Unfollows name) a = table ∙ a
 
   so_on : (what : Result Reading TextCode) → LeavesSo what old mid → LeavesSo what old new
   so_on (Ok reading) a = reading_on reading a
@@ -219,6 +234,9 @@ module _ (old mid new : Standing) (table : new.table ≡ mid.table) (pins : new.
   asked_on (Ok (Opens name)) a = tt
   asked_on (Ok (Closes name)) a = tt
   asked_on (Ok (AsksIn name text)) a = λ place answer turn. subst (λ (ps : List Held). IsSomeAnd (slice_get ps place) (λ p. KeepsText p.graph text p.table)) (sym pins) (a place answer turn)
+  asked_on (Ok (Follows name text)) a = tt
+  asked_on (Ok (Nears name id)) a = tt
+  asked_on (Ok (Unfollows name)) a = tt
   asked_on (Err code) a = tt
 
 pub asked_settled : (line : List ℕ) (what : Result Reading TextCode) (old mid new : Standing) (reply : Reply) (limit : ℕ) → ((other : Result Reading TextCode) → LineOf line other → other ≡ what)

@@ -18,7 +18,8 @@ use Rattle.itpg_session.specs.Keeping.{AddsOrRenews, KeepsPath, KeepsText}
 use Rattle.itpg_session.specs.Pinning.{AddsAt}
 use Rattle.itpg_session.specs.Machine.{Machine, Turn, AsksPinQuery, AsksPinText, told}
 use Rattle.itpg_session.proofs.Replying.{one_reply_to}
-use Rattle.itpg_session.proofs.PinLists.{held_at, pin_at, table_at}
+use Rattle.itpg_session.proofs.NamedLists.{found_at}
+use Rattle.itpg_session.proofs.PinLists.{pin_at, table_at}
 
 -- ---- the list of pins
 
@@ -54,7 +55,7 @@ pub record IsLent (limit : ℕ) (ps : List Held) (i : ℕ) (g : Graph) (given : 
 module _ (limit : ℕ) (ps : List Held) (i : ℕ) (empty given : Table) (mid : List Held) (is : mid ≡ retabled i empty ps) where
   pub lent : (g : Graph) → IsSomeAnd (slice_get ps i) (λ p. (given ≡ p.table) × IsTableRight p.graph limit given) → IsSomeAnd (slice_get mid i) (λ p. g ≡ p.graph) → IsLent limit ps i g given
   lent g old graph =
-      let h = held_at (λ p. (given ≡ p.table) × IsTableRight p.graph limit given) ps i old in
+      let h = found_at (λ p. (given ≡ p.table) × IsTableRight p.graph limit given) ps i old in
       let there : slice_get mid i ≡ Some (record h.0 { table = empty }) = ap (λ (v : List Held). slice_get v i) is ∙ table_at ps i h.0 empty h.2 in
       let same : g ≡ h.0.graph = of_some (λ (p : Held). g ≡ p.graph) mid i (record h.0 { table = empty }) there graph in
       let own = h.3 in
@@ -101,7 +102,7 @@ of_pin_is g limit q place i answer (PerWatch found) a e = absurd a.1
 module _ (limit : ℕ) (m : Machine) (name : Word) (ps : List Held) (pins : plain_pins ps ≡ m.pins) (place : ℕ) (named : IsSomeAnd (slice_get ps place) (λ p. p.name ≡ name)) where
   pub asked_pin : (q : QueryTerm) (reply : Reply) → NoneOf (PinBreaks m.graph m.pins name) name_rules → IsSomeAnd (slice_get m.pins place) (λ p. IsReplyTo p.graph limit q reply) → AsksPinQuery limit m name q (told m (of_pin place reply))
   asked_pin q reply unbroken replies =
-      let h = held_at (λ p. p.name ≡ name) ps place named in
+      let h = found_at (λ p. p.name ≡ name) ps place named in
       let at : slice_get m.pins place ≡ Some (plain_pin h.0) = ap (λ (v : List Pin). slice_get v place) (sym pins) ∙ pin_at ps place h.0 h.2 in
       inr (record { unbroken = unbroken; place = place; pin = plain_pin h.0; at = at; named = h.3; reply = reply; replies = of_some (λ p. IsReplyTo p.graph limit q reply) m.pins place (plain_pin h.0) at replies; is = refl })
 

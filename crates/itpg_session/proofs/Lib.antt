@@ -35,3 +35,13 @@ pub mod Settled
 pub mod KeptTicks
 pub mod FirstEdits
 pub mod WorkedFor
+pub mod NamedLists
+pub mod FollowLists
+pub mod FollowTurns
+pub mod FollowLeaving
+pub mod FollowLines
+pub mod Followed
+pub mod Sparing
+pub mod Nearby
+pub mod NearTelling
+pub mod NearKept

@@ -10,7 +10,7 @@ use Rattle.itpg_edit.specs.Rules.{Breaks, Broken, NoneOf, Unbroken, rules_of}
 use Rattle.itpg_edit.specs.Next.{Next}
 use Rattle.itpg_edit.specs.Sites.{HasMoments, HasLabels}
 use Rattle.itpg_edit.proofs.FirstOf.{first_unique, first_or_unbroken}
-use Rattle.edit_reader.specs.Readings.{Reading, Nothing, Changes, Asks, Wants, Watches, Shows, Unwatches, Ticks, Opens, Closes, AsksIn}
+use Rattle.edit_reader.specs.Readings.{Reading, Nothing, Changes, Asks, Wants, Watches, Shows, Unwatches, Ticks, Opens, Closes, AsksIn, Follows, Nears, Unfollows}
 use Rattle.edit_reader.specs.Lines.{LineOf}
 use Rattle.edit_reader.specs.Moments.{AsksOfMoments, AsksForLabels}
 use Rattle.edit_reader.specs.declared.line.Wanted.{Wanted}
@@ -20,12 +20,14 @@ use Rattle.itpg_base.proofs.Objects.{same_some}
 use Rattle.relation_rows.specs.Answered.{Answered}
 use Rattle.standing_queries.specs.Changes.{OneRest, SomeRest}
 use Rattle.itpg_session.specs.PlainWatches.{PlainWatch, AreMarkedAfter}
-use Rattle.itpg_session.specs.Rules.{WatchBreaks, NameBreaks, TickBreaks, OpenBreaks, PinBreaks, watch_rules, name_rules, tick_rules, open_rules}
+use Rattle.itpg_session.specs.Rules.{WatchBreaks, NameBreaks, TickBreaks, OpenBreaks, PinBreaks, FollowBreaks, UnfollowBreaks, NearBreaks, watch_rules, name_rules, tick_rules, open_rules}
 use Rattle.itpg_session.specs.Ticks.{Ticked}
 use Rattle.itpg_session.specs.Replies.{Bad, Refused, Shown, PerWatch, FindsFor}
-use Rattle.itpg_session.specs.Machine.{Machine, IsGood, Turn, Refuses, AsksText, WantsText, WatchesText, WatchesQuery, AddsWatch, ShowsWatch, DropsWatch, TicksAll, OpensPin, ClosesPin, AsksPin, AsksPinQuery, AsksPinText, Answers, TurnOf, Replies, told, quiet_turn}
+use Rattle.itpg_session.specs.Machine.{Machine, IsGood, Turn, Refuses, AsksText, WantsText, WatchesText, WatchesQuery, AddsWatch, ShowsWatch, DropsWatch, TicksAll, OpensPin, ClosesPin, AsksPin, AsksPinQuery, AsksPinText, FollowsText, FollowsQuery, AddsFollow, DropsFollow, TellsNear, Answers, TurnOf, Replies, told, quiet_turn}
 use Rattle.itpg_session.specs.MachineLaws.{OneReply}
 use Rattle.itpg_session.proofs.PinTurns.{one_asked_pin}
+use Rattle.itpg_session.proofs.Nearby.{NearLaws}
+use Rattle.itpg_session.proofs.FollowTurns.{one_near, one_follow_query}
 use Rattle.itpg_session.proofs.Replying.{TextLaws, one_asked, one_finding}
 use Rattle.itpg_session.proofs.WantedReplies.{one_wanted}
 use Rattle.standing_queries.proofs.Named.{one_place}
@@ -47,6 +49,7 @@ pub record Below : Type 0 where
   pub one_next : (g x y : Graph) (edit : Edit) → Good g → Next g edit x → Next g edit y → x ≡ y
   pub some_next : (g : Graph) (edit : Edit) → Good g → Unbroken g edit → (new : Graph) × Next g edit new
   pub texts : TextLaws
+  pub near : NearLaws
   pub one_rest : OneRest
   pub some_rest : SomeRest
 
@@ -108,6 +111,14 @@ module _ (below : Below) (limit : ℕ) (m : Machine) (good : IsGood m) where
   one_pin_text name text x y (inr (p, r, a)) (inl (d, h, k)) = absurd (below.texts.apart text p d r h)
   one_pin_text name text x y (inr (p, r, a)) (inr (q, s, b)) = one_pin_query name q x y (subst (λ (q : QueryTerm). AsksPinQuery limit m name q x) (below.texts.one_query text p q r s) a) b
 
+  one_follow_text : (name : Word) (text : List ℕ) (x y : Turn) → FollowsText m name text x → FollowsText m name text y → x ≡ y
+  one_follow_text name text x y (inl (c, f, e)) (inl (d, h, k)) = e ∙ ap (λ (c : TextCode). told m (Bad c)) (below.texts.one_fault text c d f h) ∙ sym k
+  one_follow_text name text x y (inl (c, f, e)) (inr (q, s, b)) = absurd (below.texts.apart text q c s f)
+  one_follow_text name text x y (inr (p, r, a)) (inl (d, h, k)) = absurd (below.texts.apart text p d r h)
+  one_follow_text name text x y (inr (p, r, a)) (inr (q, s, b)) =
+      one_follow_query m name (λ n u v c d. one_of (FollowBreaks m.graph m.follows name n) watch_rules (AddsFollow m name n) (λ t h. h.unbroken) (λ i j h k. h.is ∙ sym k.is) u v c d)
+      q x y (subst (λ (n : QueryTerm). FollowsQuery m name n x) (below.texts.one_query text p q r s) a) b
+
   one_answer : (reading : Reading) (x y : Turn) → Answers limit m reading x → Answers limit m reading y → x ≡ y
   unfolding Answers
   one_answer Nothing x y a b = a ∙ sym b
@@ -121,6 +132,9 @@ module _ (below : Below) (limit : ℕ) (m : Machine) (good : IsGood m) where
   one_answer (Opens name) x y a b = one_of (OpenBreaks m.graph m.pins name) open_rules (OpensPin m name) (λ t h. h.unbroken) (λ v w h k. h.is ∙ sym k.is) x y a b
   one_answer (Closes name) x y a b = one_of (PinBreaks m.graph m.pins name) name_rules (ClosesPin m name) (λ t h. h.unbroken) (λ v w h k. h.is ∙ sym k.is) x y a b
   one_answer (AsksIn name text) x y a b = one_pin_text name text x y a b
+  one_answer (Follows name text) x y a b = one_follow_text name text x y a b
+  one_answer (Nears name id) x y a b = one_of (NearBreaks m.graph m.follows name id) name_rules (TellsNear limit m name id) (λ t h. h.unbroken) (one_near limit m good name below.near id) x y a b
+  one_answer (Unfollows name) x y a b = one_of (UnfollowBreaks m.graph m.follows name) name_rules (DropsFollow m name) (λ t h. h.unbroken) (λ v w h k. h.is ∙ sym k.is) x y a b
 
   one_turn : (what : Result Reading TextCode) (x y : Turn) → TurnOf limit m what x → TurnOf limit m what y → x ≡ y
   unfolding TurnOf

@@ -14,7 +14,7 @@ use Rattle.itpg_session.specs.Replies.{Reply, Silent, Bad, Refused, Wide, Rows, 
 use Rattle.itpg_session.specs.Machine.{Machine, IsGood, Turn, OpensPin, ClosesPin, AsksPin, after, told}
 use Rattle.itpg_session.proofs.Decided.{some_pin}
 use Rattle.itpg_session.proofs.Replying.{one_reply_to, some_reply_to}
-use Rattle.itpg_session.proofs.PinLists.{left_ordered}
+use Rattle.itpg_session.proofs.NamedLists.{left_ordered}
 
 -- a reply to a question that is asked of a pin leaves the machine
 pub of_pin_after : (g : Graph) (limit : ℕ) (q : QueryTerm) (m : Machine) (place : ℕ) (reply : Reply) → IsReplyTo g limit q reply → m ≡ after m (of_pin place reply)
@@ -57,6 +57,7 @@ module _ (limit : ℕ) (m : Machine) (good : IsGood m) (name : Word) where
         asks = good.asks;
         kinds = good.kinds;
         pins = more_ordered (λ (p : Pin). p.name) m.pins (new_pin name m.graph) good.pins (λ p a e. free (p, a, e));
+        follows = good.follows;
       })
 
   pub good_closed : (t : Turn) → ClosesPin m name t → IsGood t.next
@@ -65,5 +66,6 @@ module _ (limit : ℕ) (m : Machine) (good : IsGood m) (name : Word) where
     differ = good.differ;
     asks = good.asks;
     kinds = good.kinds;
-    pins = left_ordered name m.pins good.pins;
+    pins = left_ordered (λ (p : Pin). p.name) name m.pins good.pins;
+    follows = good.follows;
   })

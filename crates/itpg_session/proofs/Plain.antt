@@ -1,6 +1,6 @@
 -- What the plain machine has of the watches that stand: the same changes lead to it from either.
-use Rattle.std.proofs.Common.{◌≡◌, inl, inr, ℕ, zero, suc, Bool, true, false, List, [], ◌∷◌, ◌++◌, length, Option, Some, refl, sym, ◌∙◌, ap, subst}
-use Rattle.std.specs.Prelude.{nat_eq, slice_get, option_map, is_some, if◌then◌else◌, IsSomeAnd}
+use Rattle.std.proofs.Common.{◌≡◌, inl, inr, ℕ, zero, suc, List, [], ◌∷◌, ◌++◌, length, Option, Some, refl, sym, ◌∙◌, ap, subst}
+use Rattle.std.specs.Prelude.{nat_eq, slice_get, option_map, is_some, IsSomeAnd}
 use Rattle.std.specs.Cmp.Lexicographic.{pointwise}
 use Rattle.std.proofs.lemmas.List.{map-append}
 use Rattle.itpg_base.specs.Words.{Word}
@@ -16,6 +16,7 @@ use Rattle.standing_queries.specs.Watches.{Watch, answered_now, without, IsWatch
 use Rattle.standing_queries.specs.Touched.{IsTouched, AreTouched}
 use Rattle.itpg_session.specs.PlainWatches.{PlainWatch, plain, all_plain, marked_at, without as plain_but, IsWatched, IsFresh, IsMarkedAfter, AreMarkedAfter}
 use Rattle.itpg_session.specs.Keeping.{IsReplanned, AreReplanned}
+use Rattle.itpg_session.proofs.NamedLists.{map_length, map_choice, map_among, among_map, found_at}
 use Rattle.itpg_session.specs.Ticks.{Ticked, StaysWide, Moves, settled, all_settled, moved, all_moved}
 
 -- ---- lists of them
@@ -24,16 +25,11 @@ pub plain_append : (ws vs : List Watch) → all_plain (ws ++ vs) ≡ all_plain w
 plain_append ws vs = map-append plain ws vs
 
 pub plain_length : (ws : List Watch) → length (all_plain ws) ≡ length ws
-plain_length [] = refl
-plain_length (w ∷ ws) = ap suc (plain_length ws)
-
-one_without : (b : Bool) (w : Watch) (xs : List Watch) (ys : List PlainWatch) → all_plain xs ≡ ys → all_plain (if b then xs else w ∷ xs) ≡ (if b then ys else plain w ∷ ys)
-one_without true w xs ys e = e
-one_without false w xs ys e = ap (λ (vs : List PlainWatch). plain w ∷ vs) e
+plain_length ws = map_length plain ws
 
 pub plain_without : (name : Word) (ws : List Watch) → all_plain (without name ws) ≡ plain_but name (all_plain ws)
 plain_without name [] = refl
-plain_without name (w ∷ ws) = one_without (pointwise nat_eq w.name name) w (without name ws) (plain_but name (all_plain ws)) (plain_without name ws)
+plain_without name (w ∷ ws) = map_choice plain (pointwise nat_eq w.name name) w (without name ws) (plain_but name (all_plain ws)) (plain_without name ws)
 
 -- ---- what stands at a place
 
@@ -56,25 +52,15 @@ said_standing P [] i h = absurd h
 said_standing P (w ∷ ws) zero h = h
 said_standing P (w ∷ ws) (suc i) h = said_standing P ws i h
 
--- the watch that stands at a place, of which this holds
-pub standing_at : (P : Watch → Type 0) (ws : List Watch) (i : ℕ) → IsSomeAnd (slice_get ws i) P → (w : Watch) × Among ws w × (slice_get ws i ≡ Some w) × P w
-standing_at P [] i h = absurd h
-standing_at P (w ∷ ws) zero h = (w, inl refl, refl, h)
-standing_at P (w ∷ ws) (suc i) h = let r = standing_at P ws i h in (r.0, inr r.1, r.2, r.3)
-
 -- the watch that the machine's watch at a place is of
 pub plain_of : (ws : List Watch) (i : ℕ) (v : PlainWatch) → slice_get (all_plain ws) i ≡ Some v → (w : Watch) × Among ws w × (slice_get ws i ≡ Some w) × (plain w ≡ v)
-plain_of ws i v e = standing_at (λ w. plain w ≡ v) ws i (said_standing (λ p. p ≡ v) ws i (subst (λ o. IsSomeAnd o (λ p. p ≡ v)) (sym e) refl))
+plain_of ws i v e = found_at (λ w. plain w ≡ v) ws i (said_standing (λ p. p ≡ v) ws i (subst (λ o. IsSomeAnd o (λ p. p ≡ v)) (sym e) refl))
 
 pub plain_among : (ws : List Watch) (w : Watch) → Among ws w → Among (all_plain ws) (plain w)
-plain_among [] w a = absurd a
-plain_among (v ∷ ws) w (inl e) = inl (ap plain e)
-plain_among (v ∷ ws) w (inr a) = inr (plain_among ws w a)
+plain_among ws w a = map_among plain ws w a
 
 pub among_plain : (ws : List Watch) (v : PlainWatch) → Among (all_plain ws) v → (w : Watch) × Among ws w × (plain w ≡ v)
-among_plain [] v a = absurd a
-among_plain (w ∷ ws) v (inl e) = (w, inl refl, e)
-among_plain (w ∷ ws) v (inr a) = let r = among_plain ws v a in (r.0, inr r.1, r.2)
+among_plain ws v a = among_map plain ws v a
 
 pub each_plain : (P : PlainWatch → Type 0) (ws : List Watch) → ((w : Watch) → Among ws w → P (plain w)) → (v : PlainWatch) → Among (all_plain ws) v → P v
 each_plain P ws all v a = let r = among_plain ws v a in subst P r.2 (all r.0 r.1)

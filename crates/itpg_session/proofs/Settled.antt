@@ -19,9 +19,11 @@ use Rattle.itpg_session.proofs.Told.{said_alike}
 use Rattle.itpg_session.proofs.TickSteps.{ticked_length}
 use Rattle.itpg_session.proofs.Changing.{right_settled}
 use Rattle.itpg_session.proofs.Plain.{plain_length, plain_marked, plain_settled, replanned_same}
+use Rattle.source_rows.specs.Follows.{Follow}
 use Rattle.itpg_pins.specs.Pins.{Held}
 use Rattle.itpg_session.specs.PlainPins.{plain_pins}
-use Rattle.itpg_session.proofs.Accepting.{stood}
+use Rattle.itpg_session.specs.PlainFollows.{plain_follows}
+use Rattle.itpg_session.specs.Machine.{stood}
 
 -- a place at which something stands is one of the list
 place_within : {X : Type 0} (xs : List X) (i : ℕ) (P : X → Type 0) → IsSomeAnd (slice_get xs i) P → i < length xs
@@ -71,27 +73,27 @@ module _ (g : Graph) (limit : ℕ) where
   pub as_many_ticked : (ws : List Watch) (found : List Ticked) → AreTicked g limit (all_plain ws) found → length found ≡ length ws
   as_many_ticked ws found finds = ticked_length g limit (all_plain ws) found finds ∙ plain_length ws
 
-module _ (g : Graph) (limit : ℕ) (table : Table) (ws : List Watch) (ps : List Held) (now : Standing) (view : stood g limit table ws ps ≡ now) where
+module _ (g : Graph) (limit : ℕ) (table : Table) (ws : List Watch) (ps : List Held) (fs : List Follow) (now : Standing) (view : stood g limit table ws ps fs ≡ now) where
   -- relations were kept, and nothing else
-  pub worked_alike : (left : Table) → IsAlike now (stood g limit left ws ps)
-  worked_alike left = subst (λ (s : Standing). IsAlike s (stood g limit left ws ps)) view (record { machine = refl; limit = refl; watches = replanned_same ws })
+  pub worked_alike : (left : Table) → IsAlike now (stood g limit left ws ps fs)
+  worked_alike left = subst (λ (s : Standing). IsAlike s (stood g limit left ws ps fs)) view (record { machine = refl; limit = refl; watches = replanned_same ws })
 
-  pub told_tick : (left : Table) (found : List Ticked) → NoneOf (TickBreaks g) tick_rules → AreTicked g limit (all_plain ws) found → IsDecided (TicksOrNot now.limit now.machine) now (stood g limit left ws ps) (PerWatch found)
+  pub told_tick : (left : Table) (found : List Ticked) → NoneOf (TickBreaks g) tick_rules → AreTicked g limit (all_plain ws) found → IsDecided (TicksOrNot now.limit now.machine) now (stood g limit left ws ps fs) (PerWatch found)
   told_tick left found unbroken finds =
-      subst (λ (s : Standing). IsDecided (TicksOrNot s.limit s.machine) s (stood g limit left ws ps) (PerWatch found)) view
-      (said_alike (stood g limit table ws ps) (stood g limit left ws ps) (PerWatch found) (record { machine = refl; limit = refl; watches = replanned_same ws })
+      subst (λ (s : Standing). IsDecided (TicksOrNot s.limit s.machine) s (stood g limit left ws ps fs) (PerWatch found)) view
+      (said_alike (stood g limit table ws ps fs) (stood g limit left ws ps fs) (PerWatch found) (record { machine = refl; limit = refl; watches = replanned_same ws })
       (inr (record { unbroken = unbroken; found = found; finds = finds; is = refl })))
 
   -- the session after a watch is shown, and after a tick
-  stands_with : (vs : List Watch) (us : List PlainWatch) → all_plain vs ≡ us → StandsAs (stood g limit table vs ps) (record { graph = g; watches = us; pins = plain_pins ps }) limit
-  stands_with vs us is = record { machine = ap (λ (xs : List PlainWatch). let m : Machine = record { graph = g; watches = xs; pins = plain_pins ps } in m) is; limit = refl }
+  stands_with : (vs : List Watch) (us : List PlainWatch) → all_plain vs ≡ us → StandsAs (stood g limit table vs ps fs) (record { graph = g; watches = us; pins = plain_pins ps; follows = plain_follows fs }) limit
+  stands_with vs us is = record { machine = ap (λ (xs : List PlainWatch). let m : Machine = record { graph = g; watches = xs; pins = plain_pins ps; follows = plain_follows fs } in m) is; limit = refl }
 
-  pub shown_stands : (vs : List Watch) (i : ℕ) (found : Option Answered) → vs ≡ answered_now i found ws → StandsAs (stood g limit table vs ps) (after now.machine (Shown i found)) now.limit
+  pub shown_stands : (vs : List Watch) (i : ℕ) (found : Option Answered) → vs ≡ answered_now i found ws → StandsAs (stood g limit table vs ps fs) (after now.machine (Shown i found)) now.limit
   shown_stands vs i found is =
-      subst (λ (s : Standing). StandsAs (stood g limit table vs ps) (after s.machine (Shown i found)) s.limit) view
+      subst (λ (s : Standing). StandsAs (stood g limit table vs ps fs) (after s.machine (Shown i found)) s.limit) view
       (stands_with vs (marked_at i (is_some found) (all_plain ws)) (ap all_plain is ∙ plain_marked ws i found))
 
-  pub ticked_stands : (vs : List Watch) (found : List Ticked) → vs ≡ all_settled ws found → StandsAs (stood g limit table vs ps) (after now.machine (PerWatch found)) now.limit
+  pub ticked_stands : (vs : List Watch) (found : List Ticked) → vs ≡ all_settled ws found → StandsAs (stood g limit table vs ps fs) (after now.machine (PerWatch found)) now.limit
   ticked_stands vs found is =
-      subst (λ (s : Standing). StandsAs (stood g limit table vs ps) (after s.machine (PerWatch found)) s.limit) view
+      subst (λ (s : Standing). StandsAs (stood g limit table vs ps fs) (after s.machine (PerWatch found)) s.limit) view
       (stands_with vs (all_moved (all_plain ws) found) (ap all_plain is ∙ plain_settled ws found))

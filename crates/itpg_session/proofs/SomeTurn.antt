@@ -8,24 +8,25 @@ use Rattle.itpg_base.specs.declared.text_code.TextCode.{TextCode}
 use Rattle.itpg_edit.specs.declared.edit.Edit.{Edit}
 use Rattle.itpg_edit.specs.Rules.{FirstOf, NoneOf}
 use Rattle.itpg_edit.specs.Next.{Makes as MakesGraph}
-use Rattle.edit_reader.specs.Readings.{Reading, Nothing, Changes, Asks, Wants, Watches, Shows, Unwatches, Ticks, Opens, Closes, AsksIn}
+use Rattle.edit_reader.specs.Readings.{Reading, Nothing, Changes, Asks, Wants, Watches, Shows, Unwatches, Ticks, Opens, Closes, AsksIn, Follows, Nears, Unfollows}
 use Rattle.edit_reader.specs.Lines.{LineOf}
 use Rattle.edit_reader.specs.declared.line.Wanted.{Wanted}
 use Rattle.match_parser.proofs.InRange.{asks_for_one}
 use Rattle.itpg_base.specs.declared.touch.Touch.{Touch}
-use Rattle.itpg_session.specs.Rules.{WatchBreaks, NameBreaks, TickBreaks, OpenBreaks, PinBreaks, watch_rules, name_rules, tick_rules, open_rules}
+use Rattle.itpg_session.specs.Rules.{WatchBreaks, NameBreaks, TickBreaks, OpenBreaks, PinBreaks, FollowBreaks, UnfollowBreaks, NearBreaks, watch_rules, name_rules, tick_rules, open_rules}
 use Rattle.itpg_session.specs.Replies.{Bad, Refused, Shown, PerWatch}
-use Rattle.itpg_session.specs.Machine.{Machine, IsGood, Turn, Refuses, AsksText, WantsText, WatchesText, AddsWatch, ShowsWatch, DropsWatch, TicksAll, OpensPin, ClosesPin, AsksPin, AsksPinText, Answers, Replies, told, quiet_turn}
+use Rattle.itpg_session.specs.Machine.{Machine, IsGood, Turn, Refuses, AsksText, WantsText, WatchesText, AddsWatch, ShowsWatch, DropsWatch, TicksAll, OpensPin, ClosesPin, AsksPin, AsksPinText, FollowsText, AddsFollow, DropsFollow, TellsNear, Answers, Replies, told, quiet_turn}
 use Rattle.itpg_session.specs.MachineLaws.{SomeReply}
 use Rattle.itpg_session.proofs.Decided.{first_or_none, decide_watch, decide_named, decide_tick, decide_open, decide_pin, some_watch}
 use Rattle.itpg_session.proofs.PinTurns.{some_asked_pin}
+use Rattle.itpg_session.proofs.FollowTurns.{decide_follow, decide_unfollow, decide_near, some_near, some_follow_query}
 use Rattle.itpg_session.proofs.Replying.{some_asked, some_finding}
 use Rattle.itpg_session.proofs.WantedReplies.{some_wanted}
 use Rattle.standing_queries.proofs.Named.{place_among}
 use Rattle.itpg_session.proofs.Marks.{some_marked}
 use Rattle.itpg_session.proofs.OneTouch.{some_touch}
 use Rattle.itpg_session.proofs.Changing.{some_tick}
-use Rattle.itpg_session.proofs.Answering.{replies_read, replies_bad, blank_answers, asks_answers, asked_asks, wants_answers, watches_answers, watch_bad, watch_read, shows_answers, unwatches_answers, ticks_answers, opens_answers, closes_answers, asks_in_answers, pin_bad, pin_read, edit_refused, refusal}
+use Rattle.itpg_session.proofs.Answering.{replies_read, replies_bad, blank_answers, asks_answers, asked_asks, wants_answers, watches_answers, watch_bad, watch_read, shows_answers, unwatches_answers, ticks_answers, opens_answers, closes_answers, asks_in_answers, follows_answers, nears_answers, unfollows_answers, pin_bad, pin_read, edit_refused, refusal}
 use Rattle.itpg_session.proofs.OneTurn.{Below}
 
 module _ (below : Below) (limit : ℕ) (m : Machine) (good : IsGood m) where
@@ -76,6 +77,13 @@ module _ (below : Below) (limit : ℕ) (m : Machine) (good : IsGood m) where
     | inr f ↦ (told m (Bad f.0), pin_bad limit m name text f.0 f.1 _ refl)
   ]
 
+  some_follow_text : (name : Word) (text : List ℕ) → (t : Turn) × FollowsText m name text t
+  some_follow_text name text = elim (below.texts.some_query text) [
+    | inl s ↦ let t = some_follow_query m name (λ q. some_of (FollowBreaks m.graph m.follows name q) watch_rules (AddsFollow m name q) (first_or_none (FollowBreaks m.graph m.follows name q) (decide_follow m.graph m.follows name q) watch_rules)
+        (λ none. (_, record { unbroken = none; is = refl }))) s.0 in (t.0, inr (s.0, s.1, t.1))
+    | inr f ↦ (told m (Bad f.0), inl (f.0, f.1, refl))
+  ]
+
   some_answer : (reading : Reading) → (t : Turn) × Answers limit m reading t
   some_answer Nothing = (quiet_turn m, blank_answers limit m)
   some_answer (Changes edit) = some_change edit
@@ -98,6 +106,13 @@ module _ (below : Below) (limit : ℕ) (m : Machine) (good : IsGood m) where
       let t = some_of (PinBreaks m.graph m.pins name) name_rules (ClosesPin m name) (first_or_none (PinBreaks m.graph m.pins name) (decide_pin m.graph m.pins name) name_rules) (λ none. (_, record { unbroken = none; is = refl })) in
       (t.0, closes_answers limit m name t.0 t.1)
   some_answer (AsksIn name text) = let t = some_pin_text name text in (t.0, asks_in_answers limit m name text t.0 t.1)
+  some_answer (Follows name text) = let t = some_follow_text name text in (t.0, follows_answers limit m name text t.0 t.1)
+  some_answer (Nears name id) =
+      let t = some_of (NearBreaks m.graph m.follows name id) name_rules (TellsNear limit m name id) (first_or_none (NearBreaks m.graph m.follows name id) (decide_near m.graph m.follows name id) name_rules) (some_near limit m good name below.near id) in
+      (t.0, nears_answers limit m name id t.0 t.1)
+  some_answer (Unfollows name) =
+      let t = some_of (UnfollowBreaks m.graph m.follows name) name_rules (DropsFollow m name) (first_or_none (UnfollowBreaks m.graph m.follows name) (decide_unfollow m.graph m.follows name) name_rules) (λ none. (_, record { unbroken = none; is = refl })) in
+      (t.0, unfollows_answers limit m name t.0 t.1)
 
   pub some_reply_of : (line : List ℕ) → (t : Turn) × Replies limit m line t
   some_reply_of line = by_line (below.some_line line)

@@ -1,11 +1,11 @@
--- A step: from what a line is to the line, and the show of a watch that is fresh.
-use Rattle.std.proofs.Common.{◌≡◌, inr, ℕ, zero, suc, List, [], ◌∷◌, length, Bool, true, refl, sym, ap, subst, ◌∙◌}
+-- A step: from what a line is to the line, and what is kept and asked for: the answer of a fresh watch, or the rows of an object.
+use Rattle.std.proofs.Common.{◌≡◌, inr, ℕ, zero, suc, List, [], ◌∷◌, length, Bool, true, false, refl, sym, ap, subst, ◌∙◌}
 use Rattle.std.specs.Prelude.{Result, Ok, Err, Option, Some, None, slice_get, is_some, IfSome, IsSomeAnd, IsOkAnd}
 use Rattle.itpg_base.specs.Words.{Word}
 use Rattle.itpg_base.specs.Graphs.{Graph}
 use Rattle.itpg_base.specs.declared.text_code.TextCode.{TextCode}
 use Rattle.edit_reader.specs.declared.line.Line.{Line}
-use Rattle.edit_reader.specs.Readings.{reading_of, told as read_as, Reading, Nothing, Changes, Asks, Wants, Watches, Shows, Unwatches, Ticks, Opens, Closes, AsksIn}
+use Rattle.edit_reader.specs.Readings.{reading_of, told as read_as, Reading, Nothing, Changes, Asks, Wants, Watches, Shows, Unwatches, Ticks, Opens, Closes, AsksIn, Follows, Nears, Unfollows}
 use Rattle.edit_reader.specs.Lines.{LineOf}
 use Rattle.relation_rows.specs.Answered.{Answered}
 use Rattle.row_printer.specs.Texts.{AreDeclared}
@@ -18,15 +18,21 @@ use Rattle.itpg_session.specs.Rules.{TickBreaks, tick_rules}
 use Rattle.itpg_session.specs.Questions.{HasAnswer}
 use Rattle.itpg_session.specs.Keeping.{AreWatchesRight}
 use Rattle.itpg_session.specs.PlainWatches.{PlainWatch, plain, IsFresh, marked_at}
-use Rattle.itpg_session.specs.Replies.{Shown, FindsFor}
+use Rattle.itpg_session.specs.Replies.{Reply, Rows, Shown, FindsFor}
+use Rattle.itpg_session.specs.Texts.{text_of, rows_text, fails}
+use Rattle.itpg_session.specs.PlainFollows.{plain_follow}
+use Rattle.itpg_session.specs.Following.{NearsKept}
 use Rattle.itpg_session.specs.Machine.{Machine, Standing, Turn, TurnOf, Replies, told, after}
-use Rattle.itpg_session.specs.Steps.{Decides, WhatWants, LineWants, ShowsNameKept, ShowsKept}
-use Rattle.itpg_session.proofs.Answering.{replies_read, shows_answers, may_name}
+use Rattle.itpg_session.specs.declared.reply.Seen.TheVariants.{Answered as SeenAnswered}
+use Rattle.itpg_session.specs.Steps.{Sees, Decides, WhatWants, LineWants, ShowsNameKept, ShowsKept}
+use Rattle.itpg_session.proofs.Answering.{replies_read, shows_answers, nears_answers, may_name}
+use Rattle.itpg_session.proofs.Nearby.{near_declared}
 use Rattle.itpg_session.proofs.Plain.{plain_at, plain_watched, fresh_plain}
+use Rattle.source_rows.specs.Follows.{Follow}
 use Rattle.itpg_pins.specs.Pins.{Held}
-use Rattle.itpg_session.proofs.Accepting.{stood}
+use Rattle.itpg_session.specs.Machine.{stood}
 use Rattle.itpg_session.proofs.Replying.{declared}
-use Rattle.itpg_session.proofs.Told.{decides_as}
+use Rattle.itpg_session.proofs.Told.{decides_as, rows_seen}
 
 -- the turns of what a line is are the line's
 pub line_turn : (limit : ℕ) (m : Machine) (line : List ℕ) (what : Result Reading TextCode) → LineOf line what → (t : Turn) → TurnOf limit m what t → Replies limit m line t
@@ -59,12 +65,12 @@ shown_declared g limit None (Some answer) finds = absurd finds
 shown_declared g limit (Some w) (Some answer) finds = declared g w.query.path w.query.first w.query.last answer finds.1
 
 -- the kept answer of a watch that stands
-pub keeps_shows : (g : Graph) (limit : ℕ) (table : Table) (ws : List Watch) (ps : List Held) (now : Standing) → stood g limit table ws ps ≡ now → AreWatchesRight g limit table.nodes ws → NoneOf (TickBreaks g) tick_rules
+pub keeps_shows : (g : Graph) (limit : ℕ) (table : Table) (ws : List Watch) (ps : List Held) (fs : List Follow) (now : Standing) → stood g limit table ws ps fs ≡ now → AreWatchesRight g limit table.nodes ws → NoneOf (TickBreaks g) tick_rules
     → (name : Word) (answer : Answered) → Keeps ws name answer → ShowsNameKept now name answer
-keeps_shows g limit table ws ps now view right begun name answer (w, among, named, is, kind) =
+keeps_shows g limit table ws ps fs now view right begun name answer (w, among, named, is, kind) =
     let at = place_among ws w among in
     subst (λ (s : Standing). ShowsNameKept s name answer) view (record {
-      unbroken = may_name (stood g limit table ws ps).machine name begun (λ none. none (plain_watched ws name (w, among, named)));
+      unbroken = may_name (stood g limit table ws ps fs).machine name begun (λ none. none (plain_watched ws name (w, among, named)));
       place = at.0;
       watch = plain w;
       at = plain_at ws at.0 w at.1;
@@ -74,19 +80,21 @@ keeps_shows g limit table ws ps now view right begun name answer (w, among, name
     })
 
 -- and where none is kept, none is shown so
-pub keeps_none : (g : Graph) (limit : ℕ) (table : Table) (ws : List Watch) (ps : List Held) (now : Standing) → stood g limit table ws ps ≡ now → (name : Word) → (IsFreshThere ws name → ⊥) → IsFresh now.machine.watches name → ⊥
-keeps_none g limit table ws ps now view name none fresh = none (fresh_plain ws name (subst (λ (s : Standing). IsFresh s.machine.watches name) (sym view) fresh))
+pub keeps_none : (g : Graph) (limit : ℕ) (table : Table) (ws : List Watch) (ps : List Held) (fs : List Follow) (now : Standing) → stood g limit table ws ps fs ≡ now → (name : Word) → (IsFreshThere ws name → ⊥) → IsFresh now.machine.watches name → ⊥
+keeps_none g limit table ws ps fs now view name none fresh = none (fresh_plain ws name (subst (λ (s : Standing). IsFresh s.machine.watches name) (sym view) fresh))
 
--- a line that shows a watch of which this answer is kept: its turn tells it, and leaves the machine
+-- a line that asks for this answer, which is kept: its turn tells it, and leaves the machine
 pub record KeptTurn (s : Standing) (line : List ℕ) (answer : Answered) : Type 0 where
-  pub place : ℕ
-  pub replies : Replies s.limit s.machine line (told s.machine (Shown place (Some answer)))
-  pub stays : after s.machine (Shown place (Some answer)) ≡ s.machine
+  pub reply : Reply
+  pub replies : Replies s.limit s.machine line (told s.machine reply)
+  pub stays : after s.machine reply ≡ s.machine
+  pub text : (number : ℕ) → text_of s.machine number reply ≡ rows_text s.machine.graph number answer
+  pub fine : fails reply ≡ false
   pub declared : AreDeclared (length s.machine.graph.objects) answer
 
 named_kept : (s : Standing) (line : List ℕ) (name : Word) (answer : Answered) → LineOf line (Ok (Shows name)) → ShowsNameKept s name answer → KeptTurn s line answer
 named_kept s line name answer is k = record {
-  place = k.place;
+  reply = Shown k.place (Some answer);
   replies = replies_read s.limit s.machine line (Shows name) is _ (shows_answers s.limit s.machine name _ (inr (record {
     unbroken = k.unbroken;
     place = k.place;
@@ -97,8 +105,31 @@ named_kept s line name answer is k = record {
     finds = k.answers;
     is = refl;
   })));
+  text = λ number. refl;
+  fine = refl;
   stays = ap (λ (ws : List PlainWatch). let m : Machine = record s.machine { watches = ws } in m) (marked_again s.machine.watches k.place k.watch k.at k.fresh);
   declared = declared s.machine.graph (k.watch).query.path (k.watch).query.first (k.watch).query.last answer k.answers.1;
+}
+
+near_kept : (s : Standing) (line : List ℕ) (name id : Word) (answer : Answered) → LineOf line (Ok (Nears name id)) → NearsKept s name id answer → KeptTurn s line answer
+near_kept s line name id answer is k = record {
+  reply = Rows answer;
+  replies = replies_read s.limit s.machine line (Nears name id) is _ (nears_answers s.limit s.machine name id _ (inr (record {
+    unbroken = k.unbroken;
+    place = k.place;
+    follow = plain_follow k.follow;
+    at = k.plain_at;
+    named = k.named;
+    object = k.object;
+    is_object = k.is_object;
+    reply = Rows answer;
+    finds = k.rows;
+    is = refl;
+  })));
+  stays = refl;
+  text = λ number. refl;
+  fine = refl;
+  declared = near_declared s.machine.graph s.limit (k.follow).query k.object answer k.rows;
 }
 
 pub kept_turn : (s : Standing) (line : List ℕ) (reading : Reading) (answer : Answered) → LineOf line (Ok reading) → ShowsKept s reading answer → KeptTurn s line answer
@@ -113,7 +144,16 @@ kept_turn s line Ticks answer is k = absurd k
 kept_turn s line (Opens name) answer is k = absurd k
 kept_turn s line (Closes name) answer is k = absurd k
 kept_turn s line (AsksIn name text) answer is k = absurd k
+kept_turn s line (Follows name text) answer is k = absurd k
+kept_turn s line (Nears name id) answer is k = near_kept s line name id answer is k
+kept_turn s line (Unfollows name) answer is k = absurd k
 
 pub kept_line : (s : Standing) (line : List ℕ) (what : Result Line TextCode) (answer : Answered) → LineOf line (read_as what) → IsOkAnd what (λ l. ShowsKept s (reading_of l) answer) → KeptTurn s line answer
 kept_line s line (Ok l) answer is k = kept_turn s line (reading_of l) answer is k
 kept_line s line (Err code) answer is k = absurd k
+
+-- what is seen of it
+pub kept_sees : (s : Standing) (line : List ℕ) (answer : Answered) (turn : KeptTurn s line answer) (number : ℕ) → Sees SeenAnswered (text_of s.machine number turn.reply) (fails turn.reply)
+kept_sees s line answer turn number =
+    subst (λ (b : Bool). Sees SeenAnswered (text_of s.machine number turn.reply) b) (sym turn.fine)
+    (subst (λ (text : List ℕ). Sees SeenAnswered text false) (sym (turn.text number)) (rows_seen s.machine.graph number answer))

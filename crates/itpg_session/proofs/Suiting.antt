@@ -4,20 +4,21 @@ use Rattle.std.specs.Prelude.{Result, Ok, Err, Option, Some, IfOk, slice_get, Is
 use Rattle.itpg_base.specs.Words.{Word}
 use Rattle.itpg_base.specs.declared.rule_code.RuleCode.{RuleCode}
 use Rattle.itpg_base.specs.declared.text_code.TextCode.{TextCode}
-use Rattle.edit_reader.specs.Readings.{Reading, Nothing, Changes, Asks, Wants, Watches, Shows, Unwatches, Ticks, Opens, Closes, AsksIn}
+use Rattle.edit_reader.specs.Readings.{Reading, Nothing, Changes, Asks, Wants, Watches, Shows, Unwatches, Ticks, Opens, Closes, AsksIn, Follows, Nears, Unfollows}
 use Rattle.edit_reader.specs.declared.line.Wanted.{Wanted}
 use Rattle.path_ast.specs.Terms.{QueryTerm}
-use Rattle.itpg_session.specs.Replies.{Reply, Silent, Bad, Refused, Wide, Rows, Counted, Shown, OfPin, PerWatch, FindsFor, IsReply, IsReplyTo, of_pin, line_reply}
+use Rattle.itpg_session.specs.Replies.{Reply, Silent, Bad, Refused, Wide, Rows, Counted, Shown, OfPin, PerWatch, FindsFor, IsFoundNear, IsReply, IsReplyTo, of_pin, line_reply}
 use Rattle.relation_rows.specs.Answered.{Answered}
 use Rattle.itpg_session.specs.PlainWatches.{PlainWatch}
 use Rattle.itpg_session.specs.PlainPins.{Pin}
-use Rattle.itpg_session.specs.Machine.{Machine, Standing, Turn, Refuses, WatchesText, WatchesQuery, AsksPinText, Answers, TurnOf}
+use Rattle.itpg_session.specs.Machine.{Machine, Standing, Turn, Refuses, WatchesText, WatchesQuery, AsksPinText, FollowsText, Answers, TurnOf}
 use Rattle.row_printer.specs.Texts.{AreDeclared}
 use Rattle.itpg_session.specs.Ticks.{AreTicked}
 use Rattle.itpg_session.specs.Steps.{IsAlike, Decides, Suits}
 use Rattle.itpg_session.specs.declared.reply.Reply.{Reply as ReplyValue}
 use Rattle.itpg_session.specs.Wanting.{IsReplyWanted}
 use Rattle.itpg_session.proofs.Replying.{declared, declared_asked}
+use Rattle.itpg_session.proofs.Nearby.{near_declared}
 use Rattle.itpg_session.proofs.WantedReplies.{each_wanted}
 
 module _ (s : Standing) where
@@ -69,6 +70,23 @@ module _ (s : Standing) where
   pin_text_suits name text t (inr (q, reads, inl a)) = replied t _ a.is tt
   pin_text_suits name text t (inr (q, reads, inr a)) = replied t _ a.is (pinned_suits a.place a.pin q a.reply a.at a.replies)
 
+  near_suits : (q : QueryTerm) (o : ℕ) (reply : Reply) → IsFoundNear s.machine.graph s.limit q o reply → Suits s reply
+  near_suits q o Silent a = absurd a
+  near_suits q o (Bad code) a = absurd a
+  near_suits q o (Refused rule) a = absurd a
+  near_suits q o Wide a = tt
+  near_suits q o (Rows answer) a = near_declared s.machine.graph s.limit q o answer a
+  near_suits q o (Counted counts) a = absurd a
+  near_suits q o (Shown i found) a = absurd a
+  near_suits q o (OfPin i answer) a = absurd a
+  near_suits q o (PerWatch found) a = absurd a
+
+  follow_suits : (name : Word) (text : List ℕ) (t : Turn) → FollowsText s.machine name text t → Suits s t.reply
+  follow_suits name text t (inl (code, fault, is)) = replied t _ is tt
+  follow_suits name text t (inr (q, reads, inl a)) = replied t _ a.1 tt
+  follow_suits name text t (inr (q, reads, inr (both, inl a))) = replied t _ a.is tt
+  follow_suits name text t (inr (q, reads, inr (both, inr a))) = replied t _ a.is tt
+
   answer_suits : (reading : Reading) (t : Turn) → Answers s.limit s.machine reading t → Suits s t.reply
   unfolding Answers
   answer_suits Nothing t a = replied t _ a tt
@@ -88,6 +106,11 @@ module _ (s : Standing) where
   answer_suits (Closes name) t (inl a) = replied t _ a.is tt
   answer_suits (Closes name) t (inr a) = replied t _ a.is tt
   answer_suits (AsksIn name text) t a = pin_text_suits name text t a
+  answer_suits (Follows name text) t a = follow_suits name text t a
+  answer_suits (Nears name id) t (inl a) = replied t _ a.is tt
+  answer_suits (Nears name id) t (inr a) = replied t _ a.is (near_suits (a.follow).query a.object a.reply a.finds)
+  answer_suits (Unfollows name) t (inl a) = replied t _ a.is tt
+  answer_suits (Unfollows name) t (inr a) = replied t _ a.is tt
 
   turn_suits : (what : Result Reading TextCode) (t : Turn) → TurnOf s.limit s.machine what t → Suits s t.reply
   unfolding TurnOf

@@ -1,25 +1,16 @@
 -- What holds of the watches of a machine, after each line.
-use Rattle.std.proofs.Common.{◌≡◌, ◌⊎◌, inl, inr, ⊎_elim, ℕ, zero, suc, ◌≤◌, List, [], ◌∷◌, ◌++◌, Bool, true, false, refl, sym, subst, arith}
+use Rattle.std.proofs.Common.{◌≡◌, ⊎_elim, ℕ, ◌≤◌, List, [], ◌∷◌, ◌++◌, Bool, true, false, refl, sym, subst, arith}
 use Rattle.std.specs.Prelude.{slice_get, IsSomeAnd, Some, if◌then◌else◌}
-use Rattle.itpg_base.specs.Words.{Word}
-use Rattle.itpg_base.specs.Lists.{Among, Ordered}
+use Rattle.itpg_base.specs.Lists.{Among}
 use Rattle.itpg_base.proofs.Lists.{among_append}
 use Rattle.relation_rows.specs.Answered.{Answered, pairs, times}
 use Rattle.path_ast.specs.Terms.{QueryTerm}
 use Rattle.row_printer.specs.Texts.{AreDeclared}
 use Rattle.standing_queries.specs.Watches.{IsOfKind, asks_for_both, no_rows}
-use Rattle.standing_queries.proofs.Watching.{same_names}
-use Rattle.itpg_session.specs.PlainWatches.{PlainWatch, NamesDiffer, without}
 
 -- ---- places, in lists of any watches
 
 module _ {X : Type 0} where
-  -- the watch at a place, of which this holds, is one of the watches
-  pub watch_at : (ws : List X) (i : ℕ) (P : X → Type 0) → IsSomeAnd (slice_get ws i) P → (w : X) × Among ws w × (slice_get ws i ≡ Some w) × P w
-  watch_at [] i P h = absurd h
-  watch_at (w ∷ ws) zero P h = (w, inl refl, refl, h)
-  watch_at (w ∷ ws) (suc i) P h = let r = watch_at ws i P h in (r.0, inr r.1, r.2, r.3)
-
   pub at_watch : (ws : List X) (i : ℕ) (w : X) (P : X → Type 0) → slice_get ws i ≡ Some w → P w → IsSomeAnd (slice_get ws i) P
   at_watch ws i w P is p = subst (λ o. IsSomeAnd o P) (sym is) p
 
@@ -29,30 +20,6 @@ module _ {X : Type 0} where
   -- what holds of each watch and of the new one
   pub each_added : (P : X → Type 0) (ws : List X) (n : X) → ((w : X) → Among ws w → P w) → P n → (w : X) → Among (ws ++ n ∷ []) w → P w
   each_added P ws n all new w a = ⊎_elim (λ h. all w h) (λ l. ⊎_elim (λ e. subst P e new) (λ k. absurd k) l) (among_append ws (n ∷ []) w a)
-
--- ---- one less
-
--- a list without the first of its watches is without it too, or has it in front
-one_less : (name : Word) (w : PlainWatch) (ws : List PlainWatch) → (without name (w ∷ ws) ≡ without name ws) ⊎ (without name (w ∷ ws) ≡ w ∷ without name ws)
-one_less name w ws = elim (same_names w.name name) [
-  | inl h ↦ inl (rw h.0 refl)
-  | inr h ↦ inr (rw h.0 refl)
-]
-
--- what is left was there
-pub without_among : (name : Word) (ws : List PlainWatch) (x : PlainWatch) → Among (without name ws) x → Among ws x
-without_among name [] x a = a
-without_among name (w ∷ ws) x a = elim (one_less name w ws) [
-  | inl same ↦ inr (without_among name ws x (subst (λ (v : List PlainWatch). Among v x) same a))
-  | inr front ↦ ⊎_elim (λ e. inl e) (λ b. inr (without_among name ws x b)) (subst (λ (v : List PlainWatch). Among v x) front a)
-]
-
-pub without_ordered : (name : Word) (ws : List PlainWatch) → Ordered NamesDiffer ws → Ordered NamesDiffer (without name ws)
-without_ordered name [] o = tt
-without_ordered name (w ∷ ws) o = elim (one_less name w ws) [
-  | inl same ↦ subst (λ (v : List PlainWatch). Ordered NamesDiffer v) (sym same) (without_ordered name ws o.1)
-  | inr front ↦ subst (λ (v : List PlainWatch). Ordered NamesDiffer v) (sym front) ((λ y a. o.0 y (without_among name ws y a)), without_ordered name ws o.1)
-]
 
 -- ---- kinds, and declared objects
 

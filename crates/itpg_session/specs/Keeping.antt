@@ -1,7 +1,7 @@
 -- What a session keeps beside its machine, and that it is right on the graph as it stands.
 use Rattle.std.specs.Prelude.{◌≡◌, ℕ, ◌+◌, ◌<◌, ◌≤◌, ◌⊎◌, List, [], ◌∷◌, length, slice_get, true, false, Option, Some, None, IfSome}
 use Rattle.std.specs.List.{AllZip}
-use Rattle.itpg_base.specs.Graphs.{Graph}
+use Rattle.itpg_base.specs.Graphs.{Graph, Stands}
 use Rattle.itpg_base.specs.Lists.{Among}
 use Rattle.itpg_base.specs.Walks.{IsWalk}
 use Rattle.path_ast.specs.Terms.{PathTerm, QueryTerm}
@@ -22,8 +22,12 @@ use Rattle.relation_rows.specs.Answered.{Answered}
 use Rattle.row_printer.specs.Texts.{AreDeclared}
 use Rattle.standing_queries.specs.Watches.{Watch}
 use Rattle.itpg_pins.specs.Pins.{Pinned}
+use Rattle.itpg_graph.specs.Edges.{AreNumbers}
+use Rattle.source_rows.specs.Steps.{path_steps}
+use Rattle.source_rows.specs.Reach.{Reach}
+use Rattle.source_rows.specs.Follows.{Follow, Entry}
 use Rattle.itpg_session.specs.PlainWatches.{PlainWatch}
-use Rattle.itpg_session.specs.Questions.{HasAnswer}
+use Rattle.itpg_session.specs.Questions.{HasAnswer, HasRowsFrom}
 use Rattle.itpg_session.specs.Ticks.{Ticked, StaysWide, Moves}
 
 -- a watch stands well beside these nodes: its plan is the node of its path between all objects, its footprint is that of this path,
@@ -42,10 +46,22 @@ pub record IsKeptRight (g : Graph) (limit : ℕ) (table : Table) (watches : List
   pub table_right : IsTableRight g limit table
   pub watches_right : AreWatchesRight g limit table.nodes watches
 
+-- what a follow keeps of an object is right: the object stands, the objects are those that are reached from it in the steps of the
+-- follow's path, and the answer is what is found from it
+pub record IsEntryRight (g : Graph) (limit : ℕ) (q : QueryTerm) (e : Entry) : Type 0 where
+  pub stands : Stands g e.source
+  pub reach : AreNumbers (Reach g e.source (path_steps q.path)) e.objects
+  pub rows : HasRowsFrom g limit q e.source e.rows
+
+-- so it is with all that the follows keep
+abbrev pub AreFollowsRight : Graph → ℕ → List Follow → Type 0
+AreFollowsRight g limit follows = (f : Follow) (e : Entry) → Among follows f → Among f.entries e → IsEntryRight g limit f.query e
+
 -- and the pins have the session's limit of rows
-pub record IsSessionRight (g : Graph) (limit : ℕ) (table : Table) (watches : List Watch) (pins : Pinned) : Type 0 where
+pub record IsSessionRight (g : Graph) (limit : ℕ) (table : Table) (watches : List Watch) (pins : Pinned) (follows : List Follow) : Type 0 where
   pub kept : IsKeptRight g limit table watches
   pub pins_limit : pins.limit ≡ limit
+  pub follows_right : AreFollowsRight g limit follows
 
 -- of a watch nothing changes but the number of its plan
 abbrev pub IsReplanned : Watch → Watch → Type 0

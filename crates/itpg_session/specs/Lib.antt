@@ -1,5 +1,7 @@
+pub mod Named
 pub mod PlainWatches
 pub mod PlainPins
+pub mod PlainFollows
 pub mod Rules
 pub mod Questions
 pub mod Ticks
@@ -12,4 +14,5 @@ pub mod MachineLaws
 pub mod Keeping
 pub mod Planning
 pub mod Pinning
+pub mod Following
 pub mod Steps

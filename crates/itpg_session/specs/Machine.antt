@@ -1,13 +1,14 @@
 -- The plain machine: what may answer each line, and what it leaves.
-use Rattle.std.specs.Prelude.{◌≡◌, ℕ, List, [], ◌∷◌, ◌++◌, Option, Some, None, is_some, slice_get, ◌⊎◌, Result, Ok, Err}
+use Rattle.std.specs.Prelude.{◌≡◌, ℕ, List, [], ◌∷◌, ◌++◌, Option, Some, None, Bool, true, false, ◌&&◌, is_some, slice_get, ◌⊎◌, Result, Ok, Err}
 use Rattle.itpg_base.specs.Words.{Word}
-use Rattle.itpg_base.specs.Graphs.{Graph, Good}
+use Rattle.itpg_base.specs.Graphs.{Graph, Good, Named}
 use Rattle.itpg_base.specs.declared.rule_code.RuleCode.{RuleCode}
 use Rattle.itpg_base.specs.declared.text_code.TextCode.{TextCode}
+use Rattle.itpg_base.specs.declared.text_code.TextCode.TheVariants.{Names}
 use Rattle.itpg_edit.specs.declared.edit.Edit.{Edit}
 use Rattle.itpg_edit.specs.Rules.{rules_of, Breaks, FirstOf, NoneOf}
 use Rattle.itpg_edit.specs.Next.{Makes as MakesGraph}
-use Rattle.edit_reader.specs.Readings.{Reading, Nothing, Changes, Asks, Wants, Watches, Shows, Unwatches, Ticks, Opens, Closes, AsksIn}
+use Rattle.edit_reader.specs.Readings.{Reading, Nothing, Changes, Asks, Wants, Watches, Shows, Unwatches, Ticks, Opens, Closes, AsksIn, Follows, Nears, Unfollows}
 use Rattle.edit_reader.specs.declared.line.Wanted.{Wanted}
 use Rattle.edit_reader.specs.Lines.{LineOf}
 use Rattle.path_ast.specs.Terms.{QueryTerm}
@@ -18,42 +19,58 @@ use Rattle.plan_cache.specs.Nodes.{Table}
 use Rattle.itpg_base.specs.declared.touch.Touch.{Touch}
 use Rattle.standing_queries.specs.Watches.{Watch, IsOfKind}
 use Rattle.itpg_pins.specs.Pins.{Held}
-use Rattle.itpg_session.specs.PlainWatches.{PlainWatch, NamesDiffer, new_watch, without, marked_at, AreMarkedAfter}
-use Rattle.itpg_session.specs.PlainPins.{Pin, PinsDiffer, new_pin, without_pin}
+use Rattle.source_rows.specs.Follows.{Follow}
+use Rattle.itpg_session.specs.PlainWatches.{PlainWatch, all_plain, NamesDiffer, new_watch, without, marked_at, AreMarkedAfter}
+use Rattle.itpg_session.specs.PlainPins.{Pin, plain_pins, PinsDiffer, new_pin, without_pin}
+use Rattle.itpg_session.specs.PlainFollows.{PlainFollow, plain_follows, FollowsDiffer, followed, without_follow}
 use Rattle.itpg_session.specs.Rules.{watch_rules, name_rules, tick_rules, open_rules}
-use Rattle.itpg_session.specs.Rules.{WatchBreaks, NameBreaks, TickBreaks, OpenBreaks, PinBreaks}
-use Rattle.itpg_session.specs.Replies.{Reply, Silent, Bad, Refused, Wide, Rows, Counted, Shown, OfPin, PerWatch, FindsFor, IsReply, IsReplyTo, of_pin}
+use Rattle.itpg_session.specs.Rules.{WatchBreaks, NameBreaks, TickBreaks, OpenBreaks, PinBreaks, FollowBreaks, UnfollowBreaks, NearBreaks}
+use Rattle.itpg_session.specs.Replies.{Reply, Silent, Bad, Refused, Wide, Rows, Counted, Shown, OfPin, PerWatch, FindsFor, IsFoundNear, IsReply, IsReplyTo, of_pin}
 use Rattle.itpg_session.specs.Wanting.{IsReplyWanted}
 use Rattle.itpg_session.specs.Ticks.{Ticked, AreTicked, all_moved}
 use Rattle.itpg_session.specs.Watching.{AsksForOne}
 
--- a machine has a graph, and the watches and the pins that stand, in order of declaration
+-- a machine has a graph, and the watches, the pins and the follows that stand, in order of declaration
 pub record Machine : Type 0 where
   pub graph : Graph
   pub watches : List PlainWatch
   pub pins : List Pin
+  pub follows : List PlainFollow
 
--- what each machine keeps: its graph is good, no two watches and no two pins have one name, and each watch asks for an end of its path
--- and has a base of its kind
+-- what each machine keeps: its graph is good, no two watches, no two pins and no two follows have one name, and each watch asks for an
+-- end of its path and has a base of its kind
 pub record IsGood (m : Machine) : Type 0 where
   pub graph : Good m.graph
   pub differ : Ordered NamesDiffer m.watches
   pub asks : (w : PlainWatch) → Among m.watches w → AsksForOne w.query
   pub kinds : (w : PlainWatch) → Among m.watches w → IsOfKind w.query w.base
   pub pins : Ordered PinsDiffer m.pins
+  pub follows : Ordered FollowsDiffer m.follows
 
--- at first no graph is begun, nothing is watched, and nothing is pinned
+-- at first no graph is begun, and nothing is watched, pinned or followed
 abbrev pub opening : Machine
-opening = record { graph = record { begun = None; objects = [] }; watches = []; pins = [] }
+opening = record { graph = record { begun = None; objects = [] }; watches = []; pins = []; follows = [] }
 
 -- a machine and the limit of its rows; and what is kept beside it: the table of plans, the watches that stand, with their plans and
--- their kept answers, and the pins, each with a table of its own
+-- their kept answers, the pins, each with a table of its own, and the follows, each with the rows that are kept of single objects
 pub record Standing : Type 0 where
   pub machine : Machine
   pub limit : ℕ
   pub table : Table
   pub watches : List Watch
   pub pins : List Held
+  pub follows : List Follow
+
+-- what a session of these parts stands for
+abbrev pub stood : Graph → ℕ → Table → List Watch → List Held → List Follow → Standing
+stood g limit table watches pins follows = record {
+  machine = record { graph = g; watches = all_plain watches; pins = plain_pins pins; follows = plain_follows follows };
+  limit = limit;
+  table = table;
+  watches = watches;
+  pins = pins;
+  follows = follows;
+}
 
 -- the reply to a line, and the machine after it
 pub record Turn : Type 0 where
@@ -193,6 +210,50 @@ AsksPinQuery limit m name q t = Refuses m (PinBreaks m.graph m.pins name) name_r
 abbrev pub AsksPinText : ℕ → Machine → Word → List ℕ → Turn → Type 0
 AsksPinText limit m name text t = ((code : TextCode) × FaultOf text code × (t ≡ told m (Bad code))) ⊎ ((q : QueryTerm) × Reads text q × AsksPinQuery limit m name q t)
 
+-- the query breaks no rule, and is followed from now on, behind the others
+pub record AddsFollow (m : Machine) (name : Word) (q : QueryTerm) (t : Turn) : Type 0 where
+  pub unbroken : NoneOf (FollowBreaks m.graph m.follows name q) watch_rules
+  pub is : t ≡ quiet_turn (record m { follows = m.follows ++ followed name q ∷ [] })
+
+-- the query names both ends of its path
+abbrev pub names_both : QueryTerm → Bool
+names_both q = q.first && q.last
+
+-- a query is to be followed: where it doesn't name both ends, that is the fault of its names; else it is refused, or followed
+abbrev pub FollowsQuery : Machine → Word → QueryTerm → Turn → Type 0
+FollowsQuery m name q t =
+    ((names_both q ≡ false) × (t ≡ told m (Bad Names))) ⊎ ((names_both q ≡ true) × (Refuses m (FollowBreaks m.graph m.follows name q) watch_rules t ⊎ AddsFollow m name q t))
+
+-- the text is to be followed: its first fault is told; or the query that it reads as is to be followed
+abbrev pub FollowsText : Machine → Word → List ℕ → Turn → Type 0
+FollowsText m name text t = ((code : TextCode) × FaultOf text code × (t ≡ told m (Bad code))) ⊎ ((q : QueryTerm) × Reads text q × FollowsQuery m name q t)
+
+-- the name breaks no rule, its follow is gone, and the order of the others stays
+pub record DropsFollow (m : Machine) (name : Word) (t : Turn) : Type 0 where
+  pub unbroken : NoneOf (UnfollowBreaks m.graph m.follows name) name_rules
+  pub is : t ≡ quiet_turn (record m { follows = without_follow name m.follows })
+
+-- a follow is to end: the name is refused, or the follow goes
+abbrev pub UnfollowsName : Machine → Word → Turn → Type 0
+UnfollowsName m name t = Refuses m (UnfollowBreaks m.graph m.follows name) name_rules t ⊎ DropsFollow m name t
+
+-- the names break no rule, and what is found for the follow's query from the object is told
+pub record TellsNear (limit : ℕ) (m : Machine) (name id : Word) (t : Turn) : Type 0 where
+  pub unbroken : NoneOf (NearBreaks m.graph m.follows name id) name_rules
+  pub place : ℕ
+  pub follow : PlainFollow
+  pub at : slice_get m.follows place ≡ Some follow
+  pub named : follow.name ≡ name
+  pub object : ℕ
+  pub is_object : Named m.graph object id
+  pub reply : Reply
+  pub finds : IsFoundNear m.graph limit follow.query object reply
+  pub is : t ≡ told m reply
+
+-- a follow's rows from an object are to be told: the names are refused, or the rows are told
+abbrev pub NearsName : ℕ → Machine → Word → Word → Turn → Type 0
+NearsName limit m name id t = Refuses m (NearBreaks m.graph m.follows name id) name_rules t ⊎ TellsNear limit m name id t
+
 -- the turn that a line may have which asks for this
 unfoldable pub Answers : ℕ → Machine → Reading → Turn → Type 0
 Answers limit m Nothing t = t ≡ quiet_turn m
@@ -206,6 +267,9 @@ Answers limit m Ticks t = TicksOrNot limit m t
 Answers limit m (Opens name) t = OpensName m name t
 Answers limit m (Closes name) t = ClosesName m name t
 Answers limit m (AsksIn name text) t = AsksPinText limit m name text t
+Answers limit m (Follows name text) t = FollowsText m name text t
+Answers limit m (Nears name id) t = NearsName limit m name id t
+Answers limit m (Unfollows name) t = UnfollowsName m name t
 
 -- the turn of what a line is: it asks for something, or has a first fault, which is told
 unfoldable pub TurnOf : ℕ → Machine → Result Reading TextCode → Turn → Type 0

@@ -1,10 +1,10 @@
 -- The pins of the plain machine.
-use Rattle.std.specs.Prelude.{◌≡◌, ◌≢◌, List, [], ◌∷◌, map, nat_eq, if◌then◌else◌}
-use Rattle.std.specs.Cmp.Lexicographic.{pointwise}
+use Rattle.std.specs.Prelude.{◌≡◌, ◌≢◌, List, map}
 use Rattle.itpg_base.specs.Words.{Word}
 use Rattle.itpg_base.specs.Graphs.{Graph}
 use Rattle.itpg_base.specs.Lists.{Among}
 use Rattle.itpg_pins.specs.Pins.{Held}
+use Rattle.itpg_session.specs.Named.{without_named}
 
 -- a pin: its name, and the graph as it stood when the pin was opened
 pub record Pin : Type 0 where
@@ -32,5 +32,4 @@ PinsDiffer p q = p.name ≢ q.name
 
 -- the pins but the one of this name, in their order
 abbrev pub without_pin : Word → List Pin → List Pin
-without_pin name [] = []
-without_pin name (p ∷ rest) = if pointwise nat_eq p.name name then without_pin name rest else p ∷ without_pin name rest
+without_pin name pins = without_named (λ p. p.name) name pins

@@ -1,7 +1,6 @@
 -- The watches of the plain machine.
-use Rattle.std.specs.Prelude.{◌≡◌, ◌≢◌, ℕ, List, [], ◌∷◌, map, Bool, true, false, nat_eq, if◌then◌else◌, is_some}
+use Rattle.std.specs.Prelude.{◌≡◌, ◌≢◌, ℕ, List, map, Bool, true, false, is_some}
 use Rattle.std.specs.List.{AllZip}
-use Rattle.std.specs.Cmp.Lexicographic.{pointwise}
 use Rattle.itpg_base.specs.Words.{Word}
 use Rattle.itpg_base.specs.Lists.{Among}
 use Rattle.itpg_base.specs.Graphs.{changed_at}
@@ -12,6 +11,7 @@ use Rattle.label_scope.specs.Footprints.{footprint}
 use Rattle.label_scope.specs.Touching.{Meets}
 use Rattle.relation_rows.specs.Answered.{Answered}
 use Rattle.standing_queries.specs.Watches.{Watch, no_rows}
+use Rattle.itpg_session.specs.Named.{without_named}
 
 -- a watch of the plain machine: its name and its query; its base, which is the answer that the next tick compares with; and its
 -- mark, which says whether it is fresh: an answer was found for it, and no edit since then touched what the query can depend on
@@ -46,8 +46,7 @@ new_watch name q = record { name = name; query = q; base = no_rows q; fresh = fa
 
 -- the watches but the one of this name, in their order
 abbrev pub without : Word → List PlainWatch → List PlainWatch
-without name [] = []
-without name (w ∷ rest) = if pointwise nat_eq w.name name then without name rest else w ∷ without name rest
+without name watches = without_named (λ w. w.name) name watches
 
 -- the watches, of which the one at a place has this mark now
 abbrev pub marked_at : ℕ → Bool → List PlainWatch → List PlainWatch

@@ -13,7 +13,8 @@ use Rattle.itpg_session.specs.declared.asking.Asked.{Asked}
 use Rattle.itpg_session.specs.declared.asking.Asked.TheVariants as asked
 use Rattle.itpg_session.specs.declared.reply.Reply.{Reply as ReplyValue}
 use Rattle.itpg_session.specs.declared.reply.Reply.TheVariants as value
-use Rattle.itpg_session.specs.Questions.{IsTooWide, HasAnswer}
+use Rattle.path_eval.specs.Nearby.{IsTooWideNear}
+use Rattle.itpg_session.specs.Questions.{IsTooWide, HasAnswer, HasRowsFrom}
 use Rattle.itpg_session.specs.Rules.{QueryBreaks, ask_rules}
 use Rattle.itpg_session.specs.Ticks.{Ticked, ticked_of}
 
@@ -66,6 +67,12 @@ IsFound g limit q (PerWatch found) = ⊥
 abbrev pub FindsFor : Graph → ℕ → QueryTerm → Option Answered → Type 0
 FindsFor g limit q None = IsTooWide g limit q
 FindsFor g limit q (Some answer) = HasAnswer g limit q answer
+
+-- what is found for a query from one object: that it is too wide near the object, or its rows from there
+abbrev pub IsFoundNear : Graph → ℕ → QueryTerm → ℕ → Reply → Type 0
+IsFoundNear g limit q o Wide = IsTooWideNear g limit q.path o
+IsFoundNear g limit q o (Rows answer) = HasRowsFrom g limit q o answer
+IsFoundNear g limit q o reply = ⊥
 
 -- the reply to a query that is asked: the first rule that this breaks; where none is broken, what is found for it
 abbrev pub IsReplyTo : Graph → ℕ → QueryTerm → Reply → Type 0

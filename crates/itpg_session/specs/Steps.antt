@@ -11,10 +11,10 @@ use Rattle.itpg_edit.specs.declared.edit.Edit.{Edit}
 use Rattle.itpg_edit.specs.Next.{Makes as MakesGraph, TakesMemory}
 use Rattle.plan_cache.specs.Footprints.{footprints_of}
 use Rattle.plan_cache.specs.KeptRows.{Forgets}
-use Rattle.edit_reader.specs.Readings.{Reading, Changes, Asks, Wants, Watches, Shows, Ticks, Opens, Closes, AsksIn}
+use Rattle.edit_reader.specs.Readings.{Reading, Changes, Asks, Wants, Watches, Shows, Ticks, Opens, Closes, AsksIn, Follows, Nears}
 use Rattle.edit_reader.specs.Lines.{LineOf}
 use Rattle.row_printer.specs.Texts.{AreDeclared}
-use Rattle.itpg_session.specs.Rules.{NameBreaks, TickBreaks, OpenBreaks, name_rules, tick_rules, open_rules}
+use Rattle.itpg_session.specs.Rules.{NameBreaks, TickBreaks, OpenBreaks, NearBreaks, name_rules, tick_rules, open_rules}
 use Rattle.itpg_session.specs.Ticks.{AreTicked}
 use Rattle.relation_rows.specs.Answered.{Answered}
 use Rattle.itpg_session.specs.Questions.{HasAnswer}
@@ -27,6 +27,7 @@ use Rattle.itpg_session.specs.Keeping.{AreReplanned, AddsText, IsWorkedFor, IsSt
 use Rattle.itpg_session.specs.Machine.{Machine, Standing, Turn, AsksPinText, AsksPinQuery, told}
 use Rattle.itpg_pins.specs.Pins.{held, without as without_held}
 use Rattle.itpg_session.specs.Pinning.{AddsPinText}
+use Rattle.itpg_session.specs.Following.{NearsKept}
 use Rattle.itpg_session.specs.declared.reply.Reply.{Reply as ReplyValue}
 use Rattle.itpg_session.specs.declared.reply.Seen.{Seen}
 use Rattle.itpg_session.specs.declared.reply.Seen.TheVariants.{Quiet, Refused}
@@ -157,10 +158,16 @@ KeepsAskedSo (Err code) old new = Unit {0}
 abbrev pub KeepsAskedLine : List ℕ → Standing → Standing → Type 0
 KeepsAskedLine line old new = (what : Result Reading TextCode) → LineOf line what → KeepsAskedSo what old new
 
--- the line asks to show a watch that is fresh, and breaks no rule
-abbrev pub ShowsFresh : Machine → Reading → Type 0
-ShowsFresh m (Shows name) = NoneOf (NameBreaks m.graph m.watches name) name_rules × IsFresh m.watches name
-ShowsFresh m reading = ⊥
+-- the line asks for what is kept, and breaks no rule: to show a watch that is fresh, or for a follow's rows from an object, which are
+-- kept of it
+abbrev pub IsAtHand : Standing → Reading → Type 0
+IsAtHand s (Shows name) = NoneOf (NameBreaks s.machine.graph s.machine.watches name) name_rules × IsFresh s.machine.watches name
+IsAtHand s (Nears name id) = (answer : Answered) × NearsKept s name id answer
+IsAtHand s reading = ⊥
+
+-- so it is with the line
+abbrev pub IsLineAtHand : Standing → List ℕ → Type 0
+IsLineAtHand s line = (reading : Reading) × LineOf line (Ok reading) × IsAtHand s reading
 
 -- the line asks to show a watch of which this answer is kept, and breaks no rule
 pub record ShowsNameKept (s : Standing) (name : Word) (answer : Answered) : Type 0 where
@@ -172,12 +179,15 @@ pub record ShowsNameKept (s : Standing) (name : Word) (answer : Answered) : Type
   pub fresh : watch.fresh ≡ true
   pub answers : HasAnswer s.machine.graph s.limit watch.query answer
 
+-- the line asks for this answer, which is kept, and breaks no rule
 abbrev pub ShowsKept : Standing → Reading → Answered → Type 0
 ShowsKept s (Shows name) answer = ShowsNameKept s name answer
+ShowsKept s (Nears name id) answer = NearsKept s name id answer
 ShowsKept s reading answer = ⊥
 
 -- to answer what a line asks for takes memory: a change that breaks no rule, other than to begin a graph or to drop an
--- object; a query text, which is read; a watch that is shown and isn't fresh, a tick, or a pin that is opened, that breaks no rule
+-- object; a query text, which is read; a watch that is shown and isn't fresh, a tick, a pin that is opened, or rows from an object, that
+-- breaks no rule
 abbrev pub WantsMemory : Machine → Reading → Type 0
 WantsMemory m (Changes edit) = Unbroken m.graph edit × TakesMemory edit
 WantsMemory m (Asks text) = Unit {0}
@@ -187,6 +197,8 @@ WantsMemory m (Shows name) = NoneOf (NameBreaks m.graph m.watches name) name_rul
 WantsMemory m Ticks = NoneOf (TickBreaks m.graph) tick_rules
 WantsMemory m (Opens name) = NoneOf (OpenBreaks m.graph m.pins name) open_rules
 WantsMemory m (AsksIn name text) = Unit {0}
+WantsMemory m (Follows name text) = Unit {0}
+WantsMemory m (Nears name id) = NoneOf (NearBreaks m.graph m.follows name id) name_rules
 WantsMemory m reading = ⊥
 
 -- the same of what a line is

@@ -57,6 +57,7 @@ impl Session {
         ensures adds { AddsText text.now self.old.machine.watches self.old.table self.new.table }
         ensures keeps { IfOk result (λ asked. (answer : Answered) → reply_of asked ≡ Rows answer → KeepsText self.new.machine.graph text.now self.new.table) }
         ensures pins { self.new.pins ≡ self.old.pins }
+        ensures follows { self.new.follows ≡ self.old.follows }
     {
         law_of_queries();
         match &read_query(self.alloc, text) {
@@ -77,6 +78,7 @@ impl Session {
         ensures adds { AddsOrRenews (path_term query.now.path) self.old.machine.watches self.old.table self.new.table }
         ensures keeps { IfOk result (λ asked. (answer : Answered) → reply_of asked ≡ Rows answer → KeepsPath self.new.machine.graph (path_term query.now.path) self.new.table) }
         ensures pins { self.new.pins ≡ self.old.pins }
+        ensures follows { self.new.follows ≡ self.old.follows }
     {
         match broken_by_ask(&self.graph, query) {
             Some(rule) => Ok(Asked::Refused(rule)),
@@ -96,6 +98,7 @@ impl Session {
         ensures adds { AddsOrRenews (path_term query.now.path) self.old.machine.watches self.old.table self.new.table }
         ensures keeps { IfOk result (λ asked. (answer : Answered) → reply_of asked ≡ Rows answer → KeepsPath self.new.machine.graph (path_term query.now.path) self.new.table) }
         ensures pins { self.new.pins ≡ self.old.pins }
+        ensures follows { self.new.follows ≡ self.old.follows }
     {
         let no = self.planned(query)?;
         asked_of(find(

@@ -1,4 +1,4 @@
-//! Deciding the reply to a line. What is accepted of an edit, a watch, an unwatch, an open or a close is made here; nothing is written.
+//! Deciding the reply to a line. What a line changes and is accepted is made here; nothing is written.
 ghost use Rattle.std.specs.Prelude.{◌≡◌, ◌<◌, ◌≤◌, ◌⊎◌, ◌||◌, length, slice_get, option_map, Some, Ok, IfOk, OnOk, OnErr, IsSome, IsSomeAnd, IsTrue};
 ghost use Rattle.itpg_edit.specs.declared.edit.Edit.{Edit as PlainEdit};
 ghost use Rattle.itpg_edit.specs.Rules.{NoneOf, Unbroken};
@@ -16,7 +16,8 @@ ghost use Rattle.itpg_session.specs.Replies.{line_reply, FindsFor};
 ghost use Rattle.itpg_session.specs.Machine.{Answers, TurnOf, WatchesText, WatchesQuery, ShowsName, DropsName, TicksOrNot};
 ghost use Rattle.itpg_session.specs.Keeping.{AddsOrRenews, AddsText, IsWorkedFor, IsStale, KeepsFound};
 ghost use Rattle.itpg_session.specs.Steps.{ForgetsEdit, KeepsReply, KeepsAsked, KeepsAskedSo, LeavesTable, LeavesSo, LeavesPins, LeavesPinsSo, LeavesUnmade};
-ghost use Rattle.itpg_session.specs.Steps.{ShowsFresh, WantsMemory, WhatWants, Decides, IsAlike, IsDecided, Suits};
+ghost use Rattle.itpg_session.specs.Following.{DecidesFollows, DecidesFollowsSo};
+ghost use Rattle.itpg_session.specs.Steps.{IsAtHand, WantsMemory, WhatWants, Decides, IsAlike, IsDecided, Suits};
 
 use crate::finding::find;
 use crate::laws::law_of_graphs;
@@ -36,10 +37,10 @@ use standing_queries::Unknown;
 use std::alloc::AllocError;
 
 impl Session {
-    /// Decides the reply to what a line is. An edit, a watch, an unwatch, an open or a close that is accepted is made here; it says nothing.
+    /// Decides the reply to what a line is. What the line changes and is accepted is made here, and then nothing is said.
     pub(crate) fn decide(&mut self, what: &Result<Line<'_>, TextCode>) -> Result<Reply, AllocError>
         requires moments { IfOk what.now (λ line. AsksOfMoments (reading_of line)) }
-        requires finds { IfOk what.now (λ line. ¬ ShowsFresh self.old.machine (reading_of line)) }
+        requires finds { IfOk what.now (λ line. ¬ IsAtHand self.old (reading_of line)) }
         ensures decides { Decides (TurnOf self.old.limit self.old.machine (read_as what.now)) (WhatWants self.old.machine (read_as what.now)) self.old self.new result }
         ensures suits { IfOk result (λ reply. Suits self.new (line_reply reply)) }
         ensures keeps { IfOk result (λ reply. KeepsReply (line_reply reply) self.new) }
@@ -47,6 +48,7 @@ impl Session {
         ensures forgets { OnOk result ((edit : PlainEdit) → read_as what.now ≡ Ok (Changes edit) → Unbroken self.old.machine.graph edit → ForgetsEdit edit self.old self.new) }
         ensures table { LeavesSo (read_as what.now) self.old self.new }
         ensures pins { LeavesPinsSo (read_as what.now) self.old self.new }
+        ensures follows { DecidesFollowsSo (read_as what.now) self.old self.new result }
         ensures unmade { OnErr result (LeavesUnmade (read_as what.now) self.old self.new) }
     {
         match what {
@@ -58,13 +60,14 @@ impl Session {
     // The same of a line that was read.
     fn decide_read(&mut self, line: &Line<'_>) -> Result<Reply, AllocError>
         requires moments { AsksOfMoments (reading_of line.now) }
-        requires finds { ¬ ShowsFresh self.old.machine (reading_of line.now) }
+        requires finds { ¬ IsAtHand self.old (reading_of line.now) }
         ensures decides { Decides (Answers self.old.limit self.old.machine (reading_of line.now)) (WantsMemory self.old.machine (reading_of line.now)) self.old self.new result }
         ensures keeps { IfOk result (λ reply. KeepsReply (line_reply reply) self.new) }
         ensures asked { OnOk result (KeepsAsked (reading_of line.now) self.old self.new) }
         ensures forgets { OnOk result ((edit : PlainEdit) → reading_of line.now ≡ Changes edit → Unbroken self.old.machine.graph edit → ForgetsEdit edit self.old self.new) }
         ensures table { LeavesTable (reading_of line.now) self.old self.new }
         ensures pins { LeavesPins (reading_of line.now) self.old self.new }
+        ensures follows { DecidesFollows (reading_of line.now) self.old self.new result }
         ensures unmade { OnErr result (LeavesUnmade (Ok (reading_of line.now)) self.old self.new) }
     {
         match line {
@@ -81,65 +84,10 @@ impl Session {
             Line::OpenPin(name) => self.open(*name),
             Line::ClosePin(name) => Ok(self.close(name)),
             Line::InPin(name, text) => self.ask_in(name, text),
+            Line::Follow(name, text) => self.follow(*name, text),
+            Line::Near(name, id) => self.near(name, id),
+            Line::Unfollow(name) => Ok(self.unfollow(name)),
         }
-    }
-
-    // Makes an edit, or refuses it.
-    fn edit(&mut self, edit: &Edit) -> Result<Reply, AllocError>
-        requires { HasMoments edit.now }
-        ensures decides { Decides (Answers self.old.limit self.old.machine (Changes edit.now)) (WantsMemory self.old.machine (Changes edit.now)) self.old self.new result }
-        ensures forgets { OnOk result (Unbroken self.old.machine.graph edit.now → ForgetsEdit edit.now self.old self.new) }
-        ensures table { ForgetsEdit edit.now self.old self.new ⊎ (self.new.table ≡ self.old.table) }
-        ensures unmade { OnErr result (self.new.table ≡ self.old.table) }
-        ensures pins { self.new.pins ≡ self.old.pins }
-    {
-        if self.plans.len() == 0 && self.watches.len() == 0 {
-            return self.first_edit(edit);
-        }
-        self.later_edit(edit)
-    }
-
-    // The same at any time. What is kept and could be other after the edit is forgotten, which takes no memory.
-    fn later_edit(&mut self, edit: &Edit) -> Result<Reply, AllocError>
-        requires { HasMoments edit.now }
-        ensures decides { Decides (Answers self.old.limit self.old.machine (Changes edit.now)) (WantsMemory self.old.machine (Changes edit.now)) self.old self.new result }
-        ensures forgets { OnOk result (Unbroken self.old.machine.graph edit.now → ForgetsEdit edit.now self.old self.new) }
-        ensures table { ForgetsEdit edit.now self.old self.new ⊎ (self.new.table ≡ self.old.table) }
-        ensures unmade { OnErr result (self.new.table ≡ self.old.table) }
-        ensures pins { self.new.pins ≡ self.old.pins }
-    {
-        law_of_graphs(&self.graph);
-        let touch = match apply(&mut self.graph, edit) {
-            Ok(touch) => touch,
-            Err(EditFault::Rule(rule)) => return Ok(Reply::Refused(rule)),
-            Err(EditFault::Memory) => return Err(AllocError),
-        };
-        law_of_graphs(&self.graph);
-        self.plans.forget(&touch);
-        self.watches.touched(&touch);
-        Ok(Reply::Silent)
-    }
-
-    // The same where nothing was asked and nothing is watched so far, so that nothing depends on the edit.
-    fn first_edit(&mut self, edit: &Edit) -> Result<Reply, AllocError>
-        requires moments { HasMoments edit.now }
-        requires plans { length self.old.table.nodes ≡ 0 }
-        requires kept { length self.old.table.kept ≡ 0 }
-        requires watches { length self.old.watches ≡ 0 }
-        ensures decides { Decides (Answers self.old.limit self.old.machine (Changes edit.now)) (WantsMemory self.old.machine (Changes edit.now)) self.old self.new result }
-        ensures forgets { OnOk result (Unbroken self.old.machine.graph edit.now → ForgetsEdit edit.now self.old self.new) }
-        ensures table { ForgetsEdit edit.now self.old self.new ⊎ (self.new.table ≡ self.old.table) }
-        ensures unmade { OnErr result (self.new.table ≡ self.old.table) }
-        ensures pins { self.new.pins ≡ self.old.pins }
-    {
-        law_of_graphs(&self.graph);
-        match make_edit(&mut self.graph, edit) {
-            Ok(()) => {}
-            Err(EditFault::Rule(broken)) => return Ok(Reply::Refused(broken)),
-            Err(EditFault::Memory) => return Err(AllocError),
-        }
-        law_of_graphs(&self.graph);
-        Ok(Reply::Silent)
     }
 
     // Watches the query of a text from now on.
@@ -147,6 +95,7 @@ impl Session {
         ensures decides { Decides (WatchesText self.old.machine name text.now) (Unit {0}) self.old self.new result }
         ensures adds { AddsText text.now self.old.machine.watches self.old.table self.new.table }
         ensures pins { self.new.pins ≡ self.old.pins }
+        ensures follows { self.new.follows ≡ self.old.follows }
     {
         match read_query(self.alloc, text) {
             Ok(query) => self.watch_query(name, query),
@@ -163,6 +112,7 @@ impl Session {
         ensures decides { Decides (WatchesQuery self.old.machine name (query_term query)) (Unit {0}) self.old self.new result }
         ensures adds { AddsOrRenews (path_term query.path) self.old.machine.watches self.old.table self.new.table }
         ensures pins { self.new.pins ≡ self.old.pins }
+        ensures follows { self.new.follows ≡ self.old.follows }
     {
         match broken_by_watch(&self.graph, &self.watches, &name, &query) {
             Some(rule) => Ok(Reply::Refused(rule)),
@@ -179,6 +129,7 @@ impl Session {
         ensures decides { Decides (WatchesQuery self.old.machine name (query_term query)) (Unit {0}) self.old self.new result }
         ensures adds { AddsOrRenews (path_term query.path) self.old.machine.watches self.old.table self.new.table }
         ensures pins { self.new.pins ≡ self.old.pins }
+        ensures follows { self.new.follows ≡ self.old.follows }
     {
         let no = self.planned(&query)?;
         self.add_planned(name, query, no)
@@ -194,6 +145,7 @@ impl Session {
         ensures decides { Decides (WatchesQuery self.old.machine name (query_term query)) (Unit {0}) self.old self.new result }
         ensures table { self.new.table ≡ self.old.table }
         ensures pins { self.new.pins ≡ self.old.pins }
+        ensures follows { self.new.follows ≡ self.old.follows }
     {
         let foot = self.plans.foot_of(no).copy(self.alloc)?;
         match self.watches.add(name, query, no, foot) {
@@ -205,11 +157,12 @@ impl Session {
 
     // Shows what is found for the query of the watch of this name, of which no answer is kept.
     fn show(&mut self, name: &Name) -> Result<Reply, AllocError>
-        requires { ¬ ShowsFresh self.old.machine (Shows name.now) }
+        requires { ¬ IsAtHand self.old (Shows name.now) }
         ensures decides { Decides (ShowsName self.old.limit self.old.machine name.now) (WantsMemory self.old.machine (Shows name.now)) self.old self.new result }
         ensures keeps { IfOk result (λ reply. KeepsReply (line_reply reply) self.new) }
         ensures table { IsWorkedFor (λ w. IsStale self.old.machine.watches w × (w.name ≡ name.now)) self.old.table self.new.table }
         ensures pins { self.new.pins ≡ self.old.pins }
+        ensures follows { self.new.follows ≡ self.old.follows }
     {
         match place_of(&self.graph, &self.watches, name) {
             Ok(place) => Ok(Reply::Shown(place, self.find_at(place)?)),
@@ -226,6 +179,7 @@ impl Session {
         ensures worked { IsWorkedFor (λ w. slice_get self.old.machine.watches place ≡ Some w) self.old.table self.new.table }
         ensures keeps { IfOk result (λ found. IsSomeAnd (slice_get self.old.machine.watches place) (λ w. KeepsFound self.old.machine.graph self.new.table w (option_map answered found))) }
         ensures pins { self.new.pins ≡ self.old.pins }
+        ensures follows { self.new.follows ≡ self.old.follows }
     {
         match find(
             self.alloc,
@@ -246,6 +200,7 @@ impl Session {
         ensures decides { IsDecided (DropsName self.old.machine name.now) self.old self.new (line_reply result) }
         ensures table { self.new.table ≡ self.old.table }
         ensures pins { self.new.pins ≡ self.old.pins }
+        ensures follows { self.new.follows ≡ self.old.follows }
     {
         if let Some(rule) = broken_by_tick(&self.graph) {
             return Reply::Refused(rule);
@@ -262,6 +217,7 @@ impl Session {
         ensures keeps { IfOk result (λ reply. KeepsReply (line_reply reply) self.new) }
         ensures table { IsWorkedFor (IsStale self.old.machine.watches) self.old.table self.new.table }
         ensures pins { self.new.pins ≡ self.old.pins }
+        ensures follows { self.new.follows ≡ self.old.follows }
     {
         if let Some(rule) = broken_by_tick(&self.graph) {
             return Ok(Reply::Refused(rule));

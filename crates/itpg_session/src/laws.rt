@@ -14,6 +14,7 @@ use edit_reader::{law_of_labels, law_of_lines, law_of_long_lines, law_of_moments
 use itpg_edit::{law_of_next, law_of_rules};
 use itpg_graph::Graph;
 use match_parser::law_of_queries;
+use path_eval::law_of_near_rows;
 use standing_queries::law_of_changes;
 
 /// On each graph a query text has exactly one reply, and each object of its rows was declared.
@@ -38,6 +39,7 @@ pub fn law_of_replies()
     law_of_rules();
     law_of_next();
     law_of_queries();
+    law_of_near_rows();
     law_of_changes();
 }
 

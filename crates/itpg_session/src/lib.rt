@@ -9,9 +9,12 @@
 #![tactic(auto)]
 
 mod asking;
+mod at_hand;
 mod deciding;
+mod editing;
 mod fault;
 mod finding;
+mod following;
 mod laws;
 mod pinning;
 mod planning;

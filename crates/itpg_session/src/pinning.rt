@@ -9,8 +9,7 @@ ghost use Rattle.relation_rows.specs.Answered.{Answered};
 ghost use Rattle.itpg_session.specs.Rules.{OpenBreaks, open_rules};
 ghost use Rattle.itpg_session.specs.Replies.{Rows, line_reply, reply_of, IsReplyTo};
 ghost use Rattle.itpg_session.specs.Machine.{OpensName, ClosesName, AsksPinText, AsksPinQuery};
-ghost use Rattle.itpg_session.specs.Keeping.{KeepsPath};
-ghost use Rattle.itpg_session.specs.Pinning.{AddsAt, AddsPinPath};
+ghost use Rattle.itpg_session.specs.Pinning.{AddsAt, AddsPinPath, KeepsAt};
 ghost use Rattle.itpg_session.specs.Steps.{IsAlike, IsDecided, Decides, LeavesPins, KeepsAsked, KeepsAskedPin};
 
 use crate::asking::{Asked, reply_alone};
@@ -30,6 +29,7 @@ impl Session {
         ensures decides { Decides (OpensName self.old.machine name) (NoneOf (OpenBreaks self.old.machine.graph self.old.machine.pins name) open_rules) self.old self.new result }
         ensures table { self.new.table ≡ self.old.table }
         ensures pins { LeavesPins (Opens name) self.old self.new }
+        ensures follows { self.new.follows ≡ self.old.follows }
     {
         if let Some(rule) = broken_by_tick(&self.graph) {
             return Ok(Reply::Refused(rule));
@@ -47,6 +47,7 @@ impl Session {
         ensures decides { IsDecided (ClosesName self.old.machine name.now) self.old self.new (line_reply result) }
         ensures table { self.new.table ≡ self.old.table }
         ensures pins { LeavesPins (Closes name.now) self.old self.new }
+        ensures follows { self.new.follows ≡ self.old.follows }
     {
         if let Some(rule) = broken_by_tick(&self.graph) {
             return Reply::Refused(rule);
@@ -62,6 +63,7 @@ impl Session {
         ensures decides { Decides (AsksPinText self.old.limit self.old.machine name.now text.now) (Unit {0}) self.old self.new result }
         ensures table { self.new.table ≡ self.old.table }
         ensures pins { LeavesPins (AsksIn name.now text.now) self.old self.new }
+        ensures follows { self.new.follows ≡ self.old.follows }
         ensures asked { OnOk result (KeepsAsked (AsksIn name.now text.now) self.old self.new) }
     {
         law_of_queries();
@@ -80,6 +82,7 @@ impl Session {
         ensures decides { Decides (AsksPinQuery self.old.limit self.old.machine name.now (query_term query.now)) (Unit {0}) self.old self.new result }
         ensures table { self.new.table ≡ self.old.table }
         ensures pins { AddsPinPath name.now (path_term query.now.path) self.old.pins self.new.pins }
+        ensures follows { self.new.follows ≡ self.old.follows }
         ensures asked { OnOk result (KeepsAskedPin name.now (query_term query.now) self.old self.new) }
     {
         let place = match place_of_pin(&self.graph, &self.pins, name) {
@@ -100,7 +103,8 @@ impl Session {
         ensures alike { IsAlike self.old self.new }
         ensures table { self.new.table ≡ self.old.table }
         ensures pins { AddsAt (path_term query.now.path) place self.old.pins self.new.pins }
-        ensures keeps { IfOk result (λ asked. (answer : Answered) → reply_of asked ≡ Rows answer → IsSomeAnd (slice_get self.new.pins place) (λ p. KeepsPath p.graph (path_term query.now.path) p.table)) }
+        ensures follows { self.new.follows ≡ self.old.follows }
+        ensures keeps { IfOk result (λ asked. (answer : Answered) → reply_of asked ≡ Rows answer → KeepsAt place (path_term query.now.path) self.new.pins) }
     {
         let mut plans = self.pins.swap_plans(place, Plans::new(self.alloc));
         let asked = reply_alone(

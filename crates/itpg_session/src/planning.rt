@@ -29,6 +29,7 @@ impl Session {
         ensures alike { IsAlike self.old self.new }
         ensures adds { AddsOrRenews (path_term query.now.path) self.old.machine.watches self.old.table self.new.table }
         ensures pins { self.new.pins ≡ self.old.pins }
+        ensures follows { self.new.follows ≡ self.old.follows }
     {
         if terms(&query.path) > (MAX_NODES - self.plans.len()) as usize {
             self.renew()?;
@@ -45,6 +46,7 @@ impl Session {
         ensures adds { AddsPath (path_term query.now.path) self.old.table self.new.table }
         ensures free { AddsFree self.old.table.kept self.new.table.kept }
         ensures pins { self.new.pins ≡ self.old.pins }
+        ensures follows { self.new.follows ≡ self.old.follows }
     {
         self.plans.intern(query)
     }
@@ -59,6 +61,7 @@ impl Session {
         ensures same { OnErr result (self.new.table ≡ self.old.table) }
         ensures alike { IsAlike self.old self.new }
         ensures pins { self.new.pins ≡ self.old.pins }
+        ensures follows { self.new.follows ≡ self.old.follows }
     {
         // There are few enough of them.
         let _few = self.watches.len();

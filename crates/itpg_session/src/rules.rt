@@ -1,16 +1,20 @@
-//! The rules that a query, the name of a watch or of a pin or a tick breaks, before anything is worked out.
+//! The rules that a query, the name of a watch, of a pin or of a follow, or a tick breaks, before anything is worked out.
 ghost use Rattle.std.specs.Prelude.{◌≡◌, slice_get, IfSome, IsNone, IfOk, OnOk, IfErr, IsSomeAnd};
 ghost use Rattle.itpg_edit.specs.Rules.{FirstOf, NoneOf};
 ghost use Rattle.path_ast.specs.Terms.{query_term};
+ghost use Rattle.itpg_base.specs.Graphs.{Named};
 ghost use Rattle.itpg_pins.specs.Pins.{IsOnlyPlace};
+ghost use Rattle.source_rows.specs.Follows.{IsOnlyPlace as IsOnlyFollow};
 ghost use Rattle.itpg_session.specs.PlainWatches.{all_plain};
 ghost use Rattle.itpg_session.specs.PlainPins.{plain_pins};
-ghost use Rattle.itpg_session.specs.Rules.{QueryBreaks, WatchBreaks, NameBreaks, TickBreaks, PinBreaks, ask_rules, watch_rules, name_rules, tick_rules};
+ghost use Rattle.itpg_session.specs.PlainFollows.{plain_follows};
+ghost use Rattle.itpg_session.specs.Rules.{QueryBreaks, WatchBreaks, NameBreaks, TickBreaks, PinBreaks, NearBreaks, ask_rules, watch_rules, name_rules, tick_rules};
 
-use itpg_base::{Name, RuleCode};
+use itpg_base::{Name, ObjNo, RuleCode};
 use itpg_graph::Graph;
 use itpg_pins::Pins;
 use path_ast::Query;
+use source_rows::Follows;
 use standing_queries::{MAX_WATCHES, Watches};
 
 /// The first rule that asking the query breaks on the graph: none is begun, or the query is meant for one of another name.
@@ -90,4 +94,30 @@ pub(crate) fn place_of_pin(graph: &Graph, pins: &Pins, name: &Name) -> Result<us
         return Err(RuleCode::Unknown);
     };
     Ok(place)
+}
+
+/// The place of the follow of the one name and the standing object of the other, or the first rule that the names break: no graph is
+/// begun, or no follow or no object has its name.
+pub(crate) fn place_near(
+    graph: &Graph,
+    follows: &Follows,
+    name: &Name,
+    id: &Name,
+) -> Result<(usize, ObjNo), RuleCode>
+    ensures place { IfOk result (λ found. IsSomeAnd (slice_get follows.now found.0) (λ f. f.name ≡ name.now)) }
+    ensures only { IfOk result (λ found. IsOnlyFollow follows.now name.now found.0) }
+    ensures object { IfOk result (λ found. Named graph.now found.1.0 id.now) }
+    ensures unbroken { OnOk result (NoneOf (NearBreaks graph.now (plain_follows follows.now) name.now id.now) name_rules) }
+    ensures broken { IfErr result (λ rule. FirstOf (NearBreaks graph.now (plain_follows follows.now) name.now id.now) name_rules rule) }
+{
+    if let Some(rule) = broken_by_tick(graph) {
+        return Err(rule);
+    }
+    let Some(place) = follows.find(name) else {
+        return Err(RuleCode::Unknown);
+    };
+    let Some(object) = graph.find(id) else {
+        return Err(RuleCode::Unknown);
+    };
+    Ok((place, object))
 }

@@ -1,41 +1,42 @@
 //! The session, and what a step of it does with a line.
 //!
-//! `Session` has the graph, the watches, the pins and the limit of rows. A step decides the reply to its line, and there makes an edit,
-//! a `watch`, an `unwatch`, an `open` or a `close` that is accepted; it writes the reply to the sink that it is lent; and it settles what a `show` or a tick
-//! found. Only a `show` of a fresh watch writes its kept answer at once.
-ghost use Rattle.std.specs.Prelude.{◌≡◌, ◌≢◌, ◌≤◌, [], IfOk, OnOk, OnErr, IsErrOf, IfSome, IsNone, IsOkAnd};
+//! `Session` has the graph, the watches, the pins, the follows and the limit of rows. A step decides the reply to its line, and there
+//! makes what the line changes and is accepted; it writes the reply to the sink that it is lent; and it settles what a `show` or a tick
+//! found. Only what is kept, the answer of a fresh watch or the rows of an object, is written at once.
+ghost use Rattle.std.specs.Prelude.{◌≡◌, ◌≢◌, ◌≤◌, [], IfOk, OnOk, OnErr, IsErrOf};
 ghost use Rattle.itpg_base.specs.Sinks.{Gets, GetsSome, GetsNothing, HasFailed, IsHonest};
-ghost use Rattle.edit_reader.specs.Readings.{reading_of, Shows};
-ghost use Rattle.relation_rows.specs.Answered.{Answered, answered};
+ghost use Rattle.relation_rows.specs.Answered.{Answered};
 ghost use Rattle.itpg_session.specs.PlainWatches.{all_plain};
 ghost use Rattle.itpg_session.specs.PlainPins.{plain_pins};
+ghost use Rattle.itpg_session.specs.PlainFollows.{plain_follows};
 ghost use Rattle.itpg_session.specs.Replies.{Reply as PlainReply, Silent, Rows, reply_of, line_reply, IsReply, NamesDeclared};
 ghost use Rattle.itpg_session.specs.Texts.{text_of};
 ghost use Rattle.itpg_session.specs.Machine.{opening, Replies, after};
 ghost use Rattle.plan_cache.specs.RightRows.{IsTableRight};
-ghost use Rattle.itpg_session.specs.Keeping.{AddsText, KeepsText, AreWatchesRight};
-ghost use Rattle.itpg_session.specs.Steps.{StandsAs, IsAlike, Stepped, StepsWithin, Passed, LineWants, ShowsFresh, ShowsKept, Suits};
+ghost use Rattle.itpg_session.specs.Keeping.{AddsText, KeepsText, AreWatchesRight, AreFollowsRight};
+ghost use Rattle.itpg_session.specs.Steps.{StandsAs, IsAlike, Stepped, StepsWithin, Passed, LineWants, IsLineAtHand, Suits};
 ghost use Rattle.itpg_session.specs.Steps.{KeepsFresh, KeepsAskedLine, ForgetsLine, LeavesLine, LeavesPinsLine, LeavesUnmadeLine};
+ghost use Rattle.itpg_session.specs.Following.{LeavesFollowsLine, HoldsFollowsLine, SparesLine, KeepsNearLine};
 
 use crate::asking::Asked;
 use crate::fault::StepFault;
 use crate::laws::law_of_asked;
 use crate::reply::{Reply, Seen};
-use crate::rules::broken_by_tick;
 use crate::texts::{write_bad, write_counts, write_found, write_refused, write_rows, write_wide};
 use crate::ticking::{move_bases, write_all};
-use edit_reader::{Line, read_line};
-use itpg_base::{Failed, Limits, Name, Sink, TextCode};
+use edit_reader::read_line;
+use itpg_base::{Failed, Limits, Sink};
 use itpg_graph::Graph;
 use itpg_pins::Pins;
 use plan_cache::Plans;
 use relation_rows::Answer;
+use source_rows::Follows;
 use standing_queries::Watches;
 use std::alloc::{AllocError, Global};
 use std::marker::Model;
 
-/// A graph, the watches on it, the plan nodes of what was asked with the relations that are kept at them, the pins, and the limit of
-/// rows: what the lines so far have left.
+/// A graph, the watches on it, the plan nodes of what was asked with the relations that are kept at them, the pins, the follows with the
+/// rows that are kept of single objects, and the limit of rows: what the lines so far have left.
 ///
 /// ```text
 ///     line 1   graph g 0 100         nothing is written
@@ -56,6 +57,7 @@ pub struct Session {
     pub(crate) watches: Watches,
     pub(crate) plans: Plans,
     pub(crate) pins: Pins,
+    pub(crate) follows: Follows,
     pub(crate) limits: Limits,
     pub(crate) alloc: Global,
 }
@@ -63,9 +65,7 @@ pub struct Session {
 impl Model for Session {
     ghost use Rattle.std.specs.Coded.{codes};
     ghost use Rattle.path_ast.specs.Codes.{coded_path};
-    ghost use Rattle.itpg_session.specs.PlainWatches.{all_plain};
-    ghost use Rattle.itpg_session.specs.PlainPins.{plain_pins};
-    ghost use Rattle.itpg_session.specs.Machine.{Standing};
+    ghost use Rattle.itpg_session.specs.Machine.{Standing, stood};
 
     ghost Value = { Standing };
 
@@ -73,24 +73,26 @@ impl Model for Session {
 
     ghost use Rattle.itpg_session.specs.Keeping.{IsSessionRight};
 
-    ghost view = { λ s. record { machine = record { graph = s.graph; watches = all_plain s.watches; pins = plain_pins s.pins.pins }; limit = s.limits; table = s.plans; watches = s.watches; pins = s.pins.pins } };
+    ghost view = { λ s. stood s.graph s.limits s.plans s.watches s.pins.pins s.follows };
 
-    ghost invariant = { λ s. IsSessionRight s.graph s.limits s.plans s.watches s.pins };
+    ghost invariant = { λ s. IsSessionRight s.graph s.limits s.plans s.watches s.pins s.follows };
 }
 
 impl Session {
-    /// The session in which no graph is begun, and nothing is watched or pinned. It takes no memory.
+    /// The session in which no graph is begun, and nothing is watched, pinned or followed. It takes no memory.
     pub fn new(alloc: Global, limits: Limits) -> Session
         ensures stands { StandsAs result opening limits }
         ensures table { result.table ≡ record { nodes = []; kept = [] } }
         ensures watches { result.watches ≡ [] }
         ensures pins { result.pins ≡ [] }
+        ensures follows { result.follows ≡ [] }
     {
         Session {
             graph: Graph::new(alloc),
             watches: Watches::new(alloc),
             plans: Plans::new(alloc),
             pins: Pins::new(alloc, limits.max_rows()),
+            follows: Follows::new(alloc),
             limits,
             alloc,
         }
@@ -131,6 +133,17 @@ impl Session {
         &self.pins
     }
 
+    /// The follows that stand, in order of declaration, each with the rows that are kept of single objects. Such rows are what `near`
+    /// tells of the object on the graph as it stands, and with them stand the objects that are reached from it in the steps of the
+    /// follow's path.
+    pub fn follows(&self) -> &Follows
+        ensures follows { result.now ≡ self.now.follows }
+        ensures plain { self.now.machine.follows ≡ plain_follows result.now }
+        ensures right { AreFollowsRight self.now.machine.graph self.now.limit result.now }
+    {
+        &self.follows
+    }
+
     /// The reply to a question with this query text, as a value. The session stays as it is, but for the plan nodes and the
     /// relations that it keeps for later questions.
     ///
@@ -155,6 +168,7 @@ impl Session {
         ensures declared { IfOk result (λ asked. NamesDeclared self.old.machine.graph (reply_of asked)) }
         ensures alike { IsAlike self.old self.new }
         ensures pins { self.new.pins ≡ self.old.pins }
+        ensures follows { self.new.follows ≡ self.old.follows }
         ensures adds { AddsText text.now self.old.machine.watches self.old.table self.new.table }
         ensures keeps { IfOk result (λ asked. (answer : Answered) → reply_of asked ≡ Rows answer → KeepsText self.new.machine.graph text.now self.new.table) }
     {
@@ -169,8 +183,9 @@ impl Session {
     /// # Errors
     ///
     /// `Memory` if memory runs out: never for a blank line, a comment, a line that has a fault of its own, an edit that is
-    /// refused, `graph`, `extend`, `drop`, `unwatch`, `close`, a `show`, a `tick` or an `open` that is refused, or a `show` of a fresh
-    /// watch. `Write` if the sink failed. After either, relations that were worked out may be kept, and query plans may be added.
+    /// refused, `graph`, `extend`, `drop`, `unwatch`, `close`, `unfollow`, a `show`, a `tick`, an `open` or a `near` that is refused, a
+    /// `show` of a fresh watch, or a `near` whose rows are kept. `Write` if the sink failed. After either, relations that were worked out
+    /// may be kept, query plans may be added, and after `Write` the rows of a `near` may be kept.
     pub fn step<K: Sink>(&mut self, no: u64, line: &[u8], out: &mut K) -> Result<Seen, StepFault>
         ensures stepped { IfOk result (λ seen. Stepped K.Sink out.old out.new (Replies self.old.limit self.old.machine line.now) no self.old self.new seen) }
         ensures alike { OnErr result (IsAlike self.old self.new) }
@@ -179,6 +194,12 @@ impl Session {
         ensures forgets { OnOk result (ForgetsLine line.now self.old self.new) }
         ensures table { LeavesLine line.now self.old self.new }
         ensures pins { LeavesPinsLine line.now self.old self.new }
+        ensures follows { LeavesFollowsLine line.now self.old self.new }
+        ensures spares { OnOk result (SparesLine line.now self.old self.new) }
+        ensures near { OnOk result (KeepsNearLine line.now self.old self.new) }
+        ensures holds { OnErr result (HoldsFollowsLine line.now self.old self.new) }
+        ensures unkept { IsErrOf result StepFault.Memory → self.new.follows ≡ self.old.follows }
+        ensures at_hand { IsErrOf result StepFault.Memory → ¬ IsLineAtHand self.old line.now }
         ensures unmade { OnErr result (LeavesUnmadeLine line.now self.old self.new) }
         ensures memory { IsErrOf result StepFault.Memory → GetsNothing K.Sink out.old out.new }
         ensures wanting { IsErrOf result StepFault.Memory → LineWants self.old.machine line.now }
@@ -211,6 +232,11 @@ impl Session {
         ensures forgets { OnOk result (ForgetsLine line.now self.old self.new) }
         ensures table { LeavesLine line.now self.old self.new }
         ensures pins { LeavesPinsLine line.now self.old self.new }
+        ensures follows { LeavesFollowsLine line.now self.old self.new }
+        ensures spares { OnOk result (SparesLine line.now self.old self.new) }
+        ensures near { OnOk result (KeepsNearLine line.now self.old self.new) }
+        ensures unkept { OnErr result (self.new.follows ≡ self.old.follows) }
+        ensures at_hand { OnErr result (¬ IsLineAtHand self.old line.now) }
         ensures wanting { OnErr result (LineWants self.old.machine line.now) }
     {
         let what = &read_line(line);
@@ -220,28 +246,6 @@ impl Session {
         let unsaid = self.decide(what)?;
         self.settle(unsaid);
         Ok(())
-    }
-
-    // The kept answer of the watch that the line asks to show, if it breaks no rule and the watch is fresh.
-    fn kept_answer(&self, what: &Result<Line<'_>, TextCode>) -> Option<&Answer>
-        ensures some { IfSome result (λ answer. IsOkAnd what.now (λ line. ShowsKept self.now (reading_of line) (answered answer.now))) }
-        ensures none { IsNone result → IfOk what.now (λ line. ¬ ShowsFresh self.now.machine (reading_of line)) }
-    {
-        match what {
-            Ok(Line::Show(name)) => self.fresh_answer(name),
-            _ => None,
-        }
-    }
-
-    // The kept answer of the watch of this name, if it breaks no rule and the watch is fresh.
-    fn fresh_answer(&self, name: &Name) -> Option<&Answer>
-        ensures some { IfSome result (λ answer. ShowsKept self.now (Shows name.now) (answered answer.now)) }
-        ensures none { IsNone result → ¬ ShowsFresh self.now.machine (Shows name.now) }
-    {
-        if let Some(_) = broken_by_tick(&self.graph) {
-            return None;
-        }
-        self.watches.answer(name)
     }
 
     // Writes the reply to the line of a number.
@@ -273,6 +277,7 @@ impl Session {
         ensures stands { StandsAs self.new (after self.old.machine (line_reply reply)) self.old.limit }
         ensures table { self.new.table ≡ self.old.table }
         ensures pins { self.new.pins ≡ self.old.pins }
+        ensures follows { self.new.follows ≡ self.old.follows }
     {
         match reply {
             Reply::Shown(place, Some(answer)) => self.watches.set_now(place, answer),

@@ -30,6 +30,7 @@ impl Session {
         ensures adds { AddsText text.now self.old.machine.watches self.old.table self.new.table }
         ensures keeps { IfOk result (λ reply. (all : Outcome) → line_reply reply ≡ reply_with (Some all) → KeepsText self.new.machine.graph text.now self.new.table) }
         ensures pins { self.new.pins ≡ self.old.pins }
+        ensures follows { self.new.follows ≡ self.old.follows }
     {
         law_of_queries();
         match &read_query(self.alloc, text) {
@@ -49,6 +50,7 @@ impl Session {
         ensures adds { AddsOrRenews (path_term query.now.path) self.old.machine.watches self.old.table self.new.table }
         ensures keeps { IfOk result (λ reply. (all : Outcome) → line_reply reply ≡ reply_with (Some all) → KeepsPath self.new.machine.graph (path_term query.now.path) self.new.table) }
         ensures pins { self.new.pins ≡ self.old.pins }
+        ensures follows { self.new.follows ≡ self.old.follows }
     {
         if !has_ends(wanted, query) {
             return Ok(Reply::Bad(TextCode::Names));

@@ -20,6 +20,10 @@ returns-clause-one c = one_reply (record {
     apart = c.law_of_queries.ensures.apart;
     some_query = c.law_of_queries.ensures.some;
   };
+  near = record {
+    exists = c.law_of_near_rows.ensures.exists;
+    one = c.law_of_near_rows.ensures.one;
+  };
   one_rest = c.law_of_changes.ensures.one;
   some_rest = c.law_of_changes.ensures.some;
 })
@@ -39,6 +43,10 @@ returns-clause-some c = some_reply (record {
     one_fault = c.law_of_queries.ensures.first;
     apart = c.law_of_queries.ensures.apart;
     some_query = c.law_of_queries.ensures.some;
+  };
+  near = record {
+    exists = c.law_of_near_rows.ensures.exists;
+    one = c.law_of_near_rows.ensures.one;
   };
   one_rest = c.law_of_changes.ensures.one;
   some_rest = c.law_of_changes.ensures.some;
@@ -60,9 +68,13 @@ returns-clause-good c = good_reply (record {
     apart = c.law_of_queries.ensures.apart;
     some_query = c.law_of_queries.ensures.some;
   };
+  near = record {
+    exists = c.law_of_near_rows.ensures.exists;
+    one = c.law_of_near_rows.ensures.one;
+  };
   one_rest = c.law_of_changes.ensures.one;
   some_rest = c.law_of_changes.ensures.some;
 })
 
 pub returns-clause-opening : goal.returns-clause-opening
-returns-clause-opening c = record { graph = good_none; differ = tt; asks = λ w a. absurd a; kinds = λ w a. absurd a; pins = tt }
+returns-clause-opening c = record { graph = good_none; differ = tt; asks = λ w a. absurd a; kinds = λ w a. absurd a; pins = tt; follows = tt }

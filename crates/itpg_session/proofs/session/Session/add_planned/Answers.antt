@@ -23,14 +23,15 @@ invariant_of-self c = record {
     | in-Err w ↦ right_same c.self.inside.graph c.self.inside.limits c.self.inside.plans c.self.inside.watches c.add.new.self w.in-Err.ensures.same c.self.invariant.kept
   ]);
   pins_limit = c.self.invariant.pins_limit;
+  follows_right = c.self.invariant.follows_right;
 }
 
 pub returns-clause-decides : goal.returns-clause-decides
 returns-clause-decides c = elim c.match-add.branch [
   | in-Ok w ↦
-      rw (w.result-is) (added_watch c.self.inside.graph c.self.inside.limits c.self.inside.plans c.self.inside.watches c.self.inside.pins.pins c.args.self.now c.self.view_is c.add.new.self c.args.name (query_term c.args.query) c.args.no.0 c.in_ok-foot.foot
+      rw (w.result-is) (added_watch c.self.inside.graph c.self.inside.limits c.self.inside.plans c.self.inside.watches c.self.inside.pins.pins c.self.inside.follows c.args.self.now c.self.view_is c.add.new.self c.args.name (query_term c.args.query) c.args.no.0 c.in_ok-foot.foot
       c.requires.unbroken w.in-Ok.ensures.added)
-  | in-Err w ↦ rw (w.result-is) (unadded_watch c.self.inside.graph c.self.inside.limits c.self.inside.plans c.self.inside.watches c.self.inside.pins.pins c.args.self.now c.self.view_is c.add.new.self w.in-Err.ensures.same, tt)
+  | in-Err w ↦ rw (w.result-is) (unadded_watch c.self.inside.graph c.self.inside.limits c.self.inside.plans c.self.inside.watches c.self.inside.pins.pins c.self.inside.follows c.args.self.now c.self.view_is c.add.new.self w.in-Err.ensures.same, tt)
 ]
 
 pub returns-clause-table : goal.returns-clause-table

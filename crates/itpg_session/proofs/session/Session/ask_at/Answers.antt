@@ -57,7 +57,7 @@ returns-clause-alike c =
     let old = subst (λ (n : ℕ). IsSomeAnd (slice_get ps c.args.place) (λ p. (c.swap_plans-plans.result ≡ p.table) × IsTableRight p.graph n c.swap_plans-plans.result)) c.self.invariant.pins_limit c.swap_plans-plans.ensures.old in
     let at = lent c.self.inside.limits ps c.args.place c.new.result c.swap_plans-plans.result c.swap_plans-plans.new.self.pins c.swap_plans-plans.ensures.new c.graph.result.now old c.graph.ensures in
     let is = put_back c.self.inside.limits ps c.args.place c.new.result c.swap_plans-plans.result c.swap_plans-plans.new.self.pins c.swap_plans-plans.ensures.new c.graph.result.now at new c.swap_plans-lent.new.self.pins c.swap_plans-lent.ensures.new in
-    plain_alike c.self.inside.graph c.self.inside.limits c.self.inside.plans c.self.inside.watches ps c.args.self.now c.self.view_is c.swap_plans-lent.new.self.pins
+    plain_alike c.self.inside.graph c.self.inside.limits c.self.inside.plans c.self.inside.watches ps c.self.inside.follows c.args.self.now c.self.view_is c.swap_plans-lent.new.self.pins
     (ap plain_pins is ∙ pins_retabled ps c.args.place new)
 
 pub returns-clause-reply : goal.returns-clause-reply

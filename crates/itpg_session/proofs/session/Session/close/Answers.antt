@@ -13,10 +13,10 @@ use Rattle.itpg_session.proofs.session.Session.close.Goals.{in-Ok, in-Err}
 pub returns-clause-decides : goal.returns-clause-decides
 returns-clause-decides c = elim c.match-remove.branch [
   | in-Ok w ↦
-      rw (w.result-is) (closed_pin c.self.inside.graph c.self.inside.limits c.self.inside.plans c.self.inside.watches c.self.inside.pins.pins c.args.self.now c.self.view_is c.args.name.now (c.in_default.ensures.none refl) c.remove.new.self.pins
+      rw (w.result-is) (closed_pin c.self.inside.graph c.self.inside.limits c.self.inside.plans c.self.inside.watches c.self.inside.pins.pins c.self.inside.follows c.args.self.now c.self.view_is c.args.name.now (c.in_default.ensures.none refl) c.remove.new.self.pins
       (λ none. let e = w.in-Ok.ensures.none.1 none in let no_fault : ⊥ = cc in no_fault) w.in-Ok.ensures.removed)
   | in-Err w ↦
-      rw (w.result-is) (unknown_pin c.self.inside.graph c.self.inside.limits c.self.inside.plans c.self.inside.watches c.self.inside.pins.pins c.args.self.now c.self.view_is c.args.name.now (c.in_default.ensures.none refl) c.remove.new.self.pins
+      rw (w.result-is) (unknown_pin c.self.inside.graph c.self.inside.limits c.self.inside.plans c.self.inside.watches c.self.inside.pins.pins c.self.inside.follows c.args.self.now c.self.view_is c.args.name.now (c.in_default.ensures.none refl) c.remove.new.self.pins
       (w.in-Err.ensures.none.0 refl) (ap (λ (v : Pinned). v.pins) w.in-Err.ensures.same))
 ]
 

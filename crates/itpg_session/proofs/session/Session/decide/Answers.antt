@@ -3,19 +3,20 @@ use Rattle.std.specs.Prelude.{Ok, IfOk, OnOk, OnErr}
 use Rattle.edit_reader.specs.Readings.{Changes, reading_of, told as read_as}
 use Rattle.edit_reader.specs.Moments.{AsksOfMoments}
 use Rattle.itpg_session.specs.Machine.{TurnOf}
-use Rattle.itpg_session.specs.Steps.{WhatWants, ShowsFresh, LeavesSo, LeavesUnmade, KeepsAskedSo, Decides}
+use Rattle.itpg_session.specs.Steps.{WhatWants, IsAtHand, LeavesSo, LeavesUnmade, KeepsAskedSo, Decides}
 use Rattle.itpg_session.specs.Replies.{Bad}
 use Rattle.itpg_session.proofs.Answering.{turn_read, turn_bad}
 use Rattle.itpg_session.proofs.Told.{decides_as, said}
 use Rattle.itpg_session.proofs.Suiting.{suits_decided}
 use Rattle.itpg_session.proofs.Written.{on_ok}
+use Rattle.itpg_session.specs.Following.{DecidesFollowsSo}
 use Rattle.itpg_session.proofs.session.Session.decide.Goals as goal
 
 pub decide_read-requires-clause-moments : goal.decide_read-requires-clause-moments
 decide_read-requires-clause-moments c = subst (λ r. IfOk r (λ line. AsksOfMoments (reading_of line))) c.in-Ok.is c.requires.moments
 
 pub decide_read-requires-clause-finds : goal.decide_read-requires-clause-finds
-decide_read-requires-clause-finds c = subst (λ r. IfOk r (λ line. ¬ ShowsFresh c.args.self.now.machine (reading_of line))) c.in-Ok.is c.requires.finds
+decide_read-requires-clause-finds c = subst (λ r. IfOk r (λ line. ¬ IsAtHand c.args.self.now (reading_of line))) c.in-Ok.is c.requires.finds
 
 pub returns-in-Ok-clause-decides : goal.returns-in-Ok-clause-decides
 returns-in-Ok-clause-decides c =
@@ -54,3 +55,9 @@ returns-in-Ok-clause-asked c = subst (λ r. OnOk c.decide_read.result (KeepsAske
 
 pub returns-in-Ok-clause-unmade : goal.returns-in-Ok-clause-unmade
 returns-in-Ok-clause-unmade c = subst (λ r. OnErr c.decide_read.result (LeavesUnmade (read_as r) c.args.self.now c.decide_read.new.self)) (sym c.in-Ok.is) c.decide_read.ensures.unmade
+
+pub returns-in-Ok-clause-follows : goal.returns-in-Ok-clause-follows
+returns-in-Ok-clause-follows c = subst (λ r. DecidesFollowsSo (read_as r) c.args.self.now c.decide_read.new.self c.decide_read.result) (sym c.in-Ok.is) c.decide_read.ensures.follows
+
+pub returns-in-Err-clause-follows : goal.returns-in-Err-clause-follows
+returns-in-Err-clause-follows c = rw (c.in-Err.is) refl

@@ -1,15 +1,16 @@
 use Rattle.std.proofs.Common.{◌≡◌, refl, sym, subst}
 use Rattle.itpg_edit.specs.declared.edit.Edit.{Edit}
 use Rattle.itpg_edit.specs.Rules.{Unbroken}
-use Rattle.edit_reader.specs.Readings.{Changes, Watches, reading_of}
+use Rattle.edit_reader.specs.Readings.{Nothing, Changes, Asks, Wants, Watches, Shows, Unwatches, Ticks, Opens, Closes, AsksIn, Follows, Nears, Unfollows, reading_of}
 use Rattle.edit_reader.specs.declared.line.Wanted.TheVariants.{First, Last, Count}
 use Rattle.itpg_session.specs.Steps.{ForgetsEdit}
 use Rattle.itpg_session.proofs.Written.{if_ok, on_ok, on_fault}
 use Rattle.itpg_session.proofs.KeptFresh.{decided_keeps, one_keeps, asked_keeps, wanted_keeps}
 use Rattle.itpg_session.proofs.Outcomes.{wanted_decides, wanted_kept}
 use Rattle.itpg_session.specs.Replies.{Silent, Rows, reply_of}
-use Rattle.itpg_session.proofs.Answering.{blank_answers, asks_answers, asked_asks, watches_answers, shows_answers, unwatches_answers, ticks_answers, opens_answers, closes_answers, asks_in_answers}
+use Rattle.itpg_session.proofs.Answering.{blank_answers, asks_answers, asked_asks, watches_answers, shows_answers, unwatches_answers, ticks_answers, opens_answers, closes_answers, asks_in_answers, follows_answers, nears_answers, unfollows_answers}
 use Rattle.itpg_session.proofs.Told.{decided_as, decides_as, said, said_alike}
+use Rattle.itpg_session.proofs.FollowLeaving.{apart_follows, edit_follows, follow_follows, near_follows, unfollow_follows}
 use Rattle.itpg_session.proofs.session.Session.decide_read.Goals as goal
 
 pub returns-in-Blank-clause-decides : goal.returns-in-Blank-clause-decides
@@ -140,3 +141,77 @@ returns-in-InPin-clause-decides c = rw (c.in-InPin.is) (decides_as c.args.self.n
 
 pub returns-in-InPin-clause-asked : goal.returns-in-InPin-clause-asked
 returns-in-InPin-clause-asked c = rw (c.in-InPin.is) c.ask_in.ensures.asked
+
+pub returns-in-Blank-clause-follows : goal.returns-in-Blank-clause-follows
+returns-in-Blank-clause-follows c = rw (c.in-Blank.is) (apart_follows c.args.self.now c.args.self.now _ Nothing tt refl)
+
+pub returns-in-Edit-clause-follows : goal.returns-in-Edit-clause-follows
+returns-in-Edit-clause-follows c = rw (c.in-Edit.is) (edit_follows c.args.self.now c.edit.new.self _ c.edit.result c.edit.ensures.follows c.edit.ensures.spares c.edit.ensures.holds)
+
+pub returns-in_ok-ask-in-Ask-clause-follows : goal.returns-in_ok-ask-in-Ask-clause-follows
+returns-in_ok-ask-in-Ask-clause-follows c = rw (c.in-Ask.is) (apart_follows c.args.self.now c.ask.new.self _ (Asks _) tt c.ask.ensures.follows)
+
+pub returns-in_err-ask-in-Ask-clause-follows : goal.returns-in_err-ask-in-Ask-clause-follows
+returns-in_err-ask-in-Ask-clause-follows c = rw (c.in-Ask.is) (apart_follows c.args.self.now c.ask.new.self _ (Asks _) tt c.ask.ensures.follows)
+
+pub returns-in-Watch-clause-follows : goal.returns-in-Watch-clause-follows
+returns-in-Watch-clause-follows c = rw (c.in-Watch.is) (apart_follows c.args.self.now c.watch.new.self _ (Watches _ _) tt c.watch.ensures.follows)
+
+pub returns-in-Show-clause-follows : goal.returns-in-Show-clause-follows
+returns-in-Show-clause-follows c = rw (c.in-Show.is) (apart_follows c.args.self.now c.show.new.self _ (Shows _) tt c.show.ensures.follows)
+
+pub returns-in-Unwatch-clause-follows : goal.returns-in-Unwatch-clause-follows
+returns-in-Unwatch-clause-follows c = rw (c.in-Unwatch.is) (apart_follows c.args.self.now c.unwatch.new.self _ (Unwatches _) tt c.unwatch.ensures.follows)
+
+pub returns-in-Tick-clause-follows : goal.returns-in-Tick-clause-follows
+returns-in-Tick-clause-follows c = rw (c.in-Tick.is) (apart_follows c.args.self.now c.tick.new.self _ (Ticks) tt c.tick.ensures.follows)
+
+pub returns-in-First-clause-follows : goal.returns-in-First-clause-follows
+returns-in-First-clause-follows c = rw (c.in-First.is) (apart_follows c.args.self.now c.reply_wanted.new.self _ (Wants _ _) tt c.reply_wanted.ensures.follows)
+
+pub returns-in-Last-clause-follows : goal.returns-in-Last-clause-follows
+returns-in-Last-clause-follows c = rw (c.in-Last.is) (apart_follows c.args.self.now c.reply_wanted-in-Last.new.self _ (Wants _ _) tt c.reply_wanted-in-Last.ensures.follows)
+
+pub returns-in-Count-clause-follows : goal.returns-in-Count-clause-follows
+returns-in-Count-clause-follows c = rw (c.in-Count.is) (apart_follows c.args.self.now c.reply_wanted-in-Count.new.self _ (Wants _ _) tt c.reply_wanted-in-Count.ensures.follows)
+
+pub returns-in-OpenPin-clause-follows : goal.returns-in-OpenPin-clause-follows
+returns-in-OpenPin-clause-follows c = rw (c.in-OpenPin.is) (apart_follows c.args.self.now c.open.new.self _ (Opens _) tt c.open.ensures.follows)
+
+pub returns-in-ClosePin-clause-follows : goal.returns-in-ClosePin-clause-follows
+returns-in-ClosePin-clause-follows c = rw (c.in-ClosePin.is) (apart_follows c.args.self.now c.close.new.self _ (Closes _) tt c.close.ensures.follows)
+
+pub returns-in-InPin-clause-follows : goal.returns-in-InPin-clause-follows
+returns-in-InPin-clause-follows c = rw (c.in-InPin.is) (apart_follows c.args.self.now c.ask_in.new.self _ (AsksIn _ _) tt c.ask_in.ensures.follows)
+
+pub returns-in-Follow-clause-follows : goal.returns-in-Follow-clause-follows
+returns-in-Follow-clause-follows c = rw (c.in-Follow.is) (follow_follows c.args.self.now c.follow.new.self _ _ c.follow.result c.follow.ensures.follows c.follow.ensures.holds)
+
+pub returns-in-Near-clause-follows : goal.returns-in-Near-clause-follows
+returns-in-Near-clause-follows c = rw (c.in-Near.is) (near_follows c.args.self.now c.near.new.self _ _ c.near.result c.near.ensures.follows c.near.ensures.near c.near.ensures.same)
+
+pub returns-in-Unfollow-clause-follows : goal.returns-in-Unfollow-clause-follows
+returns-in-Unfollow-clause-follows c = rw (c.in-Unfollow.is) (unfollow_follows c.args.self.now c.unfollow.new.self _ c.unfollow.result c.unfollow.ensures.follows c.unfollow.ensures.holds)
+
+pub returns-in-Follow-clause-decides : goal.returns-in-Follow-clause-decides
+returns-in-Follow-clause-decides c = rw (c.in-Follow.is) (decides_as c.args.self.now c.follow.new.self (follows_answers c.args.self.now.limit c.args.self.now.machine _ _) (λ u. u) c.follow.result c.follow.ensures.decides)
+
+pub returns-in-Near-clause-decides : goal.returns-in-Near-clause-decides
+returns-in-Near-clause-decides c = rw (c.in-Near.is) (decides_as c.args.self.now c.near.new.self (nears_answers c.args.self.now.limit c.args.self.now.machine _ _) (λ w. w) c.near.result c.near.ensures.decides)
+
+pub returns-in-Unfollow-clause-decides : goal.returns-in-Unfollow-clause-decides
+returns-in-Unfollow-clause-decides c = rw (c.in-Unfollow.is) (decided_as c.args.self.now c.unfollow.new.self (unfollows_answers c.args.self.now.limit c.args.self.now.machine _) _ c.unfollow.ensures.decides)
+
+pub returns-in-Follow-clause-keeps : goal.returns-in-Follow-clause-keeps
+returns-in-Follow-clause-keeps c =
+    decided_keeps _ (Follows _ _) tt c.args.self.now c.follow.new.self c.follow.result
+    (decides_as c.args.self.now c.follow.new.self (follows_answers c.args.self.now.limit c.args.self.now.machine _ _) (λ u. u) c.follow.result c.follow.ensures.decides)
+
+pub returns-in-Near-clause-keeps : goal.returns-in-Near-clause-keeps
+returns-in-Near-clause-keeps c =
+    decided_keeps _ (Nears _ _) tt c.args.self.now c.near.new.self c.near.result
+    (decides_as c.args.self.now c.near.new.self (nears_answers c.args.self.now.limit c.args.self.now.machine _ _) (λ w. w) c.near.result c.near.ensures.decides)
+
+pub returns-in-Unfollow-clause-keeps : goal.returns-in-Unfollow-clause-keeps
+returns-in-Unfollow-clause-keeps c =
+    one_keeps (Unfollows _) tt c.args.self.now c.unfollow.new.self _ (decided_as c.args.self.now c.unfollow.new.self (unfollows_answers c.args.self.now.limit c.args.self.now.machine _) _ c.unfollow.ensures.decides)

@@ -34,7 +34,7 @@ returns-clause-found c =
     ]
 
 pub returns-clause-alike : goal.returns-clause-alike
-returns-clause-alike c = worked_alike c.self.inside.graph c.self.inside.limits c.self.inside.plans c.self.inside.watches c.self.inside.pins.pins c.args.self.now c.self.view_is c.find.new.plans
+returns-clause-alike c = worked_alike c.self.inside.graph c.self.inside.limits c.self.inside.plans c.self.inside.watches c.self.inside.pins.pins c.self.inside.follows c.args.self.now c.self.view_is c.find.new.plans
 
 pub returns-clause-worked : goal.returns-clause-worked
 returns-clause-worked c =

@@ -14,21 +14,21 @@ use Rattle.itpg_session.proofs.session.Session.open.Goals.{in-Ok, in-Err-Taken, 
 pub returns-clause-decides : goal.returns-clause-decides
 returns-clause-decides c = elim c.match-add.branch [
   | in-Ok w ↦
-      rw (w.result-is) (opened_pin c.self.inside.graph c.self.inside.limits c.self.inside.plans c.self.inside.watches c.self.inside.pins.pins c.args.self.now c.self.view_is c.args.name (c.in_default.ensures.none refl) c.add.new.self.pins
+      rw (w.result-is) (opened_pin c.self.inside.graph c.self.inside.limits c.self.inside.plans c.self.inside.watches c.self.inside.pins.pins c.self.inside.follows c.args.self.now c.self.view_is c.args.name (c.in_default.ensures.none refl) c.add.new.self.pins
       (λ there. let e = w.in-Ok.ensures.taken.1 there in let no : ⊥ = cc in no)
       (λ many. let e = w.in-Ok.ensures.full.1 ((λ there. let e = w.in-Ok.ensures.taken.1 there in let no : ⊥ = cc in no), many) in let no : ⊥ = cc in no)
       w.in-Ok.ensures.added)
   | in-Err-Taken w ↦
-      rw (w.result-is) (taken_pin c.self.inside.graph c.self.inside.limits c.self.inside.plans c.self.inside.watches c.self.inside.pins.pins c.args.self.now c.self.view_is c.args.name (c.in_default.ensures.none refl) c.add.new.self.pins
+      rw (w.result-is) (taken_pin c.self.inside.graph c.self.inside.limits c.self.inside.plans c.self.inside.watches c.self.inside.pins.pins c.self.inside.follows c.args.self.now c.self.view_is c.args.name (c.in_default.ensures.none refl) c.add.new.self.pins
       (w.in-Err-Taken.ensures.taken.0 (ap Err w.in-Err-Taken.field-0-is)) (ap (λ (v : Pinned). v.pins) w.in-Err-Taken.ensures.same))
   | in-Err-Full w ↦
       let full = w.in-Err-Full.ensures.full.0 (ap Err w.in-Err-Full.field-0-is) in
-      rw (w.result-is) (full_of_pins c.self.inside.graph c.self.inside.limits c.self.inside.plans c.self.inside.watches c.self.inside.pins.pins c.args.self.now c.self.view_is c.args.name (c.in_default.ensures.none refl) c.add.new.self.pins
+      rw (w.result-is) (full_of_pins c.self.inside.graph c.self.inside.limits c.self.inside.plans c.self.inside.watches c.self.inside.pins.pins c.self.inside.follows c.args.self.now c.self.view_is c.args.name (c.in_default.ensures.none refl) c.add.new.self.pins
       full.0 full.1 (ap (λ (v : Pinned). v.pins) w.in-Err-Full.ensures.same))
   | in-Err-Memory w ↦
       rw (w.result-is) (
-        pins_alike c.self.inside.graph c.self.inside.limits c.self.inside.plans c.self.inside.watches c.self.inside.pins.pins c.args.self.now c.self.view_is c.add.new.self.pins (ap (λ (v : Pinned). v.pins) w.in-Err-Memory.ensures.same),
-        may_be_opened c.self.inside.graph c.self.inside.limits c.self.inside.plans c.self.inside.watches c.self.inside.pins.pins c.args.self.now c.self.view_is c.args.name (c.in_default.ensures.none refl)
+        pins_alike c.self.inside.graph c.self.inside.limits c.self.inside.plans c.self.inside.watches c.self.inside.pins.pins c.self.inside.follows c.args.self.now c.self.view_is c.add.new.self.pins (ap (λ (v : Pinned). v.pins) w.in-Err-Memory.ensures.same),
+        may_be_opened c.self.inside.graph c.self.inside.limits c.self.inside.plans c.self.inside.watches c.self.inside.pins.pins c.self.inside.follows c.args.self.now c.self.view_is c.args.name (c.in_default.ensures.none refl)
             (λ there. let e = w.in-Err-Memory.ensures.taken.1 there in let f = w.in-Err-Memory.field-0-is in let no : ⊥ = cc in no)
             (λ many. let e = w.in-Err-Memory.ensures.full.1 ((λ there. let e = w.in-Err-Memory.ensures.taken.1 there in let f = w.in-Err-Memory.field-0-is in let no : ⊥ = cc in no), many) in let f = w.in-Err-Memory.field-0-is in let no : ⊥ = cc in no),
       )

@@ -4,6 +4,7 @@ use Rattle.plan_cache.specs.Refilled.{KeepsShared}
 use Rattle.standing_queries.specs.Watches.{Watch, most_watches}
 use Rattle.itpg_session.specs.PlainWatches.{PlainWatch}
 use Rattle.itpg_session.specs.PlainPins.{plain_pins}
+use Rattle.itpg_session.specs.PlainFollows.{plain_follows}
 use Rattle.itpg_session.specs.Machine.{Machine, Standing}
 use Rattle.itpg_session.specs.Steps.{IsAlike}
 use Rattle.itpg_session.specs.Keeping.{AreReplanned, IsKeptRight, AreOfWatches}
@@ -16,13 +17,14 @@ use Rattle.itpg_session.proofs.session.Session.renew.Goals as goal
 
 pub returns-in_err-numbers-clause-alike : goal.returns-in_err-numbers-clause-alike
 returns-in_err-numbers-clause-alike c =
-    subst (λ (s : Standing). IsAlike s (the_view (record { graph = c.self.inside.graph; watches = c.self.inside.watches; plans = c.refill.new.self; pins = c.self.inside.pins; limits = c.self.inside.limits; alloc = c.self.inside.alloc })))
+    subst (λ (s : Standing). IsAlike s (the_view (record { graph = c.self.inside.graph; watches = c.self.inside.watches; plans = c.refill.new.self; pins = c.self.inside.pins; follows = c.self.inside.follows; limits = c.self.inside.limits; alloc = c.self.inside.alloc })))
     c.self.view_is (record { machine = refl; limit = refl; watches = replanned_same c.self.inside.watches })
 
 pub invariant_of-self : goal.invariant_of-self
 invariant_of-self c = record {
   kept = (subst (λ (t : Table). IsKeptRight c.self.inside.graph c.self.inside.limits t c.self.inside.watches) (sym c.in_err-numbers.ensures.same) c.self.invariant.kept);
   pins_limit = c.self.invariant.pins_limit;
+  follows_right = c.self.invariant.follows_right;
 }
 
 pub refill-requires-clause-in_range : goal.refill-requires-clause-in_range
@@ -47,6 +49,7 @@ invariant_of-self-2 c = record {
       (made_anew c.self.inside.graph c.self.inside.limits c.self.inside.plans c.refill.new.self c.self.inside.watches c.in_ok-numbers.numbers.items
       c.in_ok-numbers.ensures.kept c.law_of_shared_nodes.ensures.each plans c.self.invariant.kept));
   pins_limit = c.self.invariant.pins_limit;
+  follows_right = c.self.invariant.follows_right;
 }
 
 pub returns-clause-room : goal.returns-clause-room
@@ -74,9 +77,9 @@ pub returns-clause-alike : goal.returns-clause-alike
 returns-clause-alike c =
     let given = c.replan.ensures ∙ ap (λ numbers. with_plans numbers c.self.inside.watches) c.deref.ensures.value in
     let replanned : AreReplanned c.self.inside.watches c.replan.new.watches = subst (AreReplanned c.self.inside.watches) (sym given) (with_plans_alike c.in_ok-numbers.numbers.items c.self.inside.watches) in
-    subst (λ (s : Standing). IsAlike s (the_view (record { graph = c.self.inside.graph; watches = c.replan.new.watches; plans = c.refill.new.self; pins = c.self.inside.pins; limits = c.self.inside.limits; alloc = c.self.inside.alloc })))
+    subst (λ (s : Standing). IsAlike s (the_view (record { graph = c.self.inside.graph; watches = c.replan.new.watches; plans = c.refill.new.self; pins = c.self.inside.pins; follows = c.self.inside.follows; limits = c.self.inside.limits; alloc = c.self.inside.alloc })))
     c.self.view_is (record {
-      machine = ap (λ (ws : List PlainWatch). let m : Machine = record { graph = c.self.inside.graph; watches = ws; pins = plain_pins c.self.inside.pins.pins } in m) (plain_replanned c.self.inside.watches c.replan.new.watches replanned);
+      machine = ap (λ (ws : List PlainWatch). let m : Machine = record { graph = c.self.inside.graph; watches = ws; pins = plain_pins c.self.inside.pins.pins; follows = plain_follows c.self.inside.follows } in m) (plain_replanned c.self.inside.watches c.replan.new.watches replanned);
       limit = refl;
       watches = replanned;
     })

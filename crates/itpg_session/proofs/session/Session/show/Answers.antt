@@ -9,7 +9,8 @@ use Rattle.itpg_session.specs.Replies.{Refused, Shown}
 use Rattle.itpg_session.specs.Keeping.{IsStale, KeepsFound}
 use Rattle.itpg_session.specs.Machine.{Machine, Standing, ShowsWatch}
 use Rattle.itpg_session.proofs.Answering.{refusal}
-use Rattle.itpg_session.proofs.Watching.{watch_at, of_watch}
+use Rattle.itpg_session.proofs.NamedLists.{found_at}
+use Rattle.itpg_session.proofs.Watching.{of_watch}
 use Rattle.itpg_session.proofs.Told.{said, said_alike}
 use Rattle.itpg_session.proofs.WorkedFor.{none_for, for_all, named_stale}
 use Rattle.itpg_session.proofs.session.Session.show.Goals as goal
@@ -24,7 +25,7 @@ pub returns-in_ok-find_at-in-Ok-clause-decides : goal.returns-in_ok-find_at-in-O
 returns-in_ok-find_at-in-Ok-clause-decides c =
     let ws = c.args.self.now.machine.watches in
     let found = option_map answered c.in_ok-find_at-in-Ok.field-0 in
-    let shown = watch_at ws c.in-Ok.place _ c.in_ok-find_at-in-Ok.ensures.found in
+    let shown = found_at _ ws c.in-Ok.place c.in_ok-find_at-in-Ok.ensures.found in
     let named = subst (λ (s : Standing). IsSomeAnd (slice_get s.machine.watches c.in-Ok.place) (λ w. w.name ≡ c.args.name.now)) c.self.view_is c.in-Ok.ensures.place in
     let unbroken = subst (λ (s : Standing). NoneOf (NameBreaks s.machine.graph s.machine.watches c.args.name.now) name_rules) c.self.view_is c.in-Ok.ensures.unbroken in
     said_alike c.args.self.now c.find_at.new.self (Shown c.in-Ok.place found) c.in_ok-find_at-in-Ok.ensures.alike (inr (record {

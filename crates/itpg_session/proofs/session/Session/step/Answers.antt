@@ -6,11 +6,11 @@ use Rattle.row_printer.proofs.Saying.{on_err}
 use Rattle.itpg_session.specs.Texts.{rows_text}
 use Rattle.itpg_session.specs.Machine.{Standing}
 use Rattle.itpg_session.proofs.Planned.{alike_same}
-use Rattle.itpg_session.proofs.Told.{rows_seen}
 use Rattle.itpg_session.specs.Replies.{line_reply}
-use Rattle.itpg_session.proofs.Stepping.{kept_line}
+use Rattle.itpg_session.proofs.Stepping.{kept_line, kept_sees}
 use Rattle.itpg_session.proofs.KeptFresh.{fresh_same, step_fresh}
 use Rattle.itpg_session.proofs.Leaving.{line_leaves, kept_forgets, line_so, line_settled, forgets_settled, kept_asks, asked_settled, same_unmade, line_unmade, said_unmade}
+use Rattle.itpg_session.proofs.FollowLines.{line_follows, line_holds, line_spares, line_near, line_left, line_held, wanting_same, kept_near, kept_spares, not_at_hand}
 use Rattle.itpg_session.proofs.session.Session.step.Goals as goal
 
 pub write_rows-requires : goal.write_rows-requires
@@ -27,7 +27,8 @@ returns-in_err-write_rows-clause-some g c = λ write.
     record {
       turn = _;
       turns = turn.replies;
-      some = subst (λ (s : Standing). GetsSome g.K.Sink c.args.out.now c.write_rows.new.out (rows_text s.machine.graph c.args.no (answered c.in-Some.answer.now))) c.self.view_is c.in_err-write_rows.ensures.some;
+      some = subst (λ text. GetsSome g.K.Sink c.args.out.now c.write_rows.new.out text) (sym (turn.text c.args.no))
+          (subst (λ (s : Standing). GetsSome g.K.Sink c.args.out.now c.write_rows.new.out (rows_text s.machine.graph c.args.no (answered c.in-Some.answer.now))) c.self.view_is c.in_err-write_rows.ensures.some);
     }
 
 pub returns-in-Some-clause-stepped : goal.returns-in-Some-clause-stepped
@@ -36,9 +37,10 @@ returns-in-Some-clause-stepped g c =
     record {
       turn = _;
       turns = turn.replies;
-      written = subst (λ (s : Standing). Gets g.K.Sink c.args.out.now c.write_rows.new.out (rows_text s.machine.graph c.args.no (answered c.in-Some.answer.now))) c.self.view_is c.in_ok-write_rows.ensures.written;
+      written = subst (λ text. Gets g.K.Sink c.args.out.now c.write_rows.new.out text) (sym (turn.text c.args.no))
+          (subst (λ (s : Standing). Gets g.K.Sink c.args.out.now c.write_rows.new.out (rows_text s.machine.graph c.args.no (answered c.in-Some.answer.now))) c.self.view_is c.in_ok-write_rows.ensures.written);
       next = record { machine = sym turn.stays; limit = refl };
-      sees = rows_seen c.args.self.now.machine.graph c.args.no (answered c.in-Some.answer.now);
+      sees = kept_sees c.args.self.now c.args.line.now (answered c.in-Some.answer.now) turn c.args.no;
     }
 
 pub returns-in_err-write-clause-alike : goal.returns-in_err-write-clause-alike
@@ -90,3 +92,45 @@ pub returns-in_err-write-clause-unmade : goal.returns-in_err-write-clause-unmade
 returns-in_err-write-clause-unmade g c =
     on_err _ _ (line_unmade c.args.line.now _ c.args.self.now c.decide.new.self c.read_line.ensures.only
     (said_unmade _ c.args.self.now c.decide.new.self (line_reply c.in_ok-reply.reply) c.in_err-write.ensures.says c.in_ok-reply.ensures.decides.turns c.decide.ensures.table))
+
+pub returns-in-Some-clause-follows : goal.returns-in-Some-clause-follows
+returns-in-Some-clause-follows g c = line_left c.args.line.now c.args.self.now c.args.self.now refl
+
+pub returns-in-Some-clause-spares : goal.returns-in-Some-clause-spares
+returns-in-Some-clause-spares g c = kept_spares c.args.self.now c.args.line.now _ c.read_line.ensures.only _ c.in-Some.ensures.some
+
+pub returns-in-Some-clause-near : goal.returns-in-Some-clause-near
+returns-in-Some-clause-near g c = kept_near c.args.self.now c.args.line.now _ c.read_line.ensures.only _ c.in-Some.ensures.some
+
+pub returns-in_err-write_rows-clause-follows : goal.returns-in_err-write_rows-clause-follows
+returns-in_err-write_rows-clause-follows g c = line_left c.args.line.now c.args.self.now c.args.self.now refl
+
+pub returns-in_err-write_rows-clause-holds : goal.returns-in_err-write_rows-clause-holds
+returns-in_err-write_rows-clause-holds g c = on_err _ _ (line_held c.args.line.now c.args.self.now c.args.self.now refl)
+
+pub returns-in_err-reply-clause-follows : goal.returns-in_err-reply-clause-follows
+returns-in_err-reply-clause-follows g c = line_left c.args.line.now c.args.self.now c.decide.new.self (wanting_same _ c.args.self.now c.decide.new.self _ c.in_err-reply.ensures.follows)
+
+pub returns-in_err-reply-clause-holds : goal.returns-in_err-reply-clause-holds
+returns-in_err-reply-clause-holds g c = on_err _ _ (line_held c.args.line.now c.args.self.now c.decide.new.self (wanting_same _ c.args.self.now c.decide.new.self _ c.in_err-reply.ensures.follows))
+
+pub returns-in_err-reply-clause-unkept : goal.returns-in_err-reply-clause-unkept
+returns-in_err-reply-clause-unkept g c = λ memory. wanting_same _ c.args.self.now c.decide.new.self _ c.in_err-reply.ensures.follows
+
+pub returns-in_err-reply-clause-at_hand : goal.returns-in_err-reply-clause-at_hand
+returns-in_err-reply-clause-at_hand g c = λ memory. not_at_hand c.args.self.now c.args.line.now _ c.read_line.ensures.only (c.in_default.ensures.none refl)
+
+pub returns-in_err-write-clause-follows : goal.returns-in_err-write-clause-follows
+returns-in_err-write-clause-follows g c = line_follows c.args.line.now _ c.read_line.ensures.only c.args.self.now c.decide.new.self c.decide.new.self refl _ c.decide.ensures.follows
+
+pub returns-in_err-write-clause-holds : goal.returns-in_err-write-clause-holds
+returns-in_err-write-clause-holds g c = on_err _ _ (line_holds c.args.line.now _ c.read_line.ensures.only c.args.self.now c.decide.new.self c.decide.new.self refl _ c.in_ok-reply.reply c.in_err-write.ensures.says c.in_ok-reply.ensures.follows)
+
+pub returns-clause-follows : goal.returns-clause-follows
+returns-clause-follows g c = line_follows c.args.line.now _ c.read_line.ensures.only c.args.self.now c.decide.new.self c.settle.new.self c.settle.ensures.follows _ c.decide.ensures.follows
+
+pub returns-clause-spares : goal.returns-clause-spares
+returns-clause-spares g c = line_spares c.args.line.now _ c.read_line.ensures.only c.args.self.now c.decide.new.self c.settle.new.self c.settle.ensures.follows _ c.in_ok-reply.reply c.in_ok-reply.ensures.follows
+
+pub returns-clause-near : goal.returns-clause-near
+returns-clause-near g c = line_near c.args.line.now _ c.read_line.ensures.only c.args.self.now c.decide.new.self c.settle.new.self c.settle.ensures.follows _ c.in_ok-reply.reply c.in_ok-reply.ensures.follows

@@ -17,13 +17,13 @@ pub returns-in_err-found-clause-decides : goal.returns-in_err-found-clause-decid
 returns-in_err-found-clause-decides c =
     let unbroken = subst (λ (s : Standing). NoneOf (TickBreaks s.machine.graph) tick_rules) c.self.view_is (c.in_default.ensures.none refl) in
     let p = err_from_is_err_and c.from_residual.result c.from_residual.ensures.1 in
-    rw (p.1) (worked_alike c.self.inside.graph c.self.inside.limits c.self.inside.plans c.self.inside.watches c.self.inside.pins.pins c.args.self.now c.self.view_is c.tick_all.new.plans, unbroken)
+    rw (p.1) (worked_alike c.self.inside.graph c.self.inside.limits c.self.inside.plans c.self.inside.watches c.self.inside.pins.pins c.self.inside.follows c.args.self.now c.self.view_is c.tick_all.new.plans, unbroken)
 
 pub returns-clause-decides : goal.returns-clause-decides
 returns-clause-decides c =
     let found = map ticked_of c.in_ok-found.found.items in
     let finds = subst (λ (n : ℕ). AreTicked c.self.inside.graph n (all_plain c.self.inside.watches) found) c.max_rows.ensures.value c.in_ok-found.ensures.found in
-    told_tick c.self.inside.graph c.self.inside.limits c.self.inside.plans c.self.inside.watches c.self.inside.pins.pins c.args.self.now c.self.view_is c.tick_all.new.plans found (c.in_default.ensures.none refl) finds
+    told_tick c.self.inside.graph c.self.inside.limits c.self.inside.plans c.self.inside.watches c.self.inside.pins.pins c.self.inside.follows c.args.self.now c.self.view_is c.tick_all.new.plans found (c.in_default.ensures.none refl) finds
 
 pub returns-in-Some-clause-decides : goal.returns-in-Some-clause-decides
 returns-in-Some-clause-decides c =

@@ -16,15 +16,16 @@ invariant_of-self c = record {
     | in-Err w ↦ right_same c.self.inside.graph c.self.inside.limits c.self.inside.plans c.self.inside.watches c.remove.new.self w.in-Err.ensures.same c.self.invariant.kept
   ]);
   pins_limit = c.self.invariant.pins_limit;
+  follows_right = c.self.invariant.follows_right;
 }
 
 pub returns-clause-decides : goal.returns-clause-decides
 returns-clause-decides c = elim c.match-remove.branch [
   | in-Ok w ↦
-      rw (w.result-is) (dropped_watch c.self.inside.graph c.self.inside.limits c.self.inside.plans c.self.inside.watches c.self.inside.pins.pins c.args.self.now c.self.view_is c.remove.new.self c.args.name.now (c.in_default.ensures.none refl)
+      rw (w.result-is) (dropped_watch c.self.inside.graph c.self.inside.limits c.self.inside.plans c.self.inside.watches c.self.inside.pins.pins c.self.inside.follows c.args.self.now c.self.view_is c.remove.new.self c.args.name.now (c.in_default.ensures.none refl)
       (λ none. let e = w.in-Ok.ensures.unknown.1 none in let no_fault : ⊥ = cc in no_fault) w.in-Ok.ensures.removed)
   | in-Err w ↦
-      rw (w.result-is) (unknown_watch c.self.inside.graph c.self.inside.limits c.self.inside.plans c.self.inside.watches c.self.inside.pins.pins c.args.self.now c.self.view_is c.remove.new.self c.args.name.now (c.in_default.ensures.none refl)
+      rw (w.result-is) (unknown_watch c.self.inside.graph c.self.inside.limits c.self.inside.plans c.self.inside.watches c.self.inside.pins.pins c.self.inside.follows c.args.self.now c.self.view_is c.remove.new.self c.args.name.now (c.in_default.ensures.none refl)
       (w.in-Err.ensures.unknown.0 refl) w.in-Err.ensures.same)
 ]
 
