@@ -12,7 +12,7 @@ Compared are each `examples/NAME.itpg` with its `NAME.out`, and what README.md, 
 - The page's script is the last file .itpg that it named outside a table, by a path from the top or from the page's folder. A command
   without a script has none, and its words are those of the page's script from then on.
 - A block that begins with a reply (`line 12 rows 3`, `tick w wide`) is a part of that script's output. If the paragraph directly
-  above it ends with a line `ask ..`, `first ..` and so on as code, or the block directly above it is one, that is line 12 of the
+  above it ends with a line `ask ..`, `near ..` and so on as code, or the block directly above it is one, that is line 12 of the
   script. Such a question has its replies directly below it.
 - A block of script lines is taken from that script, in its order, perhaps with lines left out. Otherwise it is a script of its own:
   its whole output is the next block, and a `--max-rows N` named as code under the same heading is its words.
@@ -32,8 +32,9 @@ import subprocess
 import sys
 
 TOP = pathlib.Path(__file__).resolve().parent.parent
-ASKS = "ask", "first", "last", "count", "in"
-COMMANDS = {"graph", "extend", "node", "edge", "live", "gone", "set", "unset", "drop", *ASKS, "watch", "show", "unwatch", "tick", "open", "close"}
+ASKS = "ask", "first", "last", "count", "in", "near"
+EDITS = "graph", "extend", "node", "edge", "live", "gone", "set", "unset", "drop"
+COMMANDS = {*EDITS, *ASKS, "watch", "show", "unwatch", "tick", "open", "close", "follow", "unfollow"}
 REPLY = re.compile(r"(line \d+ (rows \d+|counts \d+|wide|bad \w+|refused \w+)|tick (?!NAME\b)\w+ (gained \d+ lost \d+|wide)|ask \d (rows|wide)\b.*)$")
 CODE = re.compile(r"(bad|refused) [a-z]+$")
 CODES_IN_A_ROW = re.compile(r"`[^`]+`(?:, `[^`]+`)*")

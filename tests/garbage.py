@@ -45,7 +45,7 @@ def forms():
 RULES = forms()
 ROW = re.compile(r"\w+ -?\d+\.\.-?\d+( \w+ (t([+-]\d+)?|-?\d+)\.\.(t([+-]\d+)?|-?\d+))?")
 COUNT = re.compile(r"-?\d+\.\.-?\d+ [1-9]\d*")
-ANSWERED = {"ask": "rows", "in": "rows", "show": "rows", "first": "rows", "last": "rows", "count": "counts"}
+ANSWERED = {**dict.fromkeys(["ask", "in", "near", "show", "first", "last"], "rows"), "count": "counts"}
 
 GRAPH = """graph g 0 7
 node a P
@@ -59,12 +59,15 @@ live m 3 4
 set a p 'v' 0 3
 watch w MATCH (x:P)-/FWD/:meets/FWD/-(y)
 open s
+follow f MATCH (x:P)-/FWD/:meets/FWD/-(y)
 """
 GOOD = ["node d P", "edge k meets a b", "live b 0 7", "live k 2 3", "gone b 6 7", "set b p 'v' 2 4", "unset a p 1 2", "drop k", "drop d", "tick", "show w",
         "unwatch w", "watch w MATCH (x)", "watch v MATCH (x:P)-/NEXT/-(y)", "ask MATCH (x)", "ask MATCH (x:P {p = 'v'})-/(FWD + NEXT*)/-(y) ON g",
         "first MATCH (x:P)-/NEXT[1,3]/-(y)", "last MATCH (x)-/(FWD/:meets/FWD)*/NEXT*/-(y:P)", "count MATCH (x:P)", "count MATCH ()-/FWD/NEXT/-(y)",
-        "open r", "close r", "close s", "open s", "in s ask MATCH (x)", "in r ask MATCH (x:P {p = 'v'})-/(FWD + NEXT*)/-(y) ON g"]
-WORDS = [*RULES, "MATCH", "ON", "FWD", "BWD", "NEXT", "PREV", "F", "B", "N", "P", "NOT", "AND", "OR", "NODE", "EDGE", "EXISTS", "time", *"abcmkgwvpsrTR",
+        "open r", "close r", "close s", "open s", "in s ask MATCH (x)", "in r ask MATCH (x:P {p = 'v'})-/(FWD + NEXT*)/-(y) ON g",
+        "near f a", "near f a", "near f b", "near f m", "near h a", "unfollow f", "follow f MATCH (x)-/(FWD/FWD + NEXT)*/-(y)",
+        "follow h MATCH (x)-/NEXT[0,2]/-(y {p = 'v'}) ON g", "unfollow h"]
+WORDS = [*RULES, "MATCH", "ON", "FWD", "BWD", "NEXT", "PREV", "F", "B", "N", "P", "NOT", "AND", "OR", "NODE", "EDGE", "EXISTS", "time", *"abcmkgwvpsrfhTR",
          "meets", "x", "y", "0", "1", "7", "8", "-1", "007", "-0", "1000000000000", "1000000000001", "-1000000000001", "9" * 30, "'v'", "''", "'a b'",
          "'", "é", "n" * 64, "n" * 65, "'" + "v" * 65 + "'", "-/", "/-", ">=", *"(){}[]:,+*/?=<_", "#", "-", ">", ".", "\t", "\r", "\x00", "\x7f"]
 TOKEN = re.compile(r"[A-Za-z]\w*|-?\d+|'[^']*'|-/|/-|>=|.")
@@ -92,7 +95,7 @@ class Hostile:
 
     def bent(self):
         """A good line, most often with a few tokens changed."""
-        word = self.random.choice(["ask", "watch u", "in s ask", *kept.QUESTIONS])
+        word = self.random.choice(["ask", "watch u", "in s ask", "follow h", *kept.QUESTIONS])
         line = self.random.choice([*GOOD, *[f"{word} {self.draw.text('<query>')}"] * 2])
         return "".join(self.bend(TOKEN.findall(line), lambda: self.random.choice(WORDS), [0, 1, 1, 2, 3])).encode()
 

@@ -4,8 +4,8 @@
     tests/kept.py PROGRAM [--scripts N] [--from SEED] [--edits M] [--long] [--sets] [--fresh OTHER]
 
 Draws N scripts (200 unless given), each of M edits (100) over few names, labels and properties, with watches of five queries, which
-are also asked by `ask`, `first`, `last` and `count`, and of pins that come and go, and shows and ticks between. Every second script has a
-small limit of rows, so that answers are wide now and then.
+are also asked by `ask`, `first`, `last` and `count`, of pins that come and go, and of single objects by follows that come and go, and
+shows and ticks between. Every second script has a small limit of rows, so that answers are wide now and then.
 With --long a script has 10,000 edits unless M is given, and 32 watches of as many queries. Most edits come 600 at a time; then the
 watches tick, and one or two edits come before each of six questions. In each tenth script great questions fill the table of plans, of
 the graph or of a pin by turns, so that it is made anew. With --sets objects have up to three labels.
@@ -14,6 +14,7 @@ Each question that the program answers there is also asked of a fresh run, of OT
 far and this one question. So in a fresh run nothing is kept.
 - The reply to `ask`, `first`, `last`, `count` and `show` must be that of the fresh run, line for line.
 - The reply to a question on a pin's graph must be that of a fresh run which reads the edits accepted before the pin was opened.
+- The reply to a `near` must be that of a fresh run which follows the query only then.
 - A tick must be wide exactly if the fresh run is. Otherwise its rows must hold what the answer has and the base doesn't, and what
   the base has and the answer doesn't, as points. The base is the fresh run's answer at the watch's last tick that wasn't wide. In a
   long script two watches of a tick are compared so.
@@ -30,8 +31,8 @@ QUIET, COMPARED = 600, 2  # edits at a time in a long script, and watches of a t
 QUESTIONS = ["ask", "first", "last", "count"]
 
 
-def names(nodes, edges, watches, pins):
-    counts = {"node": nodes, "edge": edges, "watch": watches, "pin": pins}
+def names(nodes, edges, watches, pins, follows):
+    counts = {"node": nodes, "edge": edges, "watch": watches, "pin": pins, "follow": follows}
     return {kind: [f"{kind[0]}{i}" for i in range(count)] for kind, count in counts.items()}
 
 
@@ -53,9 +54,13 @@ FORMS = {
     "moment": [str(t) for t in range(LAST + 1)],
     "one_or_more": ["<label>", "<label>,<label>", "<label>,<label>,<label>"],
 }
-FEW, MANY = names(6, 5, 6, 3), names(16, 20, 32, 8)
+FEW, MANY = names(6, 5, 6, 3, 3), names(16, 20, 32, 8, 8)
 # What follows the name of an edit of an object.
 MORE = {"set": " <property> <value> <span>", "unset": " <property> <span>", "live": " <span>", "gone": " <span>", "drop": ""}
+
+
+def names_both(query):
+    return "(x" in query and "(y" in query
 
 
 class Draw:
@@ -101,29 +106,31 @@ class Draw:
     def other(self, *kinds):
         """A line that is no edit."""
         kind = self.random.choice(kinds or ["ask"] * 8 + ["part"] * 4 + ["show"] * 12 + ["tick"] * 5 + ["watch"] * 3 + ["unwatch"]
-                                           + ["in"] * 8 + ["open"] * 3 + ["close"] * 2)
-        of = "pin" if kind in ("open", "close", "in") else "watch"
-        name = {"watch": self.declared, "open": self.declared, "unwatch": self.dropped, "close": self.dropped}.get(kind, self.stands)(of)
-        query = self.random.choice(self.queries)
+                                           + ["in"] * 8 + ["open"] * 3 + ["close"] * 2 + ["near"] * 10 + ["follow"] * 2 + ["unfollow"])
+        of = {**dict.fromkeys(("open", "close", "in"), "pin"), **dict.fromkeys(("follow", "near", "unfollow"), "follow")}.get(kind, "watch")
+        chosen = {**dict.fromkeys(("watch", "open", "follow"), self.declared), **dict.fromkeys(("unwatch", "close", "unfollow"), self.dropped)}
+        name, query = chosen.get(kind, self.stands)(of), self.random.choice(self.queries)
         if kind == "part":
             kind = self.question(query)
         if kind in QUESTIONS:
             return f"{kind} {query}"
-        return {"tick": "tick", "watch": f"watch {name} {query}", "in": f"in {name} ask {query}"}.get(kind, f"{kind} {name}")
+        return {"tick": "tick", "watch": f"watch {name} {query}", "in": f"in {name} ask {query}",
+                "follow": f"follow {name} {self.random.choice([q for q in self.queries if names_both(q)] or self.queries)}",
+                "near": f"near {name} {self.stands(self.random.choice(['node'] * 5 + ['edge']))}"}.get(kind, f"{kind} {name}")
 
     def question(self, query):
         """The word of a line that asks for a part of the answer, or for counts if one end has a name. It is wrong now and then."""
-        both = "(x" in query and "(y" in query
-        return self.random.choice(["first", "last"] if both != (self.random.random() < 0.05) else ["count"])
+        return self.random.choice(["first", "last"] if names_both(query) != (self.random.random() < 0.05) else ["count"])
 
     def script(self, edits):
         lines = [f"graph g 0 {LAST}"]
         for kind in ["node", "node", "node", "node", "edge", "edge", "edge"]:
-            lines += [*self.edits(kind), self.other("watch")]
+            lines += [*self.edits(kind), self.other("watch"), self.other("follow")]
         for _ in range(edits):
             lines += self.edits()
             lines += [self.other() for _ in range(self.random.choice([0, 0, 1, 1, 2]))]
             lines += [f"ask {query}" for query in self.queries] * (self.random.random() < 0.4)
+            lines += [f"near {self.stands('follow')} {name}" for name in sorted(self.standing["node"])] * (self.random.random() < 0.2)
         return lines
 
     def great(self, word):
@@ -136,7 +143,7 @@ class Draw:
         lines = [f"graph g 0 {LAST}"]
         for kind in ["node"] * 12 + ["edge"] * 12:
             lines += self.edits(kind)
-        lines += ["open s", *(f"watch {self.declared('watch')} {query}" for query in self.queries)]
+        lines += ["open s", *(f"watch {self.declared('watch')} {query}" for query in self.queries), *(self.other("follow") for _ in range(8))]
         made = 0
         while made < edits:
             lines += [self.other("close"), self.other("open"), self.other("open")][:self.random.choice([0, 2, 3])]
@@ -146,7 +153,8 @@ class Draw:
             for _ in range(6):
                 lines += [*self.edits(), *self.edits()][:self.random.choice([1, 1, 2])]
                 lines += [self.other("show", "show", "ask", "part", "in"), f"in s ask {self.random.choice(self.queries)}"]
-                lines += [self.other("unwatch"), self.other("watch")] * (self.random.random() < 0.1)
+                lines += [self.other("unwatch"), self.other("watch"), self.other("unfollow"), self.other("follow")] * (self.random.random() < 0.1)
+                lines += [self.other("near") for _ in range(4)]
         return lines
 
 
@@ -182,6 +190,7 @@ class Trial:
         self.random = random.Random(len(self.output))
         self.edits, self.numbers = bytearray(), {}  # accepted so far; of each name a number of the last object declared
         self.pins = {}  # of each name how long the edits were when it was opened
+        self.follows = {}  # of each name its query
         self.watches = {}  # of each name its query; where its base was found how long the edits were, and the numbers of names
         self.replies = 0
 
@@ -191,7 +200,7 @@ class Trial:
         return taken
 
     def fresh(self, query, size, word="ask"):
-        """The reply of a fresh run behind so many bytes of edits: that it is wide or how many rows it has, and these."""
+        """The reply of a fresh run to this question behind so many bytes of edits: that it is wide or how many rows it has, and these."""
         head, *rows = run(self.program, self.limit, bytes(self.edits[:size]) + f"{word} {query}".encode())
         return head.split(" ", 2)[2], rows
 
@@ -238,6 +247,12 @@ class Trial:
                 self.pins[name] = len(self.edits)
             elif command == "close":
                 del self.pins[name]
+            elif command == "near":
+                self.answer(number, rest.strip(), f"follow f {self.follows[name]}\nnear f")
+            elif command == "follow":
+                self.follows[name] = rest.strip()
+            elif command == "unfollow":
+                del self.follows[name]
             elif command == "tick":
                 self.tick(number)
             elif command == "watch":

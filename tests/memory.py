@@ -7,7 +7,7 @@ It compiles a small library in a temporary folder that stands before the C libra
 the requests, and refuses the one of a number, or that and all later ones. So it needs a C compiler, and a program that is linked
 dynamically.
 
-- Each request of two scripts and of a trial is refused, alone and with all later ones; of a run with more than N requests (4,000
+- Each request of three scripts and of a trial is refused, alone and with all later ones; of a run with more than N requests (4,000
   unless given), every second, third and so on. The status must be 5 and the output that of some first lines, or the status and the
   output must be those of a run with all memory.
 - Lines that must take no memory come last in a script, which must ask as often as without them, and must end well if memory is
@@ -73,7 +73,8 @@ __attribute__((destructor)) static void end(void) {
 }
 """
 
-# The lines that come before those that must take no memory. The first makes the buffer of a line wide. The watch `w` is fresh.
+# The lines that come before those that must take no memory. The first makes the buffer of a line wide. The watch `w` is fresh, and the rows
+# near `a` are kept.
 BEFORE = f"""# {"x" * 500}
 graph g 0 99
 node a T
@@ -85,6 +86,9 @@ live a 0 20
 live b 5 30
 live m 6 8
 set a p 'v' 0 9
+follow f MATCH (x:T)-/FWD/:e/FWD/-(y)
+near f a
+live c 0 9
 watch w MATCH (x:T)-/FWD/:e/FWD/-(y)
 watch v MATCH (x)
 tick
@@ -93,9 +97,10 @@ show w
 FREE = ["", " \t ", "# a comment", "\r", "Node a T", "live a 0.5 2", "live a 0 1000000000001", f"node {'x' * 65} T", "ask", "count", "set a p 'v", "graph h 0 9",
         "node a T", "node m T", "edge m e a b", "edge n e a z", "edge n e a m", "live z 0 9", "live a 9 5", "live a 90 100", "live m 0 9", "gone z 0 9",
         "gone a 9 5", "gone a 90 100", "gone a 7 7", "set z p 'v' 0 9", "set a p 'v' 15 25", "set a p 'v' 9 5", "unset z p 0 9", "unset a p 0 100",
-        "drop z", "drop a", "drop m", "drop k", "drop c", "unwatch z", "unwatch w", "unwatch v", "show z", "show w", "show v"]
+        "drop z", "drop a", "drop m", "drop k", "drop c", "unwatch z", "unwatch w", "unwatch v", "show z", "show w", "show v",
+        "near f a", "near f z", "near z a", "near a", "unfollow f", "unfollow z"]
 FREE_AT_FIRST = ["graph g 0 9", "graph g 9 0", "node a T", "edge m e a b", "live a 0 9", "gone a 0 9", "set a p 'v' 0 9", "unset a p 0 9", "drop a", "show w",
-                 "unwatch w", "tick"]
+                 "unwatch w", "tick", "near f a", "unfollow f"]
 
 
 class Runs:
@@ -189,7 +194,7 @@ def main():
     with tempfile.TemporaryDirectory() as folder:
         runs = Runs(options.program, pathlib.Path(folder))
         differ = []
-        for name in ("contact_study_with_a_watch", "lines_of_all_kinds"):
+        for name in ("contact_study_with_a_watch", "lines_of_all_kinds", "near_before_and_after_edits"):
             differ += refuse_each(runs, name, [], (DATA / f"{name}.itpg").read_bytes(), options.runs)
         differ += refuse_each(runs, "--trial 7", ["--trial", "7"], b"", options.runs // 40)
         differ += count_free(runs, BEFORE.encode(), FREE)

@@ -10,7 +10,8 @@ leads to, by the meaning of its path, and a repetition is walked step by step; r
 the five conditions of a normal list; wide is told by the rows of each worked member. So it says nothing of horizons longer
 than MOST_MOMENTS. A watch keeps the relation that the last tick worked out, and what was gained and lost are the points that
 one relation leads to and the other doesn't. A `first` or `last` tries each pair of a relation, a `count` each object at each
-moment. A pin keeps a whole copy of the graph. Trials are worked out by `trial_model.py`, but for those with a limit of rows.
+moment. A pin keeps a whole copy of the graph. A `near` makes the graph near its object anew, asks there what is wide, and takes its
+rows from the whole graph. Trials are worked out by `trial_model.py`, but for those with a limit of rows.
 """
 import copy
 import functools
@@ -255,7 +256,7 @@ def read_query(tokens, command):
     if terms(path) > 1024:
         raise Fault("terms")
     both = bool(first and last)
-    if command in ("first", "last") and not both or command == "count" and both:
+    if command in ("first", "last", "follow") and not both or command == "count" and both:
         raise Fault("names")
     return bool(first), bool(last), path, graph
 
@@ -386,8 +387,12 @@ class Graph:
     def drop(self, name):
         it = self.known(name)
         refuse("incident", not it.ends and bool(self.edges_at(it)))
+        self.drop_number(self.find(name))
+
+    def drop_number(self, o):
+        it = self.objects[o]
         it.stands, it.lives, it.values = False, set(), {}
-        del self.numbers[name]
+        del self.numbers[it.name]
 
 
 # What a path means: for each point the points that it leads to, as a number with a bit for each
@@ -719,13 +724,64 @@ def members(path, a, b):
             yield ("repeat", body, 0, k), passed, passed
 
 
+# What is near an object
+
+MOST_STEPS = 1_000_000
+
+
+def capped(number):
+    return number if number <= MOST_STEPS else None
+
+
+@functools.cache
+def steps(path):
+    """How many steps between an edge and an end of it a path can take, or None if they are unbounded."""
+    kind = path[0]
+    if kind in ("F", "B"):
+        return 1
+    if kind in ("N", "P"):
+        return 0
+    parts = [steps(part) for part in (conditions(path[1]) if kind == "test" else path[1:2] if kind == "repeat" else path[1:])]
+    if None in parts:
+        return None
+    if kind == "test":
+        return max(parts, default=0)
+    if kind == "repeat":
+        return 0 if parts == [0] else None if path[3] is None else capped(path[3] * parts[0])
+    return capped(sum(parts)) if kind == "seq" else max(parts)
+
+
+def reach(graph, start, most):
+    """The numbers of the objects to which at most so many steps lead, with the ends of the edges among them."""
+    beside = {o: set() for o in graph.standing()}
+    for edge in beside:
+        for end in graph.objects[edge].ends or ():
+            beside[edge].add(end)
+            beside[end].add(edge)
+    found, front = {start}, {start}
+    while front and most != 0:
+        front = {p for o in front for p in beside[o]} - found
+        found |= front
+        most = most and most - 1
+    return found | {end for o in found for end in graph.objects[o].ends or ()}
+
+
+def near_graph(graph, start, most):
+    """The graph in which nothing outside what is reached stands, exists or has a value."""
+    left = copy.deepcopy(graph)
+    for o in set(graph.standing()) - reach(graph, start, most):
+        left.drop_number(o)
+    return left
+
+
 # Lines and replies
 
 FORMS = {
     "graph": "nii", "extend": "ii", "node": "nl", "edge": "nlnn", "live": "nii", "gone": "nii", "set": "nnqii", "unset": "nnii", "drop": "n",
     "ask": None, "first": None, "last": None, "count": None, "watch": "n", "show": "n", "unwatch": "n", "tick": "",
-    "open": "n", "close": "n", "in": "nn",
+    "open": "n", "close": "n", "in": "nn", "follow": "n", "near": "nn", "unfollow": "n",
 }
+NAMED_QUERIES = "watch", "follow"  # a name and a query text stand behind the word
 QUESTIONS = [command for command in FORMS if FORMS[command] is None]
 KINDS = {"word": "n", "number": "i", "quoted": "q"}
 LABELS = "n(?:,n){0,7}"  # one to eight words parted by commas
@@ -754,6 +810,7 @@ class Machine:
     def __init__(self, limit):
         self.graph, self.limit, self.watches = Graph(), limit, []
         self.pins = {}  # of each name a copy of the graph
+        self.follows = {}  # of each name its query
 
     def reply(self, number, line):
         """The lines of the reply."""
@@ -775,13 +832,17 @@ class Machine:
         if query is not None:
             query = read_query(query, command)
         refuse("nograph", self.graph.name is None and command != "graph")
-        if command in QUESTIONS or command == "watch":
+        if command in QUESTIONS or command in NAMED_QUERIES:
             refuse("graphname", query[3] is not None and query[3] != self.graph.name)
         if command in QUESTIONS:
             return self.answer(number, self.graph, query, command)
         values = values_of(command, parts)
         if command in ("open", "close", "in"):
             return self.session(number, command, values[0], query)
+        if command == "follow":
+            return self.follow(*values, query)
+        if command in ("near", "unfollow"):
+            return self.followed(number, *values)
         if command == "watch":
             return self.watch(*values, query)
         if command == "show":
@@ -800,11 +861,11 @@ class Machine:
         """The tokens of the form, and those of the query text behind them."""
         if command in QUESTIONS:
             return [], rest
-        if command == "watch" and rest and rest[0][0] == "word":
+        if command in NAMED_QUERIES and rest and rest[0][0] == "word":
             return rest[:1], rest[1:]
         if command == "in" and rest and rest[0][0] == "word" and rest[1:2] == [("word", "ask")]:
             return rest[:2], rest[2:]
-        if command in ("watch", "in") or not re.fullmatch(FORMS[command].replace("l", LABELS), kinds_of(rest)):
+        if command in (*NAMED_QUERIES, "in") or not re.fullmatch(FORMS[command].replace("l", LABELS), kinds_of(rest)):
             raise Fault("text")
         return rest, None
 
@@ -831,6 +892,30 @@ class Machine:
             return []
         refuse("graphname", query[3] is not None and query[3] != self.pins[name].name)
         return self.answer(number, self.pins[name], query)
+
+    def follow(self, name, query):
+        refuse("taken", name in self.follows)
+        refuse("full", len(self.follows) >= 8)
+        self.follows[name] = query
+        return []
+
+    def followed(self, number, name, source=None):
+        """The reply to a `near` with an object, and to an `unfollow` without one."""
+        refuse("unknown", name not in self.follows)
+        if source is None:
+            del self.follows[name]
+            return []
+        refuse("unknown", self.graph.find(source) is None)
+        return self.near(number, self.follows[name], self.graph.find(source))
+
+    def near(self, number, query, start):
+        path = query[2]
+        if self.relation(near_graph(self.graph, start, steps(path)), query) is None:
+            return [f"line {number} wide"]
+        meaning = Meaning(self.graph)
+        relation = {x: ends for x, ends in meaning.of(path).items() if meaning.point(x)[0] == start}
+        rows = self.rows(self.graph, query, relation)
+        return [f"line {number} rows {len(rows)}", *rows]
 
     def extend(self, low, high):
         """Widens the horizon. The bits of the points change, so the bases get the new ones."""
@@ -922,7 +1007,7 @@ def run(script, limit=100_000):
 
 def stale_copies(folder):
     """The names of the scripts and outputs in examples/ that aren't the same as here."""
-    examples = sorted(path for path in (folder.parents[2] / "examples").iterdir() if path.suffix != ".md")
+    examples = sorted(path for path in (folder.parents[2] / "examples").iterdir() if path.suffix in (".itpg", ".out"))
     return [path.name for path in examples if path.read_bytes() != (folder / path.name).read_bytes()]
 
 
