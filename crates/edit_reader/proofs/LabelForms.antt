@@ -1,5 +1,6 @@
 -- The forms with lists of labels: what they ask for, and that taking their parts one by one tells the same.
 use Rattle.std.proofs.Common.{◌≡◌, ℕ, List, [], ◌∷◌, Option, Some, None, Ok, Err, refl, sym, ap, ◌∙◌, subst}
+use Rattle.std.specs.Prelude.{IsTrue}
 use Rattle.std.specs.Option.{option_and_then, option_map_or}
 use Rattle.itpg_base.specs.Words.{Word, IsLabels}
 use Rattle.itpg_base.specs.declared.text_code.TextCode.{TextCode}
@@ -10,6 +11,7 @@ use Rattle.edit_reader.specs.Readings.{Reading, Changes}
 use Rattle.edit_reader.specs.Forms.{form, node_form, edge_form}
 use Rattle.edit_reader.specs.Labels.{Listed, listed, set_of}
 use Rattle.edit_reader.specs.Moments.{AsksOfMoments, AsksForLabels}
+use Rattle.edit_reader.specs.Names.{is_word, AsksForWords}
 use Rattle.edit_reader.specs.Steps.{Told, word_then, end_then, name_then, names_then, node_names_then, edge_names_then, node_told, edge_told}
 use Rattle.edit_reader.specs.Telling.{near, short, form_told}
 use Rattle.edit_reader.proofs.LabelSets.{are_labels}
@@ -39,6 +41,14 @@ node_moments id (Some l) reading e = subst AsksOfMoments (sym (is_node id l.word
 pub edge_moments : (id : Word) (o : Option Listed) (reading : Reading) → option_and_then (λ l. edge_form id l.words l.rest) o ≡ Some reading → AsksOfMoments reading
 edge_moments id None reading e = let never : ⊥ = cc in absurd never
 edge_moments id (Some l) reading e = subst AsksOfMoments (sym (is_edge id l.words l.rest reading e).is) tt
+
+pub node_words : (id : Word) (o : Option Listed) (reading : Reading) → option_and_then (λ l. node_form id l.words l.rest) o ≡ Some reading → IsTrue (is_word id) → AsksForWords reading
+node_words id None reading e word = let never : ⊥ = cc in absurd never
+node_words id (Some l) reading e word = subst AsksForWords (sym (is_node id l.words l.rest reading e)) word
+
+pub edge_words : (id : Word) (o : Option Listed) (reading : Reading) → option_and_then (λ l. edge_form id l.words l.rest) o ≡ Some reading → IsTrue (is_word id) → AsksForWords reading
+edge_words id None reading e word = let never : ⊥ = cc in absurd never
+edge_words id (Some l) reading e word = subst AsksForWords (sym (is_edge id l.words l.rest reading e).is) word
 
 are_set : (parts : List Lexeme) (l : Listed) → listed 8 parts ≡ Some l → IsLabels (set_of l.words)
 are_set parts l e = let few = few_listed 8 parts l e in are_labels l.words few.some few.few

@@ -16,3 +16,5 @@ pub mod LongLines
 pub mod LabelForms
 pub mod PinForms
 pub mod InRange
+pub mod WordTokens
+pub mod GivenNames

@@ -11,7 +11,7 @@ use Rattle.edit_reader.specs.Lines.{LineOf}
 use Rattle.edit_reader.proofs.Firsts.{long_line, taken_once}
 
 -- one byte at most is dropped
-shorter_by_one : (line : List ℕ) → length line ≤ length (without_end line) + 1
+pub shorter_by_one : (line : List ℕ) → length line ≤ length (without_end line) + 1
 shorter_by_one line = by_end (nat_eq (slice_index line (length line - 1)) 13)
   where
     by_end : (t : Bool) → length line ≤ length (if t then take (length line - 1) line else line) + 1

@@ -5,6 +5,7 @@ pub mod Forms
 pub mod Faults
 pub mod Lines
 pub mod Moments
+pub mod Names
 pub mod Steps
 pub mod Telling
 pub mod Scans

@@ -30,7 +30,7 @@ pub data Reading : Type 0 where
 -- what a line of the code asks for
 abbrev pub reading_of : Line → Reading
 reading_of Line.Blank = Nothing
-reading_of (Line.Edit edit) = Changes edit
+reading_of (Line.Edit edit) = Changes edit.now
 reading_of (Line.Ask query) = Asks query.now
 reading_of (Line.First query) = Wants First query.now
 reading_of (Line.Last query) = Wants Last query.now

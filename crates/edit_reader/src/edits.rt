@@ -11,49 +11,52 @@ use itpg_edit::Edit;
 
 // `NAME LO HI`
 #[inline(never)]
-pub(crate) fn begin(parts: Parts<'_>) -> Result<Line<'_>, TextCode>
+pub(crate) fn begin<'a>(parts: Parts<'a>, room: &'a mut Edit) -> Result<Line<'a>, TextCode>
     ensures told { Tells parts.entry.line.now parts.entry.at begin_told result }
     ensures whole { IfOk result (λ _. IsWhole parts.entry.line.now) }
 {
     let (name, lo, hi) = parts.name_and_span()?;
-    Ok(Line::Edit(Edit::Begin { name, lo, hi }))
+    *room = Edit::Begin { name, lo, hi };
+    Ok(Line::Edit(room))
 }
 
 // `LO HI`
 #[inline(never)]
-pub(crate) fn extend(parts: Parts<'_>) -> Result<Line<'_>, TextCode>
+pub(crate) fn extend<'a>(parts: Parts<'a>, room: &'a mut Edit) -> Result<Line<'a>, TextCode>
     ensures told { Tells parts.entry.line.now parts.entry.at extend_told result }
     ensures whole { IfOk result (λ _. IsWhole parts.entry.line.now) }
 {
     let (lo, hi) = parts.span()?;
-    Ok(Line::Edit(Edit::Extend { lo, hi }))
+    *room = Edit::Extend { lo, hi };
+    Ok(Line::Edit(room))
 }
 
 // `ID LABELS`. Mostly the list is one word, which is then read once, and no array is made for it.
 #[inline(never)]
-pub(crate) fn node(parts: Parts<'_>) -> Result<Line<'_>, TextCode>
+pub(crate) fn node<'a>(parts: Parts<'a>, room: &'a mut Edit) -> Result<Line<'a>, TextCode>
     ensures told { Tells parts.entry.line.now parts.entry.at node_told result }
     ensures whole { IfOk result (λ _. IsWhole parts.entry.line.now) }
 {
     let (id, listed) = parts.word()?;
     let (label, rest) = listed.word()?;
     match rest.behind_comma() {
-        Some(_) => node_of_labels(parts),
+        Some(_) => node_of_labels(parts, room),
         None => {
             rest.end()?;
             let id = name(id)?;
             let label = name(label)?;
-            Ok(Line::Edit(Edit::AddNode {
+            *room = Edit::AddNode {
                 id,
                 labels: LabelSet::one(label),
-            }))
+            };
+            Ok(Line::Edit(room))
         }
     }
 }
 
 // The same, whatever the number of labels.
 #[inline(never)]
-fn node_of_labels(parts: Parts<'_>) -> Result<Line<'_>, TextCode>
+fn node_of_labels<'a>(parts: Parts<'a>, room: &'a mut Edit) -> Result<Line<'a>, TextCode>
     ensures told { Tells parts.entry.line.now parts.entry.at node_told result }
     ensures whole { IfOk result (λ _. IsWhole parts.entry.line.now) }
 {
@@ -62,19 +65,20 @@ fn node_of_labels(parts: Parts<'_>) -> Result<Line<'_>, TextCode>
     rest.end()?;
     let id = name(id)?;
     let labels = listed.labels()?;
-    Ok(Line::Edit(Edit::AddNode { id, labels }))
+    *room = Edit::AddNode { id, labels };
+    Ok(Line::Edit(room))
 }
 
 // `ID LABELS SRC TGT`, as for a node.
 #[inline(never)]
-pub(crate) fn edge(parts: Parts<'_>) -> Result<Line<'_>, TextCode>
+pub(crate) fn edge<'a>(parts: Parts<'a>, room: &'a mut Edit) -> Result<Line<'a>, TextCode>
     ensures told { Tells parts.entry.line.now parts.entry.at edge_told result }
     ensures whole { IfOk result (λ _. IsWhole parts.entry.line.now) }
 {
     let (id, listed) = parts.word()?;
     let (label, rest) = listed.word()?;
     match rest.behind_comma() {
-        Some(_) => edge_of_labels(parts),
+        Some(_) => edge_of_labels(parts, room),
         None => {
             let (source, rest) = rest.word()?;
             let (target, rest) = rest.word()?;
@@ -83,19 +87,20 @@ pub(crate) fn edge(parts: Parts<'_>) -> Result<Line<'_>, TextCode>
             let label = name(label)?;
             let source = name(source)?;
             let target = name(target)?;
-            Ok(Line::Edit(Edit::AddEdge {
+            *room = Edit::AddEdge {
                 id,
                 labels: LabelSet::one(label),
                 source,
                 target,
-            }))
+            };
+            Ok(Line::Edit(room))
         }
     }
 }
 
 // The same, whatever the number of labels.
 #[inline(never)]
-fn edge_of_labels(parts: Parts<'_>) -> Result<Line<'_>, TextCode>
+fn edge_of_labels<'a>(parts: Parts<'a>, room: &'a mut Edit) -> Result<Line<'a>, TextCode>
     ensures told { Tells parts.entry.line.now parts.entry.at edge_told result }
     ensures whole { IfOk result (λ _. IsWhole parts.entry.line.now) }
 {
@@ -108,37 +113,40 @@ fn edge_of_labels(parts: Parts<'_>) -> Result<Line<'_>, TextCode>
     let labels = listed.labels()?;
     let source = name(source)?;
     let target = name(target)?;
-    Ok(Line::Edit(Edit::AddEdge {
+    *room = Edit::AddEdge {
         id,
         labels,
         source,
         target,
-    }))
+    };
+    Ok(Line::Edit(room))
 }
 
 // `ID FROM TO`
 #[inline(never)]
-pub(crate) fn live(parts: Parts<'_>) -> Result<Line<'_>, TextCode>
+pub(crate) fn live<'a>(parts: Parts<'a>, room: &'a mut Edit) -> Result<Line<'a>, TextCode>
     ensures told { Tells parts.entry.line.now parts.entry.at live_told result }
     ensures whole { IfOk result (λ _. IsWhole parts.entry.line.now) }
 {
     let (id, from, to) = parts.name_and_span()?;
-    Ok(Line::Edit(Edit::Live { id, from, to }))
+    *room = Edit::Live { id, from, to };
+    Ok(Line::Edit(room))
 }
 
 // `ID FROM TO`
 #[inline(never)]
-pub(crate) fn gone(parts: Parts<'_>) -> Result<Line<'_>, TextCode>
+pub(crate) fn gone<'a>(parts: Parts<'a>, room: &'a mut Edit) -> Result<Line<'a>, TextCode>
     ensures told { Tells parts.entry.line.now parts.entry.at gone_told result }
     ensures whole { IfOk result (λ _. IsWhole parts.entry.line.now) }
 {
     let (id, from, to) = parts.name_and_span()?;
-    Ok(Line::Edit(Edit::Gone { id, from, to }))
+    *room = Edit::Gone { id, from, to };
+    Ok(Line::Edit(room))
 }
 
 // `ID PROP 'VALUE' FROM TO`
 #[inline(never)]
-pub(crate) fn put(parts: Parts<'_>) -> Result<Line<'_>, TextCode>
+pub(crate) fn put<'a>(parts: Parts<'a>, room: &'a mut Edit) -> Result<Line<'a>, TextCode>
     ensures told { Tells parts.entry.line.now parts.entry.at put_told result }
     ensures whole { IfOk result (λ _. IsWhole parts.entry.line.now) }
 {
@@ -149,18 +157,19 @@ pub(crate) fn put(parts: Parts<'_>) -> Result<Line<'_>, TextCode>
     let id = name(id)?;
     let prop = name(prop)?;
     let value = name(value)?;
-    Ok(Line::Edit(Edit::Put {
+    *room = Edit::Put {
         id,
         prop,
         value,
         from,
         to,
-    }))
+    };
+    Ok(Line::Edit(room))
 }
 
 // `ID PROP FROM TO`
 #[inline(never)]
-pub(crate) fn clear(parts: Parts<'_>) -> Result<Line<'_>, TextCode>
+pub(crate) fn clear<'a>(parts: Parts<'a>, room: &'a mut Edit) -> Result<Line<'a>, TextCode>
     ensures told { Tells parts.entry.line.now parts.entry.at clear_told result }
     ensures whole { IfOk result (λ _. IsWhole parts.entry.line.now) }
 {
@@ -169,15 +178,17 @@ pub(crate) fn clear(parts: Parts<'_>) -> Result<Line<'_>, TextCode>
     let (from, to) = rest.span()?;
     let id = name(id)?;
     let prop = name(prop)?;
-    Ok(Line::Edit(Edit::Clear { id, prop, from, to }))
+    *room = Edit::Clear { id, prop, from, to };
+    Ok(Line::Edit(room))
 }
 
 // `ID`
 #[inline(never)]
-pub(crate) fn remove(parts: Parts<'_>) -> Result<Line<'_>, TextCode>
+pub(crate) fn remove<'a>(parts: Parts<'a>, room: &'a mut Edit) -> Result<Line<'a>, TextCode>
     ensures told { Tells parts.entry.line.now parts.entry.at remove_told result }
     ensures whole { IfOk result (λ _. IsWhole parts.entry.line.now) }
 {
     let id = parts.only_name()?;
-    Ok(Line::Edit(Edit::Remove { id }))
+    *room = Edit::Remove { id };
+    Ok(Line::Edit(room))
 }

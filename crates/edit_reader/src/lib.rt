@@ -17,6 +17,8 @@ mod pins;
 mod reading;
 
 pub use faults::without_end;
-pub use laws::{law_of_labels, law_of_lines, law_of_long_lines, law_of_moments};
-pub use line::{Line, Wanted};
+pub use laws::{
+    law_of_labels, law_of_lines, law_of_long_lines, law_of_moments, law_of_names, law_of_words,
+};
+pub use line::{Line, Wanted, room};
 pub use reading::{MAX_LINE, read_line};

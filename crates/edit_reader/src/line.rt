@@ -1,8 +1,10 @@
 //! What a line asks for.
+ghost use Rattle.std.specs.Prelude.{◌≡◌, []};
+
 use itpg_base::Name;
 use itpg_edit::Edit;
 
-/// What a script line asks for. A query text is a part of the line.
+/// What a script line asks for. A query text is a part of the line, and an edit is lent by the room that the line was read into.
 ///
 /// ```text
 ///     node a Staff,Person              Edit: AddNode { id: a, labels: {Person, Staff} }
@@ -18,7 +20,7 @@ pub enum Line<'a> {
     /// Nothing: the line is blank or a comment.
     Blank,
     /// A change of the graph.
-    Edit(Edit),
+    Edit(&'a Edit),
     /// The answer to a query text: the bytes behind the word `ask`, up to the end of the line.
     Ask(&'a [u8]),
     /// The first arrivals of a query text's path: the bytes behind the word `first`.
@@ -58,4 +60,13 @@ pub enum Wanted {
     Last,
     /// How many objects answer, moment by moment.
     Count,
+}
+
+/// A first room for `read_line` to write edits into. It holds an edit of no meaning: to drop the object of the empty name.
+pub fn room() -> Edit
+    ensures { result ≡ Edit.Remove [] }
+{
+    Edit::Remove {
+        id: Name::default(),
+    }
 }

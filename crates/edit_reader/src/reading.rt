@@ -1,7 +1,7 @@
 //! Reading a line.
 //!
-//! What leads to a form is inlined, and the forms are not, so that each writes the line, a large value, straight to where the
-//! caller wants it.
+//! What leads to a form is inlined, and the forms are not, so that each writes what the line asks for straight to where the
+//! caller wants it. An edit is larger than a result should be, and is written into a place of the caller's.
 ghost use Rattle.std.specs.Prelude.{◌≡◌, ℕ, List, Option, Result, Err, IfOk, IsFalse, length, drop, slice_get};
 ghost use Rattle.itpg_base.specs.declared.text_code.TextCode.{TextCode};
 ghost use Rattle.edit_reader.specs.Readings.{Reading, reading_of, told};
@@ -23,13 +23,14 @@ use crate::line::Line;
 use crate::parts::{Parts, name};
 use crate::pins::{ask_in, close, open};
 use itpg_base::TextCode;
+use itpg_edit::Edit;
 use script_lex::MAX_TOKENS;
 
 /// How many bytes a line may have, without one last CR.
 pub const MAX_LINE: usize = 65_536;
 
 /// What a script line asks for. The line is handed in without its LF; where it ends with a CR, this call drops that one
-/// byte.
+/// byte. An edit is written over what stands in `room`, and lent from there; one room serves for line after line.
 ///
 /// ```text
 ///     live a 0 20            Edit: Live { id: a, from: 0, to: 20 }
@@ -56,7 +57,7 @@ pub const MAX_LINE: usize = 65_536;
 /// A blank line or a comment has no fault but `Long`, and the bytes of a query text are looked at only as tokens: its
 /// numbers and words may have any size.
 #[inline(always)]
-pub fn read_line(line: &[u8]) -> Result<Line<'_>, TextCode>
+pub fn read_line<'a>(line: &'a [u8], room: &'a mut Edit) -> Result<Line<'a>, TextCode>
     ensures line { LineOf line.now (told result) }
     ensures only { (other : Result Reading TextCode) → LineOf line.now other → other ≡ told result }
     ensures moments { IfOk result (λ line. AsksOfMoments (reading_of line)) }
@@ -68,14 +69,14 @@ pub fn read_line(line: &[u8]) -> Result<Line<'_>, TextCode>
     if is_silent(line) {
         return Ok(Line::Blank);
     }
-    read_form(line)
+    read_form(line, room)
 }
 
 // What a line that is neither blank nor a comment asks for, or its first fault.
 //
 // Where a form without a query text is there, all tokens have been read, and each is good.
 #[inline(always)]
-fn read_form(line: &[u8]) -> Result<Line<'_>, TextCode>
+fn read_form<'a>(line: &'a [u8], room: &'a mut Edit) -> Result<Line<'a>, TextCode>
     ensures { (tokens : List Placed) (end : Option TextCode) → AreTokens line.now 0 tokens end →
         told result ≡ line_told line.now tokens end }
 {
@@ -87,9 +88,9 @@ fn read_form(line: &[u8]) -> Result<Line<'_>, TextCode>
     };
     if command.has_query() || line.len() > MAX_TOKENS {
         check_tokens(line)?;
-        return read_command(command, parts);
+        return read_command(command, parts, room);
     }
-    let read = read_command(command, parts);
+    let read = read_command(command, parts, room);
     if read.is_err() {
         check_tokens(line)?;
     }
@@ -109,7 +110,11 @@ fn no_form(line: &[u8]) -> TextCode
 
 // What a line with this command word asks for, where what stands behind the word is a form.
 #[inline(always)]
-fn read_command(command: Command, parts: Parts<'_>) -> Result<Line<'_>, TextCode>
+fn read_command<'a>(
+    command: Command,
+    parts: Parts<'a>,
+    room: &'a mut Edit,
+) -> Result<Line<'a>, TextCode>
     ensures told { OfRest parts.entry.line.now parts.entry.at (λ tokens. (text : ℕ → List ℕ) →
         text 0 ≡ drop parts.entry.at parts.entry.line.now →
         text 1 ≡ bytes_behind parts.entry.line.now (slice_get tokens 0) →
@@ -119,15 +124,15 @@ fn read_command(command: Command, parts: Parts<'_>) -> Result<Line<'_>, TextCode
     ensures whole { IsFalse (has_query command) → IfOk result (λ _. IsWhole parts.entry.line.now) }
 {
     match command {
-        Command::Graph => begin(parts),
-        Command::Extend => extend(parts),
-        Command::Node => node(parts),
-        Command::Edge => edge(parts),
-        Command::Live => live(parts),
-        Command::Gone => gone(parts),
-        Command::Set => put(parts),
-        Command::Unset => clear(parts),
-        Command::Drop => remove(parts),
+        Command::Graph => begin(parts, room),
+        Command::Extend => extend(parts, room),
+        Command::Node => node(parts, room),
+        Command::Edge => edge(parts, room),
+        Command::Live => live(parts, room),
+        Command::Gone => gone(parts, room),
+        Command::Set => put(parts, room),
+        Command::Unset => clear(parts, room),
+        Command::Drop => remove(parts, room),
         Command::Ask => Ok(Line::Ask(parts.text())),
         Command::First => Ok(Line::First(parts.text())),
         Command::Last => Ok(Line::Last(parts.text())),

@@ -9,6 +9,7 @@ use Rattle.itpg_edit.specs.declared.edit.Edit.{Edit}
 use Rattle.itpg_edit.specs.Sites.{HasMoments, HasLabels}
 use Rattle.edit_reader.specs.declared.reading.TheConstants.{MAX_LINE}
 use Rattle.edit_reader.specs.Faults.{without_end}
+use Rattle.edit_reader.specs.Names.{is_word, HasNewWord}
 use Rattle.edit_reader.proofs.LabelSets.{are_labels}
 use Rattle.script_lex.specs.Bytes.{is_blank}
 use Rattle.serde_json.specs.Data.{Data, Items, no_items, item}
@@ -16,18 +17,18 @@ use Rattle.serde_json.specs.Events.{items_len}
 use Rattle.serde_json.specs.Find.{get, as_str, as_array}
 use Rattle.json_port.specs.declared.line.JsonLine.{JsonLine}
 use Rattle.json_port.specs.declared.op.Op.{Op}
-use Rattle.json_port.specs.Parts.{is_word, only_if, name_of, names_in, some_and_few, labels_at, name_at, number_at, value_at, text_at}
+use Rattle.json_port.specs.Parts.{only_if, name_of, names_in, some_and_few, labels_at, name_at, number_at, value_at, text_at}
 use Rattle.json_port.specs.Objects.{Asked, Change, Line, made, asked_as, asked, op_in}
 use Rattle.json_port.specs.Faults.{IsTold, Tells}
-use Rattle.json_port.specs.NewWords.{HasNewWord}
 use Rattle.json_port.specs.Lines.{asked_by, value_in, ShortIs, FitIs, JsonOf}
 
 -- as many as an object may have labels
 abbrev AreSome : List Word → Type 0
 AreSome names = (0 < length names) × (length names ≤ MAX_LABELS)
 
--- the labels that are listed are so many, and a name that is declared is a word
+-- the labels that are listed are so many, and a new name is a word
 abbrev IsListed : Asked → Type 0
+IsListed (Change (Edit.Begin name lo hi)) = IsTrue (is_word name)
 IsListed (Change (Edit.AddNode id labels)) = AreSome labels × (IsTrue (is_word id))
 IsListed (Change (Edit.AddEdge id labels source target)) = AreSome labels × (IsTrue (is_word id))
 IsListed _ = Unit {0}
@@ -92,7 +93,7 @@ name_some : (key : List ℕ) (d : Data) → IfSome (name_at key d) AWord
 name_some key d = then_each AWord name_of (get key d) (λ found. then_each AWord (only_if is_word) (as_str found) (λ text. only_words text (is_word text) refl))
 
 listed_as : (op : Op) (d : Data) → IfSome (asked_as op d) IsListed
-listed_as Op.Graph d = made_each IsListed _ (number_at (codes "hi") d) (made_each _ _ (number_at (codes "lo") d) (map_each _ _ (name_at (codes "name") d) (λ name lo hi. tt)))
+listed_as Op.Graph d = made_each IsListed _ (number_at (codes "hi") d) (made_each _ _ (number_at (codes "lo") d) (map_with _ AWord _ (name_at (codes "name") d) (name_some (codes "name") d) (λ name word lo hi. word)))
 listed_as Op.Extend d = made_each IsListed _ (number_at (codes "hi") d) (map_each _ _ (number_at (codes "lo") d) (λ lo hi. tt))
 listed_as Op.Node d = made_with IsListed AreSome _ (labels_at (codes "labels") d) (labels_some (codes "labels") d) (map_with _ AWord _ (name_at (codes "id") d) (name_some (codes "id") d) (λ id word labels few. (few, word)))
 listed_as Op.Edge d =
@@ -121,7 +122,7 @@ good : (edit : Edit) → HasMoments edit → HasLabels edit → HasNewWord edit 
 good edit m l w = record { moments = m; labels = l; words = w }
 
 good_edit : (asked edit : Edit) → IsListed (Change asked) → IsTold asked (Ok edit) → IsGood edit
-good_edit (Edit.Begin name lo hi) edit few f = subst IsGood (sym f.2) (good _ f.0 tt tt)
+good_edit (Edit.Begin name lo hi) edit few f = subst IsGood (sym f.2) (good _ f.0 tt few)
 good_edit (Edit.Extend lo hi) edit few f = subst IsGood (sym f.2) (good _ f.0 tt tt)
 good_edit (Edit.AddNode id labels) edit few f = subst IsGood (sym f.2) (good _ tt (are_labels labels few.0.0 few.0.1) few.1)
 good_edit (Edit.AddEdge id labels source target) edit few f = subst IsGood (sym f.2) (good _ tt (are_labels labels few.0.0 few.0.1) few.1)

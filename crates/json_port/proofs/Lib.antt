@@ -2,7 +2,7 @@ pub mod Counts
 pub mod Listings
 pub mod Values
 pub mod OneLine
+pub mod LongLines
 pub mod SomeLine
 pub mod GoodEdits
-pub mod Tokens
 pub mod Examples

@@ -2,5 +2,4 @@ pub mod Parts
 pub mod Objects
 pub mod Faults
 pub mod Lines
-pub mod NewWords
 pub mod Calls

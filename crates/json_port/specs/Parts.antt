@@ -1,17 +1,13 @@
 -- What stands under a name of an object.
 use Rattle.std.specs.Prelude.{ℕ, ℤ, List, [], ◌∷◌, Bool, ◌&&◌, nat_le, Option, Some, None, option_map, option_and_then, if◌then◌else◌}
-use Rattle.std.specs.Char.{is_ascii_alphabetic}
 use Rattle.std.specs.List.{list_all}
 use Rattle.itpg_base.specs.Words.{Word}
 use Rattle.itpg_base.specs.declared.label_set.TheConstants.{MAX_LABELS}
-use Rattle.script_lex.specs.Bytes.{is_word_byte, is_plain, begins_with}
+use Rattle.script_lex.specs.Bytes.{is_plain}
+use Rattle.edit_reader.specs.Names.{is_word}
 use Rattle.serde_json.specs.Data.{Data, null, boolean, number, string, array, object, Items, no_items, item}
 use Rattle.serde_json.specs.Find.{get, as_str, as_array, as_number, as_i64}
 use Rattle.serde_json.specs.Events.{items_len, members_len}
-
--- a letter, and then letters, digits and `_`: the bytes are those of one word token
-abbrev pub is_word : List ℕ → Bool
-is_word text = begins_with is_ascii_alphabetic text && list_all is_word_byte text
 
 -- each byte may stand between quotes
 abbrev pub is_quotable : List ℕ → Bool

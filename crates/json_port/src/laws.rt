@@ -1,20 +1,17 @@
 //! The laws of JSON lines. Each is a clause of a function that does nothing.
-ghost use Rattle.std.specs.Prelude.{◌≡◌, ◌<◌, ◌∷◌, [], ◌↔◌, IsTrue, List, ℕ, pos, neg_ℤ, codes, Some, Result, Ok, Err, length};
+ghost use Rattle.std.specs.Prelude.{◌≡◌, ◌<◌, ◌≤◌, ◌∷◌, [], ◌↔◌, List, ℕ, pos, neg_ℤ, codes, Result, Ok, Err, length, take};
 ghost use Rattle.itpg_base.specs.declared.text_code.TextCode.{TextCode};
 ghost use Rattle.itpg_edit.specs.declared.edit.Edit.{Edit};
 ghost use Rattle.itpg_edit.specs.declared.edit.Edit.TheVariants as edits;
 ghost use Rattle.itpg_edit.specs.Sites.{HasMoments, HasLabels};
 ghost use Rattle.edit_reader.specs.declared.reading.TheConstants.{MAX_LINE};
 ghost use Rattle.edit_reader.specs.Faults.{without_end};
-ghost use Rattle.script_lex.specs.Lexemes.{AWord};
-ghost use Rattle.script_lex.specs.Table.{first_token};
+ghost use Rattle.edit_reader.specs.Names.{HasNewWord};
 ghost use Rattle.json_port.specs.declared.line.JsonLine.{JsonLine};
-ghost use Rattle.json_port.specs.Parts.{is_word};
-ghost use Rattle.json_port.specs.NewWords.{HasNewWord};
 ghost use Rattle.json_port.specs.Lines.{JsonOf};
 
 /// Each line is exactly one thing: it asks for something, or has a first fault. The edit that one asks for has moments and sets
-/// of labels, and what it declares it names by words.
+/// of labels, and the name that it gives a graph or an object is a word.
 pub fn law_of_json_lines()
     ensures some { (line : List ℕ) → (result : Result JsonLine TextCode) × JsonOf line result }
     ensures one { (line : List ℕ) (a b : Result JsonLine TextCode) → JsonOf line a → JsonOf line b → a ≡ b }
@@ -23,9 +20,9 @@ pub fn law_of_json_lines()
     ensures words { (line : List ℕ) (edit : Edit) → JsonOf line (Ok (JsonLine.Edit edit)) → HasNewWord edit }
 {}
 
-/// A name is exactly one word token.
-pub fn law_of_words()
-    ensures { (name : List ℕ) → IsTrue (is_word name) ↔ (first_token name ≡ Some (AWord name)) }
+/// A line is what its first 65,538 bytes are, or any longer front: of a longer line no more need be kept.
+pub fn law_of_long_json_lines()
+    ensures { (line : List ℕ) (n : ℕ) (result : Result JsonLine TextCode) → 65538 ≤ n → JsonOf (take n line) result ↔ JsonOf line result }
 {}
 
 /// What lines ask for, each worked out by hand from the table of objects. Of members with one name the last holds, also if a

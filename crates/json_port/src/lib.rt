@@ -14,6 +14,8 @@ mod op;
 mod parts;
 mod reading;
 
-pub use laws::{law_of_codes, law_of_json_lines, law_of_objects, law_of_refusals, law_of_words};
+pub use laws::{
+    law_of_codes, law_of_json_lines, law_of_long_json_lines, law_of_objects, law_of_refusals,
+};
 pub use line::{JsonFault, JsonLine, JsonText};
 pub use reading::read_json;

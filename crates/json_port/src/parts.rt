@@ -3,6 +3,7 @@ ghost use Rattle.std.specs.Prelude.{◌≡◌, option_map};
 ghost use Rattle.std.specs.Char.{is_ascii_alphabetic};
 ghost use Rattle.std.specs.List.{list_all};
 ghost use Rattle.script_lex.specs.Bytes as bytes;
+ghost use Rattle.edit_reader.specs.Names as names;
 ghost use Rattle.serde_json.specs.View.{view};
 ghost use Rattle.json_port.specs.Parts as parts;
 
@@ -65,7 +66,7 @@ pub(crate) fn number(object: &Value, key: &str) -> Option<i64>
 
 // Whether the bytes are those of one word token.
 fn is_word(text: &[u8]) -> bool
-    ensures { result ≡ parts.is_word text.now }
+    ensures { result ≡ names.is_word text.now }
 {
     begins_with_letter(text) && are_word_bytes(text)
 }

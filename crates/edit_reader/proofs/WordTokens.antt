@@ -11,7 +11,7 @@ use Rattle.script_lex.specs.Lexemes.{Lexeme, AWord, ANumber, AQuote, AMark}
 use Rattle.script_lex.specs.Marks.{first_mark, double_marks, single_marks}
 use Rattle.script_lex.specs.Table.{first_token, first_some, number_row, quoted_row, double_row, single_row}
 use Rattle.script_lex.proofs.Runs.{run_passes}
-use Rattle.json_port.specs.Parts.{is_word}
+use Rattle.edit_reader.specs.Names.{is_word}
 
 whole_run : (p : ℕ → Bool) (xs : List ℕ) → list_all p xs ≡ true → take_while p xs ≡ xs
 whole_run p [] e = refl
@@ -28,20 +28,17 @@ word_token (b ∷ bs) e =
     let rest = and_parts (is_word_byte b) (list_all is_word_byte bs) both.1 in
     rw (both.0) (ap (λ t. Some (AWord (b ∷ t))) (whole_run is_word_byte bs rest.1))
 
--- ---- and only a word is
+-- a letter is a word byte
+letter_in : (p q r s : Bool) → (q || r) ≡ true → (((p || q) || r) || s) ≡ true
+letter_in true q r s e = refl
+letter_in false true r s e = refl
+letter_in false false true s e = refl
+letter_in false false false s e = absurd (let never : ⊥ = cc in never)
 
-among_more : (p q r s : Bool) → (q || r) ≡ true → (((p || q) || r) || s) ≡ true
-among_more true q r s e = refl
-among_more false true r s e = refl
-among_more false false true s e = refl
-among_more false false false s e = absurd (true≢false (sym e))
-
+-- a token that is no word, if there is one
 abbrev IsNoWord : Option Lexeme → Type 0
-IsNoWord None = Unit {0}
 IsNoWord (Some (AWord w)) = ⊥
-IsNoWord (Some (ANumber n)) = Unit {0}
-IsNoWord (Some (AQuote q)) = Unit {0}
-IsNoWord (Some (AMark m)) = Unit {0}
+IsNoWord _ = Unit {0}
 
 no_number : (b : Bool) (n : List ℕ) → IsNoWord (if b then Some (ANumber n) else None)
 no_number true n = tt
@@ -55,11 +52,11 @@ no_mark : (m : Option Mark) → IsNoWord (option_map AMark m)
 no_mark None = tt
 no_mark (Some m) = tt
 
-number_is_none : (w : List ℕ) → IsNoWord (number_row w)
+number_is_none : (bytes : List ℕ) → IsNoWord (number_row bytes)
 number_is_none [] = tt
 number_is_none (b ∷ bs) = no_number _ _
 
-quoted_is_none : (w : List ℕ) → IsNoWord (quoted_row w)
+quoted_is_none : (bytes : List ℕ) → IsNoWord (quoted_row bytes)
 quoted_is_none [] = tt
 quoted_is_none (b ∷ bs) = no_quote _ _
 
@@ -70,28 +67,27 @@ one_more (Some (ANumber n)) rest h k = tt
 one_more (Some (AQuote q)) rest h k = tt
 one_more (Some (AMark m)) rest h k = tt
 
-others : (w : List ℕ) → IsNoWord (first_some (number_row w ∷ quoted_row w ∷ double_row w ∷ single_row w ∷ []))
-others w =
-    one_more (number_row w) _ (number_is_none w) (one_more (quoted_row w) _ (quoted_is_none w) (one_more (double_row w) _ (no_mark (first_mark double_marks w)) (one_more (single_row w) [] (no_mark (first_mark single_marks w)) tt)))
+-- the rows below that of words give none
+others : (bytes : List ℕ) → IsNoWord (first_some (number_row bytes ∷ quoted_row bytes ∷ double_row bytes ∷ single_row bytes ∷ []))
+others bytes =
+    one_more (number_row bytes) _ (number_is_none bytes) (one_more (quoted_row bytes) _ (quoted_is_none bytes) (one_more (double_row bytes) _ (no_mark (first_mark double_marks bytes)) (one_more (single_row bytes) [] (no_mark (first_mark single_marks bytes)) tt)))
 
 no_other : (o : Option Lexeme) (w : List ℕ) → IsNoWord o → o ≡ Some (AWord w) → ⊥
 no_other o w h e = subst IsNoWord e h
 
-tail_of : Lexeme → List ℕ
-tail_of (AWord []) = []
-tail_of (AWord (b ∷ bs)) = bs
-tail_of _ = []
+run_of : (b : ℕ) (bs w : List ℕ) → is_ascii_alphabetic b ≡ true → b ∷ take_while is_word_byte bs ≡ w → is_word w ≡ true
+run_of b bs w letter e =
+    let first : is_word_byte b ≡ true = letter_in (is_in_range 48 57 b) (is_in_range 65 90 b) (is_in_range 97 122 b) (nat_eq b 95) letter in
+    let P : List ℕ → Type 0 = λ v. is_word v ≡ true in
+    subst P e (rw (letter, first, run_passes is_word_byte bs) refl)
 
-by_letter : (b : ℕ) (bs : List ℕ) (t : Bool) → is_ascii_alphabetic b ≡ t → first_some ((if t then Some (AWord (b ∷ take_while is_word_byte bs)) else None) ∷ number_row (b ∷ bs) ∷ quoted_row (b ∷ bs) ∷ double_row (b ∷ bs) ∷ single_row (b ∷ bs) ∷ []) ≡ Some (AWord (b ∷ bs))
-    → is_word (b ∷ bs) ≡ true
-by_letter b bs true letter e =
-    let same : take_while is_word_byte bs ≡ bs = cc in
-    let rest : list_all is_word_byte bs ≡ true = sym (ap (list_all is_word_byte) same) ∙ run_passes is_word_byte bs in
-    let first : is_word_byte b ≡ true = among_more (is_in_range 48 57 b) (is_in_range 65 90 b) (is_in_range 97 122 b) (nat_eq b 95) letter in
-    rw (letter, first, rest) refl
-by_letter b bs false letter e = absurd (no_other _ (b ∷ bs) (others (b ∷ bs)) e)
+by_letter : (b : ℕ) (bs w : List ℕ) (t : Bool) → is_ascii_alphabetic b ≡ t → first_some ((if t then Some (AWord (b ∷ take_while is_word_byte bs)) else None) ∷ number_row (b ∷ bs) ∷ quoted_row (b ∷ bs) ∷ double_row (b ∷ bs) ∷ single_row (b ∷ bs) ∷ []) ≡ Some (AWord w)
+    → is_word w ≡ true
+by_letter b bs w true letter e = run_of b bs w letter (let same : b ∷ take_while is_word_byte bs ≡ w = cc in same)
+by_letter b bs w false letter e = absurd (no_other _ w (others (b ∷ bs)) e)
 
-pub token_word : (w : List ℕ) → first_token w ≡ Some (AWord w) → is_word w ≡ true
+-- bytes that begin with a word token begin with a word
+pub first_word : (bytes w : List ℕ) → first_token bytes ≡ Some (AWord w) → is_word w ≡ true
 unfolding first_token
-token_word [] e = absurd (no_other _ [] (others []) e)
-token_word (b ∷ bs) e = by_letter b bs (is_ascii_alphabetic b) refl e
+first_word [] w e = absurd (no_other _ w (others []) e)
+first_word (b ∷ bs) w e = by_letter b bs w (is_ascii_alphabetic b) refl e
