@@ -1,5 +1,5 @@
 -- Numbers of digits, and that words ask for one thing.
-use Rattle.std.proofs.Common.{◌≡◌, ℕ, ◌<◌, ◌≤◌, ◌^◌, List, Option, Some, None, codes, MatchOption, Result, Ok, Err, length, ap, ap₂, sym, ◌∙◌, subst, rules, arith}
+use Rattle.std.proofs.Common.{◌≡◌, ℕ, ◌<◌, ◌≤◌, ◌^◌, List, Option, Some, None, codes, MatchOption, Result, Ok, Err, length, ap, ap₂, Bool, sym, ◌∙◌, subst, rules, arith}
 use Rattle.std.specs.Result.{result_ok}
 use Rattle.std.specs.Str.Parse.{ParsesUnsigned}
 use Rattle.std.proofs.lemmas.Str.Parse.{IsNumeralModel, numerals_by_weight, parse_digits, tells_by_index}
@@ -36,11 +36,15 @@ one_trial (Some text) (Some m) (Some n) a b = ap Some (writes_one text m n a.wri
 one_trial (Some text) None t a b = absurd a
 one_trial (Some text) (Some m) None a b = absurd b
 
+ap₃ : {A B C D : Type 0} (f : A → B → C → D) {a a2 : A} {b b2 : B} {c c2 : C} → a ≡ a2 → b ≡ b2 → c ≡ c2 → f a b c ≡ f a2 b2 c2
+ap₃ f p q r = ap₂ (λ g c. g c) (ap₂ f p q) r
+
 pub one_reading : (words : List Text) (a b : Options) → AreOptionsOf words a → AreOptionsOf words b → a ≡ b
 one_reading words a b x y =
-    ap₂ (λ (l : ℕ) (t : Option ℕ). let o : Options = record { limits = l; trial = t } in o)
+    ap₃ (λ (l : ℕ) (t : Option ℕ) (j : Bool). let o : Options = record { limits = l; trial = t; json = j } in o)
     (one_limit (value_in (codes "max-rows") words) a.limits b.limits x.limit y.limit)
     (one_trial (value_in (codes "trial") words) a.trial b.trial x.trial y.trial)
+    (x.json ∙ sym y.json)
 
 -- values for which there is no limit, or no trial, stand in no words that ask for something
 pub no_limit : (words : List Text) (given : Option Text) (o : Options) → given ≡ value_in (codes "max-rows") words → ((n : ℕ) → ¬ LimitIs given n) → AreOptionsOf words o → ⊥

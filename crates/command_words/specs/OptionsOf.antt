@@ -2,7 +2,7 @@
 use Rattle.std.specs.Prelude.{◌≡◌, ℕ, ◌<◌, ◌≤◌, ◌^◌, List, Some, None, codes, IsSomeAnd}
 use Rattle.std.specs.declared.option.Option.{Option}
 use Rattle.clap.specs.Words.{Text}
-use Rattle.command_words.specs.Sentence.{IsSentence, value_in}
+use Rattle.command_words.specs.Sentence.{IsSentence, value_in, has_flag}
 use Rattle.command_words.specs.Numbers.{Writes}
 use Rattle.command_words.specs.declared.options.Options.{Options}
 
@@ -27,8 +27,9 @@ abbrev pub TrialIs : Option Text → Option ℕ → Type 0
 TrialIs None trial = trial ≡ None
 TrialIs (Some text) trial = IsSomeAnd trial (IsTrial text)
 
--- the words are a sentence, and the values that they give ask for this
+-- the words are a sentence, and the values and the flag that they give ask for this
 pub record AreOptionsOf (words : List Text) (o : Options) : Type 0 where
   pub sentence : IsSentence words
   pub limit : LimitIs (value_in (codes "max-rows") words) o.limits
   pub trial : TrialIs (value_in (codes "trial") words) o.trial
+  pub json : o.json ≡ has_flag (codes "json") words

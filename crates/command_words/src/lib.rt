@@ -10,6 +10,6 @@ mod number;
 mod options;
 mod reading;
 
-pub use laws::law_of_one_reading;
+pub use laws::{law_of_flags, law_of_one_reading};
 pub use options::{Options, WordsFault};
 pub use reading::read_words;

@@ -2,7 +2,7 @@
 ghost use Rattle.std.specs.Prelude.{◌≡◌, ◌≢◌, ℕ, Option, map, option_map, codes, string_bytes, IfOk, OnOk, IsErrOf, MatchOption};
 ghost use Rattle.clap.specs.Words.{app_of, kind_of};
 ghost use Rattle.command_words.specs.declared.options.Options.{Options as PlainOptions};
-ghost use Rattle.command_words.specs.Sentence.{command, IsSentence, value_in};
+ghost use Rattle.command_words.specs.Sentence.{command, IsSentence, value_in, says_true, has_flag};
 ghost use Rattle.command_words.specs.OptionsOf.{AreOptionsOf, LimitIs, TrialIs};
 
 use crate::number::read_number;
@@ -17,10 +17,13 @@ const MAX_ROWS: &str = "max-rows";
 
 const TRIAL: &str = "trial";
 
+// The name of the flag.
+const JSON: &str = "json";
+
 // How many rows a relation may have where the words name no limit.
 const DEFAULT_ROWS: u32 = 100_000;
 
-/// Reads the words of a command line, without the program's name: `[--max-rows N] [--trial NUMBER]`.
+/// Reads the words of a command line, without the program's name: `[--max-rows N] [--trial NUMBER] [--json]`.
 ///
 /// # Errors
 ///
@@ -36,7 +39,11 @@ pub fn read_words(alloc: Global, words: &[String]) -> Result<Options, WordsFault
     let Some(trial) = trial_of(given.trial) else {
         return Err(WordsFault::Usage);
     };
-    Ok(Options { limits, trial })
+    Ok(Options {
+        limits,
+        trial,
+        json: given.json,
+    })
 }
 
 // The values that the words give the options, as text.
@@ -44,6 +51,7 @@ pub fn read_words(alloc: Global, words: &[String]) -> Result<Options, WordsFault
 struct Given<'a> {
     max_rows: Option<&'a str>,
     trial: Option<&'a str>,
+    json: bool,
 }
 
 // The values of the options, where the words fit the command.
@@ -52,6 +60,7 @@ fn given_in<'a>(alloc: Global, words: &'a [String]) -> Result<Given<'a>, WordsFa
     ensures usage { IsErrOf result WordsFault.Usage → ¬ IsSentence (map string_bytes words.entry.now) }
     ensures max_rows { IfOk result (λ given. option_map (λ s. s.now) given.max_rows ≡ value_in (codes "max-rows") (map string_bytes words.entry.now)) }
     ensures trial { IfOk result (λ given. option_map (λ s. s.now) given.trial ≡ value_in (codes "trial") (map string_bytes words.entry.now)) }
+    ensures json { IfOk result (λ given. given.json ≡ has_flag (codes "json") (map string_bytes words.entry.now)) }
 {
     let command = match command_of(alloc) {
         Ok(command) => command,
@@ -64,7 +73,18 @@ fn given_in<'a>(alloc: Global, words: &'a [String]) -> Result<Given<'a>, WordsFa
     Ok(Given {
         max_rows: matches.get_str(MAX_ROWS),
         trial: matches.get_str(TRIAL),
+        json: is_true(matches.get_str(JSON)),
     })
+}
+
+// Whether this value of a flag says that the words give it.
+fn is_true(value: Option<&str>) -> bool
+    ensures { result ≡ says_true (option_map (λ s. s.now) value.entry) }
+{
+    match value {
+        Some(text) => text == "true",
+        None => false,
+    }
 }
 
 // What a refusal of clap is told as.
@@ -86,7 +106,11 @@ fn command_of<'a>(alloc: Global) -> Result<Command<'a>, AllocError>
         .long(MAX_ROWS)
         .action(ArgAction::Set);
     let trial = Arg::new(alloc, TRIAL).long(TRIAL).action(ArgAction::Set);
-    let named = Command::new(alloc, "itpg").arg(max_rows)?.arg(trial)?;
+    let json = Arg::new(alloc, JSON).long(JSON).action(ArgAction::SetTrue);
+    let named = Command::new(alloc, "itpg")
+        .arg(max_rows)?
+        .arg(trial)?
+        .arg(json)?;
     Ok(named.no_binary_name(true))
 }
 
