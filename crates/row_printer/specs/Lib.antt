@@ -1,4 +1,5 @@
 pub mod Texts
+pub mod JsonTexts
 pub mod Said
 pub mod Examples
 pub mod Pieces

@@ -1,5 +1,5 @@
--- The text of an answer, and of counts: a line for each row.
-use Rattle.std.specs.Prelude.{ℕ, ◌<◌, ℤ, pos, List, [], ◌∷◌, ◌++◌, codes, if◌then◌else◌, int_lt}
+-- The text of an answer, and of counts, in either form: a line for each row.
+use Rattle.std.specs.Prelude.{ℕ, ◌<◌, ℤ, pos, List, [], ◌∷◌, ◌++◌, codes, if◌then◌else◌, int_lt, Option}
 use Rattle.std.specs.Fmt.{decimal, signed_decimal}
 use Rattle.itpg_base.specs.Graphs.{Graph, name_at}
 use Rattle.band_normal.specs.declared.band.End.{End}
@@ -9,6 +9,9 @@ use Rattle.relation_rows.specs.declared.rows.Row.{Row}
 use Rattle.relation_rows.specs.declared.times.OneRow.{OneRow}
 use Rattle.relation_rows.specs.Answered.{Answered, pairs, times}
 use Rattle.arrivals.specs.declared.counts.CountRow.{CountRow}
+use Rattle.row_printer.specs.declared.form.Form.{Form}
+use Rattle.row_printer.specs.declared.form.Form.TheVariants.{Plain, Json}
+use Rattle.row_printer.specs.JsonTexts.{json_time, json_pair, json_count, json_lead}
 
 -- `A..B`
 unfoldable pub span_text : ℤ → ℤ → List ℕ
@@ -52,14 +55,41 @@ unfoldable pub led : {X : Type 0} → List ℕ → (X → List ℕ) → List X �
 led lead text [] = []
 led lead text (x ∷ xs) = (lead ++ text x) ++ led lead text xs
 
+-- a row of one time in either form, behind its lead
+abbrev pub time_in : Form → Graph → OneRow → List ℕ
+time_in Plain = time_text
+time_in Json = json_time
+
+-- a row of two times in either form, behind its lead
+abbrev pub pair_in : Form → Graph → Row → List ℕ
+pair_in Plain = pair_text
+pair_in Json = json_pair
+
+-- a row of counts in either form
+abbrev pub count_in : Form → CountRow → List ℕ
+count_in Plain = count_text
+count_in Json = json_count
+
+-- a line in either form for each row of the answer, each after its lead
+abbrev pub answer_in : Form → Graph → List ℕ → Answered → List ℕ
+answer_in form g lead (pairs rows) = led lead (pair_in form g) rows
+answer_in form g lead (times rows) = led lead (time_in form g) rows
+
 -- a line for each row of the answer, each after its lead
 abbrev pub answer_text : Graph → List ℕ → Answered → List ℕ
-answer_text g lead (pairs rows) = led lead (pair_text g) rows
-answer_text g lead (times rows) = led lead (time_text g) rows
+answer_text g lead answer = answer_in Plain g lead answer
+
+-- an object for each row of the answer, each with the sign, if there is one
+abbrev pub json_text : Graph → Option ℕ → Answered → List ℕ
+json_text g sign answer = answer_in Json g (json_lead sign) answer
 
 -- a line for each row of the counts
 abbrev pub counts_text : List CountRow → List ℕ
-counts_text rows = led [] count_text rows
+counts_text rows = led [] (count_in Plain) rows
+
+-- an object for each row of the counts
+abbrev pub json_counts_text : List CountRow → List ℕ
+json_counts_text rows = led [] (count_in Json) rows
 
 -- each object of the answer was declared in the graph: it is one of the first so many numbers
 abbrev pub AreDeclared : ℕ → Answered → Type 0

@@ -1,8 +1,9 @@
 //! Printed forms, written by hand. Each is a clause of a function that does nothing.
-ghost use Rattle.std.specs.Prelude.{◌≡◌, [], ◌∷◌, pos, neg_ℤ, codes};
+ghost use Rattle.std.specs.Prelude.{◌≡◌, [], ◌∷◌, pos, neg_ℤ, codes, Some, None};
 ghost use Rattle.band_normal.specs.declared.band.End.TheVariants.{Fixed, Moving};
 ghost use Rattle.relation_rows.specs.Answered.{pairs, times};
-ghost use Rattle.row_printer.specs.Texts.{span_text, end_text, ends_text, answer_text, counts_text};
+ghost use Rattle.row_printer.specs.Texts.{span_text, end_text, ends_text, answer_text, counts_text, json_text, json_counts_text};
+ghost use Rattle.row_printer.specs.JsonTexts.{plus, minus};
 ghost use Rattle.row_printer.specs.Examples.{two_nodes, a_for_a_while, b_for_a_while, a_to_b, b_to_a, one_at_first, twelve_then};
 
 /// How moments and ends of bands are printed.
@@ -28,4 +29,17 @@ pub fn law_of_lines()
 pub fn law_of_counts()
     ensures some { counts_text (one_at_first ∷ twelve_then ∷ []) ≡ codes "-4..4 1\n5..20 12\n" }
     ensures none { counts_text [] ≡ [] }
+{}
+
+/// How answers and counts are printed as JSON: an object for each row, in order, with the sign first, if there is one.
+pub fn law_of_json_lines()
+    ensures one_time { json_text two_nodes None (times (a_for_a_while ∷ b_for_a_while ∷ []))
+        ≡ codes "{\"id\":\"a\",\"from\":0,\"to\":20}\n{\"id\":\"b\",\"from\":5,\"to\":30}\n" }
+    ensures gained { json_text two_nodes (Some plus) (pairs (a_to_b ∷ []))
+        ≡ codes "{\"sign\":\"+\",\"id\":\"a\",\"from\":0,\"to\":8,\"target\":\"b\",\"low\":{\"moving\":0},\"high\":{\"moving\":12}}\n" }
+    ensures lost { json_text two_nodes (Some minus) (pairs (b_to_a ∷ []))
+        ≡ codes "{\"sign\":\"-\",\"id\":\"b\",\"from\":-4,\"to\":-2,\"target\":\"a\",\"low\":{\"moving\":-2},\"high\":{\"fixed\":20}}\n" }
+    ensures counts { json_counts_text (one_at_first ∷ twelve_then ∷ [])
+        ≡ codes "{\"from\":-4,\"to\":4,\"count\":1}\n{\"from\":5,\"to\":20,\"count\":12}\n" }
+    ensures none { json_text two_nodes (Some minus) (pairs []) ≡ [] }
 {}

@@ -1,7 +1,9 @@
-//! The lines of rows, on a page.
+//! The lines of rows, on a page: those of words, and either form.
 ghost use Rattle.std.specs.Prelude.{◌≡◌, ◌+◌, ◌*◌, ◌≤◌, ◌<◌, ◌++◌, length};
-ghost use Rattle.row_printer.specs.Texts.{span_text, moving_text, end_text, ends_text, departures_text, arrivals_text, pair_text, time_text, count_text};
+ghost use Rattle.row_printer.specs.Texts.{span_text, moving_text, end_text, ends_text, departures_text, arrivals_text, pair_text, time_text, count_text, pair_in, time_in, count_in};
 
+use crate::form::Form;
+use crate::json::{add_json_count, add_json_pair, add_json_time};
 use crate::page::{PAGE, Page};
 use arrivals::CountRow;
 use band_normal::End;
@@ -10,7 +12,7 @@ use itpg_graph::Graph;
 use relation_rows::{OneRow, Row};
 
 /// How many bytes a row is written with at most.
-pub(crate) const MAX_ROW: usize = 256;
+pub(crate) const MAX_ROW: usize = 320;
 
 // How many bytes the end of a band, or a moment, is written with at most.
 const MAX_END: usize = 22;
@@ -18,9 +20,45 @@ const MAX_END: usize = 22;
 // How many bytes an object and two ends are written with at most.
 const MAX_PART: usize = 120;
 
-/// Puts the line of a row of one time behind what the page has.
+/// Puts a row of one time in a form behind what the page has.
+pub(crate) fn add_time_in(page: &mut Page, form: Form, graph: &Graph, row: &OneRow)
+    requires room { length page.old + MAX_ROW ≤ PAGE }
+    requires declared { row.now.object.0 < length graph.now.objects }
+    ensures { page.new ≡ page.old ++ time_in form graph.now row.now }
+{
+    match form {
+        Form::Plain => add_time(page, graph, row),
+        Form::Json => add_json_time(page, graph, row),
+    }
+}
+
+/// Puts a row of two times in a form behind what the page has.
+pub(crate) fn add_pair_in(page: &mut Page, form: Form, graph: &Graph, row: &Row)
+    requires room { length page.old + MAX_ROW ≤ PAGE }
+    requires source { row.now.source.0 < length graph.now.objects }
+    requires target { row.now.target.0 < length graph.now.objects }
+    ensures { page.new ≡ page.old ++ pair_in form graph.now row.now }
+{
+    match form {
+        Form::Plain => add_pair(page, graph, row),
+        Form::Json => add_json_pair(page, graph, row),
+    }
+}
+
+/// Puts a row of counts in a form behind what the page has.
+pub(crate) fn add_count_in(page: &mut Page, form: Form, row: &CountRow)
+    requires room { length page.old + MAX_ROW ≤ PAGE }
+    ensures { page.new ≡ page.old ++ count_in form row.now }
+{
+    match form {
+        Form::Plain => add_count(page, row),
+        Form::Json => add_json_count(page, row),
+    }
+}
+
+// Puts the line of a row of one time behind what the page has.
 #[tactic(auto, unfolding(crate::specs::Texts::time_text))]
-pub(crate) fn add_time(page: &mut Page, graph: &Graph, row: &OneRow)
+fn add_time(page: &mut Page, graph: &Graph, row: &OneRow)
     requires room { length page.old + MAX_ROW ≤ PAGE }
     requires declared { row.now.object.0 < length graph.now.objects }
     ensures { page.new ≡ page.old ++ time_text graph.now row.now }
@@ -29,9 +67,9 @@ pub(crate) fn add_time(page: &mut Page, graph: &Graph, row: &OneRow)
     page.add(b"\n");
 }
 
-/// Puts the line of a row of two times behind what the page has.
+// Puts the line of a row of two times behind what the page has.
 #[tactic(auto, unfolding(crate::specs::Texts::pair_text))]
-pub(crate) fn add_pair(page: &mut Page, graph: &Graph, row: &Row)
+fn add_pair(page: &mut Page, graph: &Graph, row: &Row)
     requires room { length page.old + MAX_ROW ≤ PAGE }
     requires source { row.now.source.0 < length graph.now.objects }
     requires target { row.now.target.0 < length graph.now.objects }
@@ -43,9 +81,9 @@ pub(crate) fn add_pair(page: &mut Page, graph: &Graph, row: &Row)
     page.add(b"\n");
 }
 
-/// Puts the line of a row of counts behind what the page has.
+// Puts the line of a row of counts behind what the page has.
 #[tactic(auto, unfolding(crate::specs::Texts::count_text))]
-pub(crate) fn add_count(page: &mut Page, row: &CountRow)
+fn add_count(page: &mut Page, row: &CountRow)
     requires room { length page.old + MAX_ROW ≤ PAGE }
     ensures { page.new ≡ page.old ++ count_text row.now }
 {

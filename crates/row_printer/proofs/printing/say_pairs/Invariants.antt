@@ -1,10 +1,10 @@
 use Rattle.std.proofs.Common.{◌≤◌, take}
-use Rattle.row_printer.specs.Texts.{led, pair_text}
+use Rattle.row_printer.specs.Texts.{led, pair_in}
 use Rattle.row_printer.specs.Said.{Says}
 use Rattle.row_printer.proofs.printing.say_pairs.Given as goal
 
 abbrev pub invariant-loop-row : goal.invariant-loop-row
 invariant-loop-row g l = record {
-  said : Says (g.K.Sink.held l.initial.out) (g.K.Sink.held l.out) l.initial.page l.page (led l.lead (pair_text l.graph) (take l.row-index l.rows));
+  said : Says (g.K.Sink.held l.initial.out) (g.K.Sink.held l.out) l.initial.page l.page (led l.lead (pair_in l.form l.graph) (take l.row-index l.rows));
   later : g.K.Sink.faults l.initial.out ≤ g.K.Sink.faults l.out;
 }
