@@ -12,7 +12,6 @@ use Rattle.itpg_base.specs.declared.touch.Touch.{Touch}
 use Rattle.itpg_edit.specs.Next.{Makes as MakesGraph}
 use Rattle.edit_reader.specs.Readings.{Reading, Nothing, Changes, Asks, Wants, Watches, Shows, Unwatches, Ticks, Opens, Closes, AsksIn, Follows, Nears, Unfollows}
 use Rattle.edit_reader.specs.declared.line.Wanted.{Wanted}
-use Rattle.edit_reader.specs.Lines.{LineOf}
 use Rattle.path_ast.specs.Terms.{QueryTerm}
 use Rattle.match_parser.specs.Reading.{Reads, FaultOf}
 use Rattle.standing_queries.specs.Watches.{most_watches}
@@ -21,6 +20,8 @@ use Rattle.itpg_pins.specs.Pins.{most_pins}
 use Rattle.itpg_session.specs.PlainPins.{Pin, IsPinned}
 use Rattle.itpg_session.specs.Rules.{QueryBreaks, WatchBreaks, NameBreaks, TickBreaks, OpenBreaks, PinBreaks, ask_rules, watch_rules, name_rules, tick_rules, open_rules}
 use Rattle.itpg_session.specs.Replies.{Reply, Bad, Refused, IsReply}
+use Rattle.row_printer.specs.declared.form.Form.{Form}
+use Rattle.itpg_session.specs.Lines.{LineIs}
 use Rattle.itpg_session.specs.MachineLaws.{FrontReplies}
 use Rattle.itpg_session.specs.Machine.{Machine, Turn, Refuses, AsksText, WantsText, WatchesText, WatchesQuery, AddsWatch, ShowsName, DropsWatch, DropsName, TicksOrNot, OpensName, ClosesName, AsksPinQuery, AsksPinText, FollowsText, NearsName, UnfollowsName, Answers, TurnOf, Replies, quiet_turn, told}
 
@@ -33,13 +34,13 @@ module _ (limit : ℕ) (m : Machine) where
   unfolding TurnOf
   turn_bad code t a = a
 
-  pub replies_read : (line : List ℕ) (reading : Reading) → LineOf line (Ok reading) → (t : Turn) → Answers limit m reading t → Replies limit m line t
+  pub replies_read : (Is : Result Reading TextCode → Type 0) (reading : Reading) → Is (Ok reading) → (t : Turn) → Answers limit m reading t → Replies limit m Is t
   unfolding TurnOf
-  replies_read line reading is t a = record { what = Ok reading; line_of = is; turn = a }
+  replies_read Is reading is t a = record { what = Ok reading; line_of = is; turn = a }
 
-  pub replies_bad : (line : List ℕ) (code : TextCode) → LineOf line (Err code) → (t : Turn) → t ≡ told m (Bad code) → Replies limit m line t
+  pub replies_bad : (Is : Result Reading TextCode → Type 0) (code : TextCode) → Is (Err code) → (t : Turn) → t ≡ told m (Bad code) → Replies limit m Is t
   unfolding TurnOf
-  replies_bad line code is t a = record { what = Err code; line_of = is; turn = a }
+  replies_bad Is code is t a = record { what = Err code; line_of = is; turn = a }
 
   pub blank_answers : Answers limit m Nothing (quiet_turn m)
   unfolding Answers
@@ -171,8 +172,8 @@ module _ (g : Graph) (pins : List Pin) (name : Word) (begun : NoneOf (TickBreaks
   is_no_pin unknown = inr (begun.0, inl (unknown, refl))
 
 -- a line has the turns of its front
-pub front_replies : ((line : List ℕ) (n : ℕ) (result : Result Reading TextCode) → 65538 ≤ n → LineOf (take n line) result ↔ LineOf line result) → FrontReplies
-front_replies law limit m line n t long = (
-  λ r. record { what = r.what; line_of = (law line n r.what long).0 r.line_of; turn = r.turn },
-  λ r. record { what = r.what; line_of = (law line n r.what long).1 r.line_of; turn = r.turn },
+pub front_replies : ((form : Form) (line : List ℕ) (n : ℕ) (what : Result Reading TextCode) → 65538 ≤ n → LineIs form (take n line) what ↔ LineIs form line what) → FrontReplies
+front_replies law limit m form line n t long = (
+  λ r. record { what = r.what; line_of = (law form line n r.what long).0 r.line_of; turn = r.turn },
+  λ r. record { what = r.what; line_of = (law form line n r.what long).1 r.line_of; turn = r.turn },
 )

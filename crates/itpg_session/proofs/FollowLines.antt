@@ -8,7 +8,6 @@ use Rattle.itpg_edit.specs.declared.edit.Edit.{Edit}
 use Rattle.itpg_edit.specs.Rules.{Unbroken}
 use Rattle.edit_reader.specs.declared.line.Line.{Line}
 use Rattle.edit_reader.specs.Readings.{Reading, Nothing, Changes, Asks, Wants, Watches, Shows, Unwatches, Ticks, Opens, Closes, AsksIn, Follows, Nears, Unfollows, reading_of, told as read_as}
-use Rattle.edit_reader.specs.Lines.{LineOf}
 use Rattle.relation_rows.specs.Answered.{Answered}
 use Rattle.source_rows.specs.Follows.{Follow, HasSource, IsKept}
 use Rattle.itpg_session.specs.declared.reply.Reply.{Reply as ReplyValue}
@@ -101,17 +100,17 @@ module _ (old mid new : Standing) (is : new.follows ≡ mid.follows) where
   near_so E (Ok reading) reply d = near_on reading d.near
   near_so E (Err code) reply d = tt
 
-module _ (line : List ℕ) (what : Result Reading TextCode) (only : (other : Result Reading TextCode) → LineOf line other → other ≡ what) (old mid new : Standing) (is : new.follows ≡ mid.follows) where
-  pub line_follows : {E : Type 0} (result : Result ReplyValue E) → DecidesFollowsSo what old mid result → LeavesFollowsLine line old new
+module _ (Is : Result Reading TextCode → Type 0) (what : Result Reading TextCode) (only : (other : Result Reading TextCode) → Is other → other ≡ what) (old mid new : Standing) (is : new.follows ≡ mid.follows) where
+  pub line_follows : {E : Type 0} (result : Result ReplyValue E) → DecidesFollowsSo what old mid result → LeavesFollowsLine Is old new
   line_follows result d = λ other of. subst (λ w. LeavesFollowsSo w old new) (sym (only other of)) (leaves_so old mid new is what result d)
 
-  pub line_holds : (E : Type 0) (reply : ReplyValue) → line_reply reply ≢ Silent → DecidesFollowsSo {E = E} what old mid (Ok reply) → HoldsFollowsLine line old new
+  pub line_holds : (E : Type 0) (reply : ReplyValue) → line_reply reply ≢ Silent → DecidesFollowsSo {E = E} what old mid (Ok reply) → HoldsFollowsLine Is old new
   line_holds E reply says d = λ other of. subst (λ w. HoldsFollowsSo w old new) (sym (only other of)) (holds_so old mid new is E what reply says d)
 
-  pub line_spares : (E : Type 0) (reply : ReplyValue) → DecidesFollowsSo {E = E} what old mid (Ok reply) → SparesLine line old new
+  pub line_spares : (E : Type 0) (reply : ReplyValue) → DecidesFollowsSo {E = E} what old mid (Ok reply) → SparesLine Is old new
   line_spares E reply d = λ edit of unbroken. spares_so old mid new is E what reply d edit (sym (only (Ok (Changes edit)) of)) unbroken
 
-  pub line_near : (E : Type 0) (reply : ReplyValue) → DecidesFollowsSo {E = E} what old mid (Ok reply) → KeepsNearLine line old new
+  pub line_near : (E : Type 0) (reply : ReplyValue) → DecidesFollowsSo {E = E} what old mid (Ok reply) → KeepsNearLine Is old new
   line_near E reply d = λ other of. subst (λ w. KeepsNearSo w old new) (sym (only other of)) (near_so old mid new is E what reply d)
 
 -- where memory runs out, the follows are as they were
@@ -129,11 +128,11 @@ so_holds : (what : Result Reading TextCode) (old new : Standing) → new.follows
 so_holds (Ok reading) old new is = holds_same reading old new is
 so_holds (Err code) old new is = is
 
-pub line_left : (line : List ℕ) (old new : Standing) → new.follows ≡ old.follows → LeavesFollowsLine line old new
-line_left line old new is = λ what of. so_leaves what old new is
+pub line_left : (Is : Result Reading TextCode → Type 0) (old new : Standing) → new.follows ≡ old.follows → LeavesFollowsLine Is old new
+line_left Is old new is = λ what of. so_leaves what old new is
 
-pub line_held : (line : List ℕ) (old new : Standing) → new.follows ≡ old.follows → HoldsFollowsLine line old new
-line_held line old new is = λ what of. so_holds what old new is
+pub line_held : (Is : Result Reading TextCode → Type 0) (old new : Standing) → new.follows ≡ old.follows → HoldsFollowsLine Is old new
+line_held Is old new is = λ what of. so_holds what old new is
 
 -- ---- what is kept and asked for
 
@@ -163,30 +162,30 @@ module _ (s : Standing) where
   shows_near (Nears name id) answer k = λ told turn. near_kept name id answer k
   shows_near (Unfollows name) answer k = tt
 
-  module _ (line : List ℕ) (what : Result Line TextCode) (only : (other : Result Reading TextCode) → LineOf line other → other ≡ read_as what) where
+  module _ (Is : Result Reading TextCode → Type 0) (what : Result Line TextCode) (only : (other : Result Reading TextCode) → Is other → other ≡ read_as what) where
     -- such a line keeps the rows that are kept
-    pub kept_near : (answer : Answered) → IsOkAnd what (λ l. ShowsKept s (reading_of l) answer) → KeepsNearLine line s s
+    pub kept_near : (answer : Answered) → IsOkAnd what (λ l. ShowsKept s (reading_of l) answer) → KeepsNearLine Is s s
     kept_near answer kept = by_line what only kept
       where
-        by_line : (w : Result Line TextCode) → ((other : Result Reading TextCode) → LineOf line other → other ≡ read_as w) → IsOkAnd w (λ l. ShowsKept s (reading_of l) answer) → KeepsNearLine line s s
+        by_line : (w : Result Line TextCode) → ((other : Result Reading TextCode) → Is other → other ≡ read_as w) → IsOkAnd w (λ l. ShowsKept s (reading_of l) answer) → KeepsNearLine Is s s
         by_line (Ok l) one k = λ other of. subst (λ (w : Result Reading TextCode). KeepsNearSo w s s) (sym (one other of)) (shows_near (reading_of l) answer k)
         by_line (Err code) one k = absurd k
 
     -- and is no edit
-    pub kept_spares : (answer : Answered) → IsOkAnd what (λ l. ShowsKept s (reading_of l) answer) → SparesLine line s s
+    pub kept_spares : (answer : Answered) → IsOkAnd what (λ l. ShowsKept s (reading_of l) answer) → SparesLine Is s s
     kept_spares answer kept = by_line what only kept
       where
-        by_line : (w : Result Line TextCode) → ((other : Result Reading TextCode) → LineOf line other → other ≡ read_as w) → IsOkAnd w (λ l. ShowsKept s (reading_of l) answer) → SparesLine line s s
+        by_line : (w : Result Line TextCode) → ((other : Result Reading TextCode) → Is other → other ≡ read_as w) → IsOkAnd w (λ l. ShowsKept s (reading_of l) answer) → SparesLine Is s s
         by_line (Ok l) one k = λ edit of unbroken.
             let same : reading_of l ≡ Changes edit = (let e = one (Ok (Changes edit)) of in cc) in
             absurd (subst (λ (r : Reading). ShowsKept s r answer) same k)
         by_line (Err code) one k = absurd k
 
     -- what isn't at hand of what the line is, isn't so of the line
-    pub not_at_hand : IfOk what (λ l. IsAtHand s (reading_of l) → ⊥) → IsLineAtHand s line → ⊥
+    pub not_at_hand : IfOk what (λ l. IsAtHand s (reading_of l) → ⊥) → IsLineAtHand s Is → ⊥
     not_at_hand none hand = by_line what only none
       where
-        by_line : (w : Result Line TextCode) → ((other : Result Reading TextCode) → LineOf line other → other ≡ read_as w) → IfOk w (λ l. IsAtHand s (reading_of l) → ⊥) → ⊥
+        by_line : (w : Result Line TextCode) → ((other : Result Reading TextCode) → Is other → other ≡ read_as w) → IfOk w (λ l. IsAtHand s (reading_of l) → ⊥) → ⊥
         by_line (Ok l) one n =
             let same : reading_of l ≡ hand.0 = (let e = one (Ok hand.0) hand.1 in cc) in
             n (subst (λ (r : Reading). IsAtHand s r) (sym same) hand.2)

@@ -1,7 +1,7 @@
 -- A line on follows: from a good machine it has one turn at most, and some turn where nothing forbids it; and its turns leave a good
 -- machine.
 use Rattle.std.proofs.Common.{◌≡◌, ◌⊎◌, inl, inr, ⊎_elim, ℕ, length, List, [], ◌∷◌, Bool, true, false, Some, refl, sym, ap, ◌∙◌, subst}
-use Rattle.std.specs.Prelude.{slice_get}
+use Rattle.std.specs.Prelude.{slice_get, IsTrue}
 use Rattle.itpg_base.specs.Words.{Word}
 use Rattle.itpg_base.specs.Decided.{Decided}
 use Rattle.itpg_base.specs.Graphs.{Graph, Named}
@@ -14,6 +14,7 @@ use Rattle.itpg_edit.specs.Facts.{IsUnknown}
 use Rattle.itpg_edit.specs.Rules.{NoneOf}
 use Rattle.itpg_edit.proofs.Checked.{named_stands}
 use Rattle.itpg_edit.proofs.Deciding.{decide_taken}
+use Rattle.edit_reader.specs.Names.{is_word}
 use Rattle.path_ast.specs.Terms.{QueryTerm}
 use Rattle.source_rows.specs.Follows.{most_follows}
 use Rattle.standing_queries.proofs.Named.{place_among, one_place, more_ordered}
@@ -22,7 +23,8 @@ use Rattle.itpg_session.specs.Rules.{FollowBreaks, UnfollowBreaks, NearBreaks, w
 use Rattle.itpg_session.specs.Replies.{Reply, Silent, Bad, Refused, Wide, Rows, Counted, Shown, OfPin, PerWatch, IsFoundNear}
 use Rattle.itpg_session.specs.Machine.{Machine, IsGood, Turn, Refuses, AddsFollow, DropsFollow, TellsNear, FollowsQuery, names_both, after, told}
 use Rattle.itpg_session.proofs.Decided.{decide_same, decide_begun, decide_ask, decide_not}
-use Rattle.itpg_session.proofs.NamedLists.{left_ordered}
+use Rattle.itpg_session.proofs.NamedLists.{left_among, left_ordered}
+use Rattle.itpg_session.proofs.Watching.{each_added}
 use Rattle.itpg_session.proofs.Nearby.{NearLaws, one_found_near, some_found_near}
 
 -- ---- which rule is broken first
@@ -114,8 +116,8 @@ module _ (limit : ℕ) (m : Machine) (good : IsGood m) (name : Word) where
       let r = some_found_near laws m.graph limit (f.0).query o.0 good.graph (named_stands m.graph o.0 id o.1) in
       (told m r.0, record { unbroken = none; place = place.0; follow = f.0; at = place.1; named = f.2; object = o.0; is_object = o.1; reply = r.0; finds = r.1; is = refl })
 
-  pub good_followed : (q : QueryTerm) (t : Turn) → AddsFollow m name q t → IsGood t.next
-  good_followed q t a =
+  pub good_followed : IsTrue (is_word name) → (q : QueryTerm) (t : Turn) → AddsFollow m name q t → IsGood t.next
+  good_followed word q t a =
       let free : IsFollowed m.follows name → ⊥ = a.unbroken.1.1.0 in
       subst (λ (u : Turn). IsGood u.next) (sym a.is) (record {
         graph = good.graph;
@@ -124,6 +126,7 @@ module _ (limit : ℕ) (m : Machine) (good : IsGood m) (name : Word) where
         kinds = good.kinds;
         pins = good.pins;
         follows = more_ordered (λ (f : PlainFollow). f.name) m.follows (followed name q) good.follows (λ f a e. free (f, a, e));
+        words = record { objects = good.words.objects; watches = good.words.watches; pins = good.words.pins; follows = each_added (λ (f : PlainFollow). IsTrue (is_word f.name)) m.follows (followed name q) good.words.follows word };
       })
 
   pub good_unfollowed : (t : Turn) → DropsFollow m name t → IsGood t.next
@@ -134,6 +137,7 @@ module _ (limit : ℕ) (m : Machine) (good : IsGood m) (name : Word) where
     kinds = good.kinds;
     pins = good.pins;
     follows = left_ordered (λ (f : PlainFollow). f.name) name m.follows good.follows;
+    words = record { objects = good.words.objects; watches = good.words.watches; pins = good.words.pins; follows = λ f h. good.words.follows f (left_among (λ (f : PlainFollow). f.name) name m.follows f h) };
   })
 
 -- ---- a query that is to be followed, by the turns that its rules leave

@@ -9,7 +9,6 @@ use Rattle.itpg_edit.proofs.FirstOf.{first_or_unbroken}
 use Rattle.itpg_edit.specs.Next.{Makes as MakesGraph}
 use Rattle.edit_reader.specs.declared.line.Line.{Line}
 use Rattle.edit_reader.specs.Readings.{Reading, Nothing, Changes, Asks, Wants, Watches, Shows, Unwatches, Ticks, Opens, Closes, AsksIn, Follows, Nears, Unfollows, reading_of, told as read_as}
-use Rattle.edit_reader.specs.Lines.{LineOf}
 use Rattle.plan_cache.specs.Nodes.{Table}
 use Rattle.itpg_pins.specs.Pins.{Held}
 use Rattle.plan_cache.specs.Footprints.{footprints_of}
@@ -45,8 +44,8 @@ so_leaves : (s : Standing) (what : Result Reading TextCode) → LeavesSo what s 
 so_leaves s (Ok reading) = reading_leaves s reading
 so_leaves s (Err code) = refl
 
-pub line_leaves : (s : Standing) (line : List ℕ) → LeavesLine line s s
-line_leaves s line = λ what is. so_leaves s what
+pub line_leaves : (s : Standing) (Is : Result Reading TextCode → Type 0) → LeavesLine Is s s
+line_leaves s Is = λ what is. so_leaves s what
 
 -- ---- the pins
 
@@ -70,8 +69,8 @@ so_pins_same : (what : Result Reading TextCode) (old new : Standing) → new.pin
 so_pins_same (Ok reading) old new is = pins_same reading old new is
 so_pins_same (Err code) old new is = is
 
-pub line_pins_same : (s : Standing) (line : List ℕ) → LeavesPinsLine line s s
-line_pins_same s line = λ what is. so_pins_same what s s refl
+pub line_pins_same : (s : Standing) (Is : Result Reading TextCode → Type 0) → LeavesPinsLine Is s s
+line_pins_same s Is = λ what is. so_pins_same what s s refl
 
 -- what is said of the pins after a line is said of any session that has them then
 pins_on : (reading : Reading) (old mid new : Standing) → new.pins ≡ mid.pins → LeavesPins reading old mid → LeavesPins reading old new
@@ -95,16 +94,16 @@ so_pins_on (Ok reading) old mid new is a = pins_on reading old mid new is a
 so_pins_on (Err code) old mid new is a = is ∙ a
 
 -- what is decided of the pins for what a line is, is so of the line
-pub line_pins : (line : List ℕ) (what : Result Reading TextCode) (old mid new : Standing) → ((other : Result Reading TextCode) → LineOf line other → other ≡ what) → new.pins ≡ mid.pins → LeavesPinsSo what old mid
-    → LeavesPinsLine line old new
-line_pins line what old mid new only is a = λ other of. subst (λ w. LeavesPinsSo w old new) (sym (only other of)) (so_pins_on what old mid new is a)
+pub line_pins : (Is : Result Reading TextCode → Type 0) (what : Result Reading TextCode) (old mid new : Standing) → ((other : Result Reading TextCode) → Is other → other ≡ what) → new.pins ≡ mid.pins → LeavesPinsSo what old mid
+    → LeavesPinsLine Is old new
+line_pins Is what old mid new only is a = λ other of. subst (λ w. LeavesPinsSo w old new) (sym (only other of)) (so_pins_on what old mid new is a)
 
 -- a line that shows a watch is no edit
-pub kept_forgets : (s : Standing) (line : List ℕ) (what : Result Line TextCode) (answer : Answered) → ((other : Result Reading TextCode) → LineOf line other → other ≡ read_as what) → IsOkAnd what (λ l. ShowsKept s (reading_of l) answer) → ForgetsLine line s s
-kept_forgets s line (Ok l) answer only kept = λ edit is unbroken.
+pub kept_forgets : (s : Standing) (Is : Result Reading TextCode → Type 0) (what : Result Line TextCode) (answer : Answered) → ((other : Result Reading TextCode) → Is other → other ≡ read_as what) → IsOkAnd what (λ l. ShowsKept s (reading_of l) answer) → ForgetsLine Is s s
+kept_forgets s Is (Ok l) answer only kept = λ edit is unbroken.
     let same : reading_of l ≡ Changes edit = (let e = only (Ok (Changes edit)) is in cc) in
     absurd (subst (λ (r : Reading). ShowsKept s r answer) same kept)
-kept_forgets s line (Err code) answer only kept = absurd kept
+kept_forgets s Is (Err code) answer only kept = absurd kept
 
 -- and no question
 shows_asks : (s : Standing) (reading : Reading) (answer : Answered) → ShowsKept s reading answer → KeepsAsked reading s s
@@ -123,9 +122,9 @@ shows_asks s (Follows name text) answer k = tt
 shows_asks s (Nears name id) answer k = tt
 shows_asks s (Unfollows name) answer k = tt
 
-pub kept_asks : (s : Standing) (line : List ℕ) (what : Result Line TextCode) (answer : Answered) → ((other : Result Reading TextCode) → LineOf line other → other ≡ read_as what) → IsOkAnd what (λ l. ShowsKept s (reading_of l) answer) → KeepsAskedLine line s s
-kept_asks s line (Ok l) answer only kept = λ other of. subst (λ (w : Result Reading TextCode). KeepsAskedSo w s s) (sym (only other of)) (shows_asks s (reading_of l) answer kept)
-kept_asks s line (Err code) answer only kept = absurd kept
+pub kept_asks : (s : Standing) (Is : Result Reading TextCode → Type 0) (what : Result Line TextCode) (answer : Answered) → ((other : Result Reading TextCode) → Is other → other ≡ read_as what) → IsOkAnd what (λ l. ShowsKept s (reading_of l) answer) → KeepsAskedLine Is s s
+kept_asks s Is (Ok l) answer only kept = λ other of. subst (λ (w : Result Reading TextCode). KeepsAskedSo w s s) (sym (only other of)) (shows_asks s (reading_of l) answer kept)
+kept_asks s Is (Err code) answer only kept = absurd kept
 
 -- what is read is one reading
 abbrev IsRead : Result Reading TextCode → Reading → Type 0
@@ -135,8 +134,8 @@ pub one_reading : (a b : Reading) → IsRead (Ok a) b → a ≡ b
 one_reading a b is = cc
 
 -- a session that is as it was leaves the table
-pub same_unmade : (s : Standing) (line : List ℕ) → LeavesUnmadeLine line s s
-same_unmade s line = λ what is edit read. refl
+pub same_unmade : (s : Standing) (Is : Result Reading TextCode → Type 0) → LeavesUnmadeLine Is s s
+same_unmade s Is = λ what is edit read. refl
 
 -- what an edit that is decided and says something leaves: it was refused
 turn_refused : (limit : ℕ) (m : Machine) (edit : Edit) (t : Turn) → t.reply ≢ Silent → Answers limit m (Changes edit) t → Unbroken m.graph edit → ⊥
@@ -157,8 +156,8 @@ said_unmade what old mid reply says turn left = λ edit is.
     let own : TurnOf old.limit old.machine (Ok (Changes edit)) (told mid.machine reply) = subst (λ w. TurnOf old.limit old.machine w (told mid.machine reply)) is turn in
     unmade_of edit old mid (edit_refused old.limit old.machine edit (told mid.machine reply) says own) (subst (λ w. LeavesSo w old mid) is left)
 
-pub line_unmade : (line : List ℕ) (what : Result Reading TextCode) (old new : Standing) → ((other : Result Reading TextCode) → LineOf line other → other ≡ what) → LeavesUnmade what old new → LeavesUnmadeLine line old new
-line_unmade line what old new only a = λ other of edit is. a edit (sym (only other of) ∙ is)
+pub line_unmade : (Is : Result Reading TextCode → Type 0) (what : Result Reading TextCode) (old new : Standing) → ((other : Result Reading TextCode) → Is other → other ≡ what) → LeavesUnmade what old new → LeavesUnmadeLine Is old new
+line_unmade Is what old new only a = λ other of edit is. a edit (sym (only other of) ∙ is)
 
 -- ---- a reply that is settled
 
@@ -205,16 +204,16 @@ module _ (old mid new : Standing) (table : new.table ≡ mid.table) (graph : new
   so_on (Err code) a = table ∙ a
 
 -- what is decided of what a line is, is so of the line
-pub line_so : (line : List ℕ) (what : Result Reading TextCode) (old new : Standing) → ((other : Result Reading TextCode) → LineOf line other → other ≡ what) → LeavesSo what old new → LeavesLine line old new
-line_so line what old new only a = λ other is. subst (λ w. LeavesSo w old new) (sym (only other is)) a
+pub line_so : (Is : Result Reading TextCode → Type 0) (what : Result Reading TextCode) (old new : Standing) → ((other : Result Reading TextCode) → Is other → other ≡ what) → LeavesSo what old new → LeavesLine Is old new
+line_so Is what old new only a = λ other is. subst (λ w. LeavesSo w old new) (sym (only other is)) a
 
-pub line_settled : (line : List ℕ) (what : Result Reading TextCode) (old mid new : Standing) (reply : Reply) (limit : ℕ) → ((other : Result Reading TextCode) → LineOf line other → other ≡ what)
-    → new.table ≡ mid.table → StandsAs new (after mid.machine reply) limit → LeavesSo what old mid → LeavesLine line old new
-line_settled line what old mid new reply limit only table stands a = line_so line what old new only (so_on old mid new table (ap (λ (m : Machine). m.graph) stands.machine ∙ after_graph mid.machine reply) what a)
+pub line_settled : (Is : Result Reading TextCode → Type 0) (what : Result Reading TextCode) (old mid new : Standing) (reply : Reply) (limit : ℕ) → ((other : Result Reading TextCode) → Is other → other ≡ what)
+    → new.table ≡ mid.table → StandsAs new (after mid.machine reply) limit → LeavesSo what old mid → LeavesLine Is old new
+line_settled Is what old mid new reply limit only table stands a = line_so Is what old new only (so_on old mid new table (ap (λ (m : Machine). m.graph) stands.machine ∙ after_graph mid.machine reply) what a)
 
-pub forgets_settled : (line : List ℕ) (what : Result Reading TextCode) (old mid new : Standing) (reply : Reply) (limit : ℕ) → ((other : Result Reading TextCode) → LineOf line other → other ≡ what)
-    → new.table ≡ mid.table → StandsAs new (after mid.machine reply) limit → ((edit : Edit) → what ≡ Ok (Changes edit) → Unbroken old.machine.graph edit → ForgetsEdit edit old mid) → ForgetsLine line old new
-forgets_settled line what old mid new reply limit only table stands a = λ edit is unbroken.
+pub forgets_settled : (Is : Result Reading TextCode → Type 0) (what : Result Reading TextCode) (old mid new : Standing) (reply : Reply) (limit : ℕ) → ((other : Result Reading TextCode) → Is other → other ≡ what)
+    → new.table ≡ mid.table → StandsAs new (after mid.machine reply) limit → ((edit : Edit) → what ≡ Ok (Changes edit) → Unbroken old.machine.graph edit → ForgetsEdit edit old mid) → ForgetsLine Is old new
+forgets_settled Is what old mid new reply limit only table stands a = λ edit is unbroken.
     forgets_on old mid new table (ap (λ (m : Machine). m.graph) stands.machine ∙ after_graph mid.machine reply) edit (a edit (sym (only (Ok (Changes edit)) is)) unbroken)
 
 -- what is kept of a question that was decided stays so
@@ -239,8 +238,8 @@ module _ (old mid new : Standing) (table : new.table ≡ mid.table) (pins : new.
   asked_on (Ok (Unfollows name)) a = tt
   asked_on (Err code) a = tt
 
-pub asked_settled : (line : List ℕ) (what : Result Reading TextCode) (old mid new : Standing) (reply : Reply) (limit : ℕ) → ((other : Result Reading TextCode) → LineOf line other → other ≡ what)
-    → new.table ≡ mid.table → new.pins ≡ mid.pins → StandsAs new (after mid.machine reply) limit → KeepsAskedSo what old mid → KeepsAskedLine line old new
-asked_settled line what old mid new reply limit only table pins stands a = λ other of.
+pub asked_settled : (Is : Result Reading TextCode → Type 0) (what : Result Reading TextCode) (old mid new : Standing) (reply : Reply) (limit : ℕ) → ((other : Result Reading TextCode) → Is other → other ≡ what)
+    → new.table ≡ mid.table → new.pins ≡ mid.pins → StandsAs new (after mid.machine reply) limit → KeepsAskedSo what old mid → KeepsAskedLine Is old new
+asked_settled Is what old mid new reply limit only table pins stands a = λ other of.
     let graph : new.machine.graph ≡ mid.machine.graph = ap (λ (m : Machine). m.graph) stands.machine ∙ after_graph mid.machine reply in
     subst (λ (w : Result Reading TextCode). KeepsAskedSo w old new) (sym (only other of)) (asked_on old mid new table pins graph what a)

@@ -15,6 +15,9 @@ pub mod PinLists
 pub mod PinTurns
 pub mod Pinned
 pub mod Lent
+pub mod Lines
+pub mod AsLines
+pub mod Words
 pub mod OneTurn
 pub mod GoodTurn
 pub mod SomeTurn

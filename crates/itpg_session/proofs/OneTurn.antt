@@ -11,8 +11,6 @@ use Rattle.itpg_edit.specs.Next.{Next}
 use Rattle.itpg_edit.specs.Sites.{HasMoments, HasLabels}
 use Rattle.itpg_edit.proofs.FirstOf.{first_unique, first_or_unbroken}
 use Rattle.edit_reader.specs.Readings.{Reading, Nothing, Changes, Asks, Wants, Watches, Shows, Unwatches, Ticks, Opens, Closes, AsksIn, Follows, Nears, Unfollows}
-use Rattle.edit_reader.specs.Lines.{LineOf}
-use Rattle.edit_reader.specs.Moments.{AsksOfMoments, AsksForLabels}
 use Rattle.edit_reader.specs.declared.line.Wanted.{Wanted}
 use Rattle.path_ast.specs.Terms.{QueryTerm}
 use Rattle.itpg_base.specs.declared.touch.Touch.{Touch}
@@ -24,7 +22,10 @@ use Rattle.itpg_session.specs.Rules.{WatchBreaks, NameBreaks, TickBreaks, OpenBr
 use Rattle.itpg_session.specs.Ticks.{Ticked}
 use Rattle.itpg_session.specs.Replies.{Bad, Refused, Shown, PerWatch, FindsFor}
 use Rattle.itpg_session.specs.Machine.{Machine, IsGood, Turn, Refuses, AsksText, WantsText, WatchesText, WatchesQuery, AddsWatch, ShowsWatch, DropsWatch, TicksAll, OpensPin, ClosesPin, AsksPin, AsksPinQuery, AsksPinText, FollowsText, FollowsQuery, AddsFollow, DropsFollow, TellsNear, Answers, TurnOf, Replies, told, quiet_turn}
+use Rattle.row_printer.specs.declared.form.Form.{Form}
+use Rattle.itpg_session.specs.Lines.{LineIs}
 use Rattle.itpg_session.specs.MachineLaws.{OneReply}
+use Rattle.itpg_session.proofs.Lines.{LineLaws, one_line}
 use Rattle.itpg_session.proofs.PinTurns.{one_asked_pin}
 use Rattle.itpg_session.proofs.Nearby.{NearLaws}
 use Rattle.itpg_session.proofs.FollowTurns.{one_near, one_follow_query}
@@ -40,10 +41,7 @@ one_refusal m broken rules x y a b = a.is ∙ ap (λ (r : RuleCode). told m (Ref
 
 -- the laws of lines, of query texts, of edits and of what changes
 pub record Below : Type 0 where
-  pub some_line : (line : List ℕ) → (result : Result Reading TextCode) × LineOf line result
-  pub one_line : (line : List ℕ) (a b : Result Reading TextCode) → LineOf line a → LineOf line b → a ≡ b
-  pub moments : (line : List ℕ) (reading : Reading) → LineOf line (Ok reading) → AsksOfMoments reading
-  pub labels : (line : List ℕ) (reading : Reading) → LineOf line (Ok reading) → AsksForLabels reading
+  pub lines : LineLaws
   pub rules : (g : Graph) (edit : Edit) → Good g → ((rule : RuleCode) × Broken g edit rule) ⊎ Unbroken g edit
   pub good_next : (g new : Graph) (edit : Edit) → Good g → HasMoments edit → HasLabels edit → Unbroken g edit → Next g edit new → Good new
   pub one_next : (g x y : Graph) (edit : Edit) → Good g → Next g edit x → Next g edit y → x ≡ y
@@ -141,8 +139,8 @@ module _ (below : Below) (limit : ℕ) (m : Machine) (good : IsGood m) where
   one_turn (Ok reading) x y a b = one_answer reading x y a b
   one_turn (Err code) x y a b = a ∙ sym b
 
-  pub one_reply_of : (line : List ℕ) (x y : Turn) → Replies limit m line x → Replies limit m line y → x ≡ y
-  one_reply_of line x y a b = one_turn b.what x y (subst (λ w. TurnOf limit m w x) (below.one_line line a.what b.what a.line_of b.line_of) a.turn) b.turn
+  pub one_reply_of : (form : Form) (line : List ℕ) (x y : Turn) → Replies limit m (LineIs form line) x → Replies limit m (LineIs form line) y → x ≡ y
+  one_reply_of form line x y a b = one_turn b.what x y (subst (λ w. TurnOf limit m w x) (one_line below.lines form line a.what b.what a.line_of b.line_of) a.turn) b.turn
 
 pub one_reply : Below → OneReply
-one_reply below limit m line x y good = one_reply_of below limit m good line x y
+one_reply below limit m form line x y good = one_reply_of below limit m good form line x y

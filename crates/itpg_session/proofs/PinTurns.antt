@@ -1,20 +1,22 @@
 -- A line on pins: from a good machine it has one turn at most, and some turn where nothing forbids it; and its turns leave a good machine.
 use Rattle.std.proofs.Common.{◌≡◌, ℕ, Some, refl, sym, ap, ◌∙◌, subst}
-use Rattle.std.specs.Prelude.{slice_get}
+use Rattle.std.specs.Prelude.{slice_get, IsTrue}
 use Rattle.itpg_base.specs.Words.{Word}
 use Rattle.itpg_base.specs.Graphs.{Graph}
 use Rattle.itpg_base.proofs.Objects.{same_some}
 use Rattle.itpg_edit.specs.Rules.{NoneOf}
+use Rattle.edit_reader.specs.Names.{is_word}
 use Rattle.path_ast.specs.Terms.{QueryTerm}
 use Rattle.standing_queries.proofs.Named.{place_among, one_place, more_ordered}
 use Rattle.itpg_session.specs.PlainPins.{Pin, IsPinned, new_pin}
 use Rattle.itpg_session.specs.Rules.{PinBreaks, name_rules}
 use Rattle.itpg_session.specs.Watching.{AsksForOne}
 use Rattle.itpg_session.specs.Replies.{Reply, Silent, Bad, Refused, Wide, Rows, Counted, Shown, OfPin, PerWatch, IsReplyTo, of_pin}
-use Rattle.itpg_session.specs.Machine.{Machine, IsGood, Turn, OpensPin, ClosesPin, AsksPin, after, told}
+use Rattle.itpg_session.specs.Machine.{Machine, HasWords, IsGood, Turn, OpensPin, ClosesPin, AsksPin, after, told}
 use Rattle.itpg_session.proofs.Decided.{some_pin}
 use Rattle.itpg_session.proofs.Replying.{one_reply_to, some_reply_to}
-use Rattle.itpg_session.proofs.NamedLists.{left_ordered}
+use Rattle.itpg_session.proofs.NamedLists.{left_among, left_ordered}
+use Rattle.itpg_session.proofs.Watching.{each_added}
 
 -- a reply to a question that is asked of a pin leaves the machine
 pub of_pin_after : (g : Graph) (limit : ℕ) (q : QueryTerm) (m : Machine) (place : ℕ) (reply : Reply) → IsReplyTo g limit q reply → m ≡ after m (of_pin place reply)
@@ -48,8 +50,8 @@ module _ (limit : ℕ) (m : Machine) (good : IsGood m) (name : Word) where
       let r = some_reply_to (p.0).graph limit q ends in
       (told m (of_pin place.0 r.0), record { unbroken = none; place = place.0; pin = p.0; at = place.1; named = p.2; reply = r.0; replies = r.1; is = refl })
 
-  pub good_opened : (t : Turn) → OpensPin m name t → IsGood t.next
-  good_opened t a =
+  pub good_opened : IsTrue (is_word name) → (t : Turn) → OpensPin m name t → IsGood t.next
+  good_opened word t a =
       let free : IsPinned m.pins name → ⊥ = a.unbroken.1.0 in
       subst (λ (u : Turn). IsGood u.next) (sym a.is) (record {
         graph = good.graph;
@@ -58,6 +60,7 @@ module _ (limit : ℕ) (m : Machine) (good : IsGood m) (name : Word) where
         kinds = good.kinds;
         pins = more_ordered (λ (p : Pin). p.name) m.pins (new_pin name m.graph) good.pins (λ p a e. free (p, a, e));
         follows = good.follows;
+        words = record { objects = good.words.objects; watches = good.words.watches; pins = each_added (λ (p : Pin). IsTrue (is_word p.name) × HasWords p.graph) m.pins (new_pin name m.graph) good.words.pins (word, good.words.objects); follows = good.words.follows };
       })
 
   pub good_closed : (t : Turn) → ClosesPin m name t → IsGood t.next
@@ -68,4 +71,5 @@ module _ (limit : ℕ) (m : Machine) (good : IsGood m) (name : Word) where
     kinds = good.kinds;
     pins = left_ordered (λ (p : Pin). p.name) name m.pins good.pins;
     follows = good.follows;
+    words = record { objects = good.words.objects; watches = good.words.watches; pins = λ p h. good.words.pins p (left_among (λ (p : Pin). p.name) name m.pins p h); follows = good.words.follows };
   })

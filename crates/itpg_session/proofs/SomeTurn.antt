@@ -9,14 +9,16 @@ use Rattle.itpg_edit.specs.declared.edit.Edit.{Edit}
 use Rattle.itpg_edit.specs.Rules.{FirstOf, NoneOf}
 use Rattle.itpg_edit.specs.Next.{Makes as MakesGraph}
 use Rattle.edit_reader.specs.Readings.{Reading, Nothing, Changes, Asks, Wants, Watches, Shows, Unwatches, Ticks, Opens, Closes, AsksIn, Follows, Nears, Unfollows}
-use Rattle.edit_reader.specs.Lines.{LineOf}
 use Rattle.edit_reader.specs.declared.line.Wanted.{Wanted}
 use Rattle.match_parser.proofs.InRange.{asks_for_one}
 use Rattle.itpg_base.specs.declared.touch.Touch.{Touch}
 use Rattle.itpg_session.specs.Rules.{WatchBreaks, NameBreaks, TickBreaks, OpenBreaks, PinBreaks, FollowBreaks, UnfollowBreaks, NearBreaks, watch_rules, name_rules, tick_rules, open_rules}
 use Rattle.itpg_session.specs.Replies.{Bad, Refused, Shown, PerWatch}
 use Rattle.itpg_session.specs.Machine.{Machine, IsGood, Turn, Refuses, AsksText, WantsText, WatchesText, AddsWatch, ShowsWatch, DropsWatch, TicksAll, OpensPin, ClosesPin, AsksPin, AsksPinText, FollowsText, AddsFollow, DropsFollow, TellsNear, Answers, Replies, told, quiet_turn}
+use Rattle.row_printer.specs.declared.form.Form.{Form}
+use Rattle.itpg_session.specs.Lines.{LineIs}
 use Rattle.itpg_session.specs.MachineLaws.{SomeReply}
+use Rattle.itpg_session.proofs.Lines.{some_line}
 use Rattle.itpg_session.proofs.Decided.{first_or_none, decide_watch, decide_named, decide_tick, decide_open, decide_pin, some_watch}
 use Rattle.itpg_session.proofs.PinTurns.{some_asked_pin}
 use Rattle.itpg_session.proofs.FollowTurns.{decide_follow, decide_unfollow, decide_near, some_near, some_follow_query}
@@ -114,12 +116,12 @@ module _ (below : Below) (limit : ℕ) (m : Machine) (good : IsGood m) where
       let t = some_of (UnfollowBreaks m.graph m.follows name) name_rules (DropsFollow m name) (first_or_none (UnfollowBreaks m.graph m.follows name) (decide_unfollow m.graph m.follows name) name_rules) (λ none. (_, record { unbroken = none; is = refl })) in
       (t.0, unfollows_answers limit m name t.0 t.1)
 
-  pub some_reply_of : (line : List ℕ) → (t : Turn) × Replies limit m line t
-  some_reply_of line = by_line (below.some_line line)
+  pub some_reply_of : (form : Form) (line : List ℕ) → (t : Turn) × Replies limit m (LineIs form line) t
+  some_reply_of form line = by_line (some_line below.lines form line)
     where
-      by_line : (result : Result Reading TextCode) × LineOf line result → (t : Turn) × Replies limit m line t
-      by_line (Ok reading, is) = let t = some_answer reading in (t.0, replies_read limit m line reading is t.0 t.1)
-      by_line (Err code, is) = (told m (Bad code), replies_bad limit m line code is _ refl)
+      by_line : (result : Result Reading TextCode) × LineIs form line result → (t : Turn) × Replies limit m (LineIs form line) t
+      by_line (Ok reading, is) = let t = some_answer reading in (t.0, replies_read limit m (LineIs form line) reading is t.0 t.1)
+      by_line (Err code, is) = (told m (Bad code), replies_bad limit m (LineIs form line) code is _ refl)
 
 pub some_reply : Below → SomeReply
-some_reply below limit m line good = some_reply_of below limit m good line
+some_reply below limit m form line good = some_reply_of below limit m good form line

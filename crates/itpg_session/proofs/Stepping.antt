@@ -6,7 +6,6 @@ use Rattle.itpg_base.specs.Graphs.{Graph}
 use Rattle.itpg_base.specs.declared.text_code.TextCode.{TextCode}
 use Rattle.edit_reader.specs.declared.line.Line.{Line}
 use Rattle.edit_reader.specs.Readings.{reading_of, told as read_as, Reading, Nothing, Changes, Asks, Wants, Watches, Shows, Unwatches, Ticks, Opens, Closes, AsksIn, Follows, Nears, Unfollows}
-use Rattle.edit_reader.specs.Lines.{LineOf}
 use Rattle.relation_rows.specs.Answered.{Answered}
 use Rattle.row_printer.specs.Texts.{AreDeclared}
 use Rattle.itpg_session.specs.declared.reply.Reply.{Reply as ReplyValue}
@@ -19,7 +18,9 @@ use Rattle.itpg_session.specs.Questions.{HasAnswer}
 use Rattle.itpg_session.specs.Keeping.{AreWatchesRight}
 use Rattle.itpg_session.specs.PlainWatches.{PlainWatch, plain, IsFresh, marked_at}
 use Rattle.itpg_session.specs.Replies.{Reply, Rows, Shown, FindsFor}
-use Rattle.itpg_session.specs.Texts.{text_of, rows_text, fails}
+use Rattle.row_printer.specs.declared.form.Form.{Form}
+use Rattle.reply_text.specs.Texts.{rows_text}
+use Rattle.itpg_session.specs.Texts.{text_of, fails}
 use Rattle.itpg_session.specs.PlainFollows.{plain_follow}
 use Rattle.itpg_session.specs.Following.{NearsKept}
 use Rattle.itpg_session.specs.Machine.{Machine, Standing, Turn, TurnOf, Replies, told, after}
@@ -35,17 +36,17 @@ use Rattle.itpg_session.proofs.Replying.{declared}
 use Rattle.itpg_session.proofs.Told.{decides_as, rows_seen}
 
 -- the turns of what a line is are the line's
-pub line_turn : (limit : ℕ) (m : Machine) (line : List ℕ) (what : Result Reading TextCode) → LineOf line what → (t : Turn) → TurnOf limit m what t → Replies limit m line t
-line_turn limit m line what is t a = record { what = what; line_of = is; turn = a }
+pub line_turn : (limit : ℕ) (m : Machine) (Is : Result Reading TextCode → Type 0) (what : Result Reading TextCode) → Is what → (t : Turn) → TurnOf limit m what t → Replies limit m Is t
+line_turn limit m Is what is t a = record { what = what; line_of = is; turn = a }
 
 -- and what it wants, the line wants
-pub line_wants : (m : Machine) (line : List ℕ) (what : Result Reading TextCode) → LineOf line what → WhatWants m what → LineWants m line
-line_wants m line (Ok reading) is wants = (reading, is, wants)
-line_wants m line (Err code) is wants = absurd wants
+pub line_wants : (m : Machine) (Is : Result Reading TextCode → Type 0) (what : Result Reading TextCode) → Is what → WhatWants m what → LineWants m Is
+line_wants m Is (Ok reading) is wants = (reading, is, wants)
+line_wants m Is (Err code) is wants = absurd wants
 
-pub line_decides : {E : Type 0} (line : List ℕ) (what : Result Reading TextCode) (old new : Standing) (result : Result ReplyValue E) → LineOf line what
-    → Decides (TurnOf old.limit old.machine what) (WhatWants old.machine what) old new result → Decides (Replies old.limit old.machine line) (LineWants old.machine line) old new result
-line_decides line what old new result is d = decides_as old new (line_turn old.limit old.machine line what is) (line_wants old.machine line what is) result d
+pub line_decides : {E : Type 0} (Is : Result Reading TextCode → Type 0) (what : Result Reading TextCode) (old new : Standing) (result : Result ReplyValue E) → Is what
+    → Decides (TurnOf old.limit old.machine what) (WhatWants old.machine what) old new result → Decides (Replies old.limit old.machine Is) (LineWants old.machine Is) old new result
+line_decides Is what old new result is d = decides_as old new (line_turn old.limit old.machine Is what is) (line_wants old.machine Is what is) result d
 
 -- ---- a watch that is fresh
 
@@ -84,18 +85,18 @@ pub keeps_none : (g : Graph) (limit : ℕ) (table : Table) (ws : List Watch) (ps
 keeps_none g limit table ws ps fs now view name none fresh = none (fresh_plain ws name (subst (λ (s : Standing). IsFresh s.machine.watches name) (sym view) fresh))
 
 -- a line that asks for this answer, which is kept: its turn tells it, and leaves the machine
-pub record KeptTurn (s : Standing) (line : List ℕ) (answer : Answered) : Type 0 where
+pub record KeptTurn (s : Standing) (Is : Result Reading TextCode → Type 0) (answer : Answered) : Type 0 where
   pub reply : Reply
-  pub replies : Replies s.limit s.machine line (told s.machine reply)
+  pub replies : Replies s.limit s.machine Is (told s.machine reply)
   pub stays : after s.machine reply ≡ s.machine
-  pub text : (number : ℕ) → text_of s.machine number reply ≡ rows_text s.machine.graph number answer
+  pub text : (form : Form) (number : ℕ) → text_of form s.machine number reply ≡ rows_text form s.machine.graph number answer
   pub fine : fails reply ≡ false
   pub declared : AreDeclared (length s.machine.graph.objects) answer
 
-named_kept : (s : Standing) (line : List ℕ) (name : Word) (answer : Answered) → LineOf line (Ok (Shows name)) → ShowsNameKept s name answer → KeptTurn s line answer
-named_kept s line name answer is k = record {
+named_kept : (s : Standing) (Is : Result Reading TextCode → Type 0) (name : Word) (answer : Answered) → Is (Ok (Shows name)) → ShowsNameKept s name answer → KeptTurn s Is answer
+named_kept s Is name answer is k = record {
   reply = Shown k.place (Some answer);
-  replies = replies_read s.limit s.machine line (Shows name) is _ (shows_answers s.limit s.machine name _ (inr (record {
+  replies = replies_read s.limit s.machine Is (Shows name) is _ (shows_answers s.limit s.machine name _ (inr (record {
     unbroken = k.unbroken;
     place = k.place;
     watch = k.watch;
@@ -105,16 +106,16 @@ named_kept s line name answer is k = record {
     finds = k.answers;
     is = refl;
   })));
-  text = λ number. refl;
+  text = λ form number. refl;
   fine = refl;
   stays = ap (λ (ws : List PlainWatch). let m : Machine = record s.machine { watches = ws } in m) (marked_again s.machine.watches k.place k.watch k.at k.fresh);
   declared = declared s.machine.graph (k.watch).query.path (k.watch).query.first (k.watch).query.last answer k.answers.1;
 }
 
-near_kept : (s : Standing) (line : List ℕ) (name id : Word) (answer : Answered) → LineOf line (Ok (Nears name id)) → NearsKept s name id answer → KeptTurn s line answer
-near_kept s line name id answer is k = record {
+near_kept : (s : Standing) (Is : Result Reading TextCode → Type 0) (name id : Word) (answer : Answered) → Is (Ok (Nears name id)) → NearsKept s name id answer → KeptTurn s Is answer
+near_kept s Is name id answer is k = record {
   reply = Rows answer;
-  replies = replies_read s.limit s.machine line (Nears name id) is _ (nears_answers s.limit s.machine name id _ (inr (record {
+  replies = replies_read s.limit s.machine Is (Nears name id) is _ (nears_answers s.limit s.machine name id _ (inr (record {
     unbroken = k.unbroken;
     place = k.place;
     follow = plain_follow k.follow;
@@ -127,33 +128,33 @@ near_kept s line name id answer is k = record {
     is = refl;
   })));
   stays = refl;
-  text = λ number. refl;
+  text = λ form number. refl;
   fine = refl;
   declared = near_declared s.machine.graph s.limit (k.follow).query k.object answer k.rows;
 }
 
-pub kept_turn : (s : Standing) (line : List ℕ) (reading : Reading) (answer : Answered) → LineOf line (Ok reading) → ShowsKept s reading answer → KeptTurn s line answer
-kept_turn s line Nothing answer is k = absurd k
-kept_turn s line (Changes edit) answer is k = absurd k
-kept_turn s line (Asks text) answer is k = absurd k
-kept_turn s line (Wants wanted text) answer is k = absurd k
-kept_turn s line (Watches name text) answer is k = absurd k
-kept_turn s line (Shows name) answer is k = named_kept s line name answer is k
-kept_turn s line (Unwatches name) answer is k = absurd k
-kept_turn s line Ticks answer is k = absurd k
-kept_turn s line (Opens name) answer is k = absurd k
-kept_turn s line (Closes name) answer is k = absurd k
-kept_turn s line (AsksIn name text) answer is k = absurd k
-kept_turn s line (Follows name text) answer is k = absurd k
-kept_turn s line (Nears name id) answer is k = near_kept s line name id answer is k
-kept_turn s line (Unfollows name) answer is k = absurd k
+pub kept_turn : (s : Standing) (Is : Result Reading TextCode → Type 0) (reading : Reading) (answer : Answered) → Is (Ok reading) → ShowsKept s reading answer → KeptTurn s Is answer
+kept_turn s Is Nothing answer is k = absurd k
+kept_turn s Is (Changes edit) answer is k = absurd k
+kept_turn s Is (Asks text) answer is k = absurd k
+kept_turn s Is (Wants wanted text) answer is k = absurd k
+kept_turn s Is (Watches name text) answer is k = absurd k
+kept_turn s Is (Shows name) answer is k = named_kept s Is name answer is k
+kept_turn s Is (Unwatches name) answer is k = absurd k
+kept_turn s Is Ticks answer is k = absurd k
+kept_turn s Is (Opens name) answer is k = absurd k
+kept_turn s Is (Closes name) answer is k = absurd k
+kept_turn s Is (AsksIn name text) answer is k = absurd k
+kept_turn s Is (Follows name text) answer is k = absurd k
+kept_turn s Is (Nears name id) answer is k = near_kept s Is name id answer is k
+kept_turn s Is (Unfollows name) answer is k = absurd k
 
-pub kept_line : (s : Standing) (line : List ℕ) (what : Result Line TextCode) (answer : Answered) → LineOf line (read_as what) → IsOkAnd what (λ l. ShowsKept s (reading_of l) answer) → KeptTurn s line answer
-kept_line s line (Ok l) answer is k = kept_turn s line (reading_of l) answer is k
-kept_line s line (Err code) answer is k = absurd k
+pub kept_line : (s : Standing) (Is : Result Reading TextCode → Type 0) (what : Result Line TextCode) (answer : Answered) → Is (read_as what) → IsOkAnd what (λ l. ShowsKept s (reading_of l) answer) → KeptTurn s Is answer
+kept_line s Is (Ok l) answer is k = kept_turn s Is (reading_of l) answer is k
+kept_line s Is (Err code) answer is k = absurd k
 
 -- what is seen of it
-pub kept_sees : (s : Standing) (line : List ℕ) (answer : Answered) (turn : KeptTurn s line answer) (number : ℕ) → Sees SeenAnswered (text_of s.machine number turn.reply) (fails turn.reply)
-kept_sees s line answer turn number =
-    subst (λ (b : Bool). Sees SeenAnswered (text_of s.machine number turn.reply) b) (sym turn.fine)
-    (subst (λ (text : List ℕ). Sees SeenAnswered text false) (sym (turn.text number)) (rows_seen s.machine.graph number answer))
+pub kept_sees : (s : Standing) (Is : Result Reading TextCode → Type 0) (answer : Answered) (turn : KeptTurn s Is answer) (form : Form) (number : ℕ) → Sees SeenAnswered (text_of form s.machine number turn.reply) (fails turn.reply)
+kept_sees s Is answer turn form number =
+    subst (λ (b : Bool). Sees SeenAnswered (text_of form s.machine number turn.reply) b) (sym turn.fine)
+    (subst (λ (text : List ℕ). Sees SeenAnswered text false) (sym (turn.text form number)) (rows_seen form s.machine.graph number answer))

@@ -11,7 +11,9 @@ use Rattle.itpg_session.specs.declared.ticking.Ticked.{Ticked as TickedValue}
 use Rattle.itpg_session.specs.PlainWatches.{PlainWatch, NamesDiffer, plain, all_plain}
 use Rattle.itpg_session.specs.Ticks.{Ticked, ticked_of, StaysWide, Moves, IsTicked, AreTicked, some_wide, settled, settled_at, all_settled, moved, all_moved}
 use Rattle.itpg_session.specs.Watching.{IsMoveOfKind, AreMovesOfKind}
-use Rattle.itpg_session.specs.Texts.{tick_wide_text, tick_head_text, ticked_text, tick_text}
+use Rattle.row_printer.specs.declared.form.Form.{Form}
+use Rattle.reply_text.specs.Texts.{tick_wide_text, tick_head_text}
+use Rattle.itpg_session.specs.Texts.{ticked_text, tick_text}
 use Rattle.itpg_session.specs.Steps.{Sees}
 use Rattle.itpg_session.specs.declared.reply.Seen.TheVariants.{Quiet, Answered, Refused}
 use Rattle.itpg_session.proofs.Plain.{said_plain}
@@ -63,16 +65,16 @@ map_at f (x ∷ xs) (suc i) d few = map_at f xs i d (omega (arith, few))
 
 -- ---- writing
 
-pub text_more : (g : Graph) (xs : List Ticked) (i : ℕ) (x : Ticked) → slice_get xs i ≡ Some x → tick_text g (take (suc i) xs) ≡ tick_text g (take i xs) ++ ticked_text g x
-text_more g [] i x b = absurd (let nothing : ⊥ = cc in nothing)
-text_more g (y ∷ ys) zero x b = append-nil (ticked_text g y) ∙ ap (ticked_text g) (same_Some _ _ b)
-text_more g (y ∷ ys) (suc i) x b = ap (λ t. ticked_text g y ++ t) (text_more g ys i x b) ∙ sym (append_assoc (ticked_text g y) (tick_text g (take i ys)) (ticked_text g x))
+pub text_more : (form : Form) (g : Graph) (xs : List Ticked) (i : ℕ) (x : Ticked) → slice_get xs i ≡ Some x → tick_text form g (take (suc i) xs) ≡ tick_text form g (take i xs) ++ ticked_text form g x
+text_more form g [] i x b = absurd (let nothing : ⊥ = cc in nothing)
+text_more form g (y ∷ ys) zero x b = append-nil (ticked_text form g y) ∙ ap (ticked_text form g) (same_Some _ _ b)
+text_more form g (y ∷ ys) (suc i) x b = ap (λ t. ticked_text form g y ++ t) (text_more form g ys i x b) ∙ sym (append_assoc (ticked_text form g y) (tick_text form g (take i ys)) (ticked_text form g x))
 
-pub text_split : (g : Graph) (xs : List Ticked) (i : ℕ) (x : Ticked) → slice_get xs i ≡ Some x → tick_text g xs ≡ tick_text g (take i xs) ++ (ticked_text g x ++ tick_text g (drop (suc i) xs))
-text_split g [] i x b = absurd (let nothing : ⊥ = cc in nothing)
-text_split g (y ∷ ys) zero x b = ap (λ (o : Ticked). ticked_text g o ++ tick_text g ys) (same_Some _ _ b)
-text_split g (y ∷ ys) (suc i) x b =
-    ap (λ t. ticked_text g y ++ t) (text_split g ys i x b) ∙ sym (append_assoc (ticked_text g y) (tick_text g (take i ys)) (ticked_text g x ++ tick_text g (drop (suc i) ys)))
+pub text_split : (form : Form) (g : Graph) (xs : List Ticked) (i : ℕ) (x : Ticked) → slice_get xs i ≡ Some x → tick_text form g xs ≡ tick_text form g (take i xs) ++ (ticked_text form g x ++ tick_text form g (drop (suc i) xs))
+text_split form g [] i x b = absurd (let nothing : ⊥ = cc in nothing)
+text_split form g (y ∷ ys) zero x b = ap (λ (o : Ticked). ticked_text form g o ++ tick_text form g ys) (same_Some _ _ b)
+text_split form g (y ∷ ys) (suc i) x b =
+    ap (λ t. ticked_text form g y ++ t) (text_split form g ys i x b) ∙ sym (append_assoc (ticked_text form g y) (tick_text form g (take i ys)) (ticked_text form g x ++ tick_text form g (drop (suc i) ys)))
 
 -- ---- moving
 
@@ -179,22 +181,24 @@ differ_moved (w ∷ ws) (x ∷ xs) d = (
 
 -- ---- what is seen of a tick
 
-one_text : (g : Graph) (x : Ticked) (more : List ℕ) → ticked_text g x ++ more ≢ []
+one_text : (form : Form) (g : Graph) (x : Ticked) (more : List ℕ) → ticked_text form g x ++ more ≢ []
 unfolding tick_wide_text tick_head_text
-one_text g (StaysWide name) more e = cc
-one_text g (Moves name now gained lost) more e = cc
+one_text Form.Plain g (StaysWide name) more e = cc
+one_text Form.Plain g (Moves name now gained lost) more e = cc
+one_text Form.Json g (StaysWide name) more e = cc
+one_text Form.Json g (Moves name now gained lost) more e = cc
 
-pub seen_quiet : (g : Graph) (xs : List Ticked) → length xs ≡ 0 → Sees Quiet (tick_text g xs) (some_wide xs)
-seen_quiet g [] none = sees_quiet
-seen_quiet g (x ∷ xs) none = absurd (omega (arith, none))
+pub seen_quiet : (form : Form) (g : Graph) (xs : List Ticked) → length xs ≡ 0 → Sees Quiet (tick_text form g xs) (some_wide xs)
+seen_quiet form g [] none = sees_quiet
+seen_quiet form g (x ∷ xs) none = absurd (omega (arith, none))
 
-pub seen_refused : (g : Graph) (xs : List Ticked) → some_wide xs ≡ true → Sees Refused (tick_text g xs) (some_wide xs)
-seen_refused g [] wide = absurd (let no_wide : ⊥ = cc in no_wide)
-seen_refused g (x ∷ xs) wide = subst (λ (b : Bool). Sees Refused (tick_text g (x ∷ xs)) b) (sym wide) (sees_refused _ (one_text g x (tick_text g xs)))
+pub seen_refused : (form : Form) (g : Graph) (xs : List Ticked) → some_wide xs ≡ true → Sees Refused (tick_text form g xs) (some_wide xs)
+seen_refused form g [] wide = absurd (let no_wide : ⊥ = cc in no_wide)
+seen_refused form g (x ∷ xs) wide = subst (λ (b : Bool). Sees Refused (tick_text form g (x ∷ xs)) b) (sym wide) (sees_refused _ (one_text form g x (tick_text form g xs)))
 
-pub seen_answered : (g : Graph) (xs : List Ticked) → length xs ≢ 0 → some_wide xs ≡ false → Sees Answered (tick_text g xs) (some_wide xs)
-seen_answered g [] some fits = absurd (some refl)
-seen_answered g (x ∷ xs) some fits = subst (λ (b : Bool). Sees Answered (tick_text g (x ∷ xs)) b) (sym fits) (sees_answered _ (one_text g x (tick_text g xs)))
+pub seen_answered : (form : Form) (g : Graph) (xs : List Ticked) → length xs ≢ 0 → some_wide xs ≡ false → Sees Answered (tick_text form g xs) (some_wide xs)
+seen_answered form g [] some fits = absurd (some refl)
+seen_answered form g (x ∷ xs) some fits = subst (λ (b : Bool). Sees Answered (tick_text form g (x ∷ xs)) b) (sym fits) (sees_answered _ (one_text form g x (tick_text form g xs)))
 
 -- ---- whether some is too wide
 

@@ -9,7 +9,9 @@ use Rattle.itpg_session.specs.declared.reply.Reply.{Reply as ReplyValue}
 use Rattle.relation_rows.specs.Answered.{Answered as Answer}
 use Rattle.arrivals.specs.declared.counts.CountRow.{CountRow}
 use Rattle.itpg_session.specs.Replies.{Reply, Silent, Bad, Refused, Wide, Rows, Counted, Shown, OfPin, PerWatch, line_reply}
-use Rattle.itpg_session.specs.Texts.{bad_text, refused_text, wide_text, head_text, rows_text, counts_head_text, counted_text, text_of}
+use Rattle.row_printer.specs.declared.form.Form.{Form}
+use Rattle.reply_text.specs.Texts.{bad_text, refused_text, wide_text, head_text, rows_text, counts_head_text, counted_text}
+use Rattle.itpg_session.specs.Texts.{text_of}
 use Rattle.itpg_session.specs.Machine.{Machine, Standing, Turn, told}
 use Rattle.itpg_session.specs.Steps.{Sees, IsAlike, IsDecided, Decides}
 use Rattle.itpg_session.proofs.Planned.{alike_same}
@@ -25,29 +27,35 @@ sees_answered text some = record { quiet = (λ e. cc, λ e. absurd (some e)); re
 pub sees_refused : (text : List ℕ) → text ≢ [] → Sees RefusedSeen text true
 sees_refused text some = record { quiet = (λ e. cc, λ e. absurd (some e)); refused = (λ e. refl, λ e. refl) }
 
-pub refused_seen : (number : ℕ) (rule : RuleCode) → Sees RefusedSeen (refused_text number rule) true
+pub refused_seen : (form : Form) (number : ℕ) (rule : RuleCode) → Sees RefusedSeen (refused_text form number rule) true
 unfolding refused_text
-refused_seen number rule = sees_refused (refused_text number rule) (λ e. cc)
+refused_seen Form.Plain number rule = sees_refused (refused_text Form.Plain number rule) (λ e. cc)
+refused_seen Form.Json number rule = sees_refused (refused_text Form.Json number rule) (λ e. cc)
 
-pub bad_seen : (number : ℕ) (code : TextCode) → Sees RefusedSeen (bad_text number code) true
+pub bad_seen : (form : Form) (number : ℕ) (code : TextCode) → Sees RefusedSeen (bad_text form number code) true
 unfolding bad_text
-bad_seen number code = sees_refused (bad_text number code) (λ e. cc)
+bad_seen Form.Plain number code = sees_refused (bad_text Form.Plain number code) (λ e. cc)
+bad_seen Form.Json number code = sees_refused (bad_text Form.Json number code) (λ e. cc)
 
-pub wide_seen : (number : ℕ) → Sees RefusedSeen (wide_text number) true
+pub wide_seen : (form : Form) (number : ℕ) → Sees RefusedSeen (wide_text form number) true
 unfolding wide_text
-wide_seen number = sees_refused (wide_text number) (λ e. cc)
+wide_seen Form.Plain number = sees_refused (wide_text Form.Plain number) (λ e. cc)
+wide_seen Form.Json number = sees_refused (wide_text Form.Json number) (λ e. cc)
 
-pub rows_seen : (g : Graph) (number : ℕ) (answer : Answer) → Sees Answered (rows_text g number answer) false
+pub rows_seen : (form : Form) (g : Graph) (number : ℕ) (answer : Answer) → Sees Answered (rows_text form g number answer) false
 unfolding head_text
-rows_seen g number answer = sees_answered (rows_text g number answer) (λ e. cc)
+rows_seen Form.Plain g number answer = sees_answered (rows_text Form.Plain g number answer) (λ e. cc)
+rows_seen Form.Json g number answer = sees_answered (rows_text Form.Json g number answer) (λ e. cc)
 
-pub pin_seen : (m : Machine) (number place : ℕ) (answer : Answer) → Sees Answered (text_of m number (OfPin place answer)) false
+pub pin_seen : (form : Form) (m : Machine) (number place : ℕ) (answer : Answer) → Sees Answered (text_of form m number (OfPin place answer)) false
 unfolding head_text
-pin_seen m number place answer = sees_answered (text_of m number (OfPin place answer)) (λ e. cc)
+pin_seen Form.Plain m number place answer = sees_answered (text_of Form.Plain m number (OfPin place answer)) (λ e. cc)
+pin_seen Form.Json m number place answer = sees_answered (text_of Form.Json m number (OfPin place answer)) (λ e. cc)
 
-pub counts_seen : (number : ℕ) (counts : List CountRow) → Sees Answered (counted_text number counts) false
+pub counts_seen : (form : Form) (number : ℕ) (counts : List CountRow) → Sees Answered (counted_text form number counts) false
 unfolding counts_head_text
-counts_seen number counts = sees_answered (counted_text number counts) (λ e. cc)
+counts_seen Form.Plain number counts = sees_answered (counted_text Form.Plain number counts) (λ e. cc)
+counts_seen Form.Json number counts = sees_answered (counted_text Form.Json number counts) (λ e. cc)
 
 -- ---- deciding
 
@@ -74,14 +82,14 @@ module _ {P : Turn → Type 0} where
   silent old new limit p = record { turns = p; waits = λ some. absurd (some refl); limit = limit }
 
 -- a reply that says something is to the machine that it was decided for, and one that says nothing has no text
-pub same_text : (old new : Standing) (number : ℕ) (reply : Reply) → (reply ≢ Silent → IsAlike old new) → text_of new.machine number reply ≡ text_of old.machine number reply
-same_text old new number Silent waits = refl
-same_text old new number (Bad code) waits = refl
-same_text old new number (Refused rule) waits = refl
-same_text old new number Wide waits = refl
-same_text old new number (Rows answer) waits = ap (λ (m : Machine). text_of m number (Rows answer)) (waits (λ e. let no : ⊥ = cc in no)).machine
-same_text old new number (Counted counts) waits = refl
-same_text old new number (Shown place None) waits = refl
-same_text old new number (Shown place (Some answer)) waits = ap (λ (m : Machine). text_of m number (Shown place (Some answer))) (waits (λ e. let no : ⊥ = cc in no)).machine
-same_text old new number (OfPin place answer) waits = ap (λ (m : Machine). text_of m number (OfPin place answer)) (waits (λ e. let no : ⊥ = cc in no)).machine
-same_text old new number (PerWatch found) waits = ap (λ (m : Machine). text_of m number (PerWatch found)) (waits (λ e. let no : ⊥ = cc in no)).machine
+pub same_text : (form : Form) (old new : Standing) (number : ℕ) (reply : Reply) → (reply ≢ Silent → IsAlike old new) → text_of form new.machine number reply ≡ text_of form old.machine number reply
+same_text form old new number Silent waits = refl
+same_text form old new number (Bad code) waits = refl
+same_text form old new number (Refused rule) waits = refl
+same_text form old new number Wide waits = refl
+same_text form old new number (Rows answer) waits = ap (λ (m : Machine). text_of form m number (Rows answer)) (waits (λ e. let no : ⊥ = cc in no)).machine
+same_text form old new number (Counted counts) waits = refl
+same_text form old new number (Shown place None) waits = refl
+same_text form old new number (Shown place (Some answer)) waits = ap (λ (m : Machine). text_of form m number (Shown place (Some answer))) (waits (λ e. let no : ⊥ = cc in no)).machine
+same_text form old new number (OfPin place answer) waits = ap (λ (m : Machine). text_of form m number (OfPin place answer)) (waits (λ e. let no : ⊥ = cc in no)).machine
+same_text form old new number (PerWatch found) waits = ap (λ (m : Machine). text_of form m number (PerWatch found)) (waits (λ e. let no : ⊥ = cc in no)).machine

@@ -10,7 +10,6 @@ use Rattle.itpg_graph.specs.Edges.{HasNumber, AreNumbers}
 use Rattle.itpg_edit.specs.declared.edit.Edit.{Edit}
 use Rattle.itpg_edit.specs.Rules.{NoneOf, Unbroken}
 use Rattle.edit_reader.specs.Readings.{Reading, Changes, Follows, Nears, Unfollows}
-use Rattle.edit_reader.specs.Lines.{LineOf}
 use Rattle.path_ast.specs.Terms.{QueryTerm}
 use Rattle.match_parser.specs.Reading.{Reads}
 use Rattle.relation_rows.specs.Answered.{Answered}
@@ -79,9 +78,9 @@ abbrev pub LeavesFollowsSo : Result Reading TextCode → Standing → Standing �
 LeavesFollowsSo (Ok reading) old new = LeavesFollows reading old new
 LeavesFollowsSo (Err code) old new = new.follows ≡ old.follows
 
--- and of the line
-abbrev pub LeavesFollowsLine : List ℕ → Standing → Standing → Type 0
-LeavesFollowsLine line old new = (what : Result Reading TextCode) → LineOf line what → LeavesFollowsSo what old new
+-- and of a line that is this
+abbrev pub LeavesFollowsLine : (Result Reading TextCode → Type 0) → Standing → Standing → Type 0
+LeavesFollowsLine Is old new = (what : Result Reading TextCode) → Is what → LeavesFollowsSo what old new
 
 -- where something is said of what a line asks for, or memory or the sink fails, the follows are as they were, but for the rows of one object
 abbrev pub HoldsFollows : Reading → Standing → Standing → Type 0
@@ -93,9 +92,9 @@ abbrev pub HoldsFollowsSo : Result Reading TextCode → Standing → Standing �
 HoldsFollowsSo (Ok reading) old new = HoldsFollows reading old new
 HoldsFollowsSo (Err code) old new = new.follows ≡ old.follows
 
--- and of the line
-abbrev pub HoldsFollowsLine : List ℕ → Standing → Standing → Type 0
-HoldsFollowsLine line old new = (what : Result Reading TextCode) → LineOf line what → HoldsFollowsSo what old new
+-- and of a line that is this
+abbrev pub HoldsFollowsLine : (Result Reading TextCode → Type 0) → Standing → Standing → Type 0
+HoldsFollowsLine Is old new = (what : Result Reading TextCode) → Is what → HoldsFollowsSo what old new
 
 -- where something is said, or memory runs out, the follows are as they were
 abbrev pub KeepsIfSaid : {E : Type 0} → Standing → Standing → Result ReplyValue E → Type 0
@@ -107,9 +106,9 @@ abbrev pub HoldsIfSaid : {E : Type 0} → Reading → Standing → Standing → 
 HoldsIfSaid reading old new (Ok reply) = line_reply reply ≢ Silent → HoldsFollows reading old new
 HoldsIfSaid reading old new (Err error) = new.follows ≡ old.follows
 
--- after an edit that the line is and that breaks no rule, exactly the rows are kept whose objects it doesn't touch
-abbrev pub SparesLine : List ℕ → Standing → Standing → Type 0
-SparesLine line old new = (edit : Edit) → LineOf line (Ok (Changes edit)) → Unbroken old.machine.graph edit → SparesUntouched edit old new
+-- after an edit that a line is which is this, and that breaks no rule, exactly the rows are kept whose objects it doesn't touch
+abbrev pub SparesLine : (Result Reading TextCode → Type 0) → Standing → Standing → Type 0
+SparesLine Is old new = (edit : Edit) → Is (Ok (Changes edit)) → Unbroken old.machine.graph edit → SparesUntouched edit old new
 
 -- beside what is kept there is no room for the rows of the object and the objects that they depend on
 pub record LacksRoom (s : Standing) (q : QueryTerm) (o : ℕ) : Type 0 where
@@ -141,9 +140,9 @@ abbrev pub KeepsNearSo : Result Reading TextCode → Standing → Standing → T
 KeepsNearSo (Ok reading) old new = KeepsNear reading old new
 KeepsNearSo (Err code) old new = Unit {0}
 
--- and of the line
-abbrev pub KeepsNearLine : List ℕ → Standing → Standing → Type 0
-KeepsNearLine line old new = (what : Result Reading TextCode) → LineOf line what → KeepsNearSo what old new
+-- and of a line that is this
+abbrev pub KeepsNearLine : (Result Reading TextCode → Type 0) → Standing → Standing → Type 0
+KeepsNearLine Is old new = (what : Result Reading TextCode) → Is what → KeepsNearSo what old new
 
 -- after an edit that breaks no rule, exactly the rows are kept whose objects it doesn't touch
 abbrev pub SparesRead : Reading → Standing → Standing → Type 0

@@ -9,6 +9,7 @@ pub mod Replies
 pub mod Wanting
 pub mod Texts
 pub mod Watching
+pub mod Lines
 pub mod Machine
 pub mod MachineLaws
 pub mod Keeping

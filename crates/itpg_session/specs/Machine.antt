@@ -1,7 +1,7 @@
 -- The plain machine: what may answer each line, and what it leaves.
-use Rattle.std.specs.Prelude.{◌≡◌, ℕ, List, [], ◌∷◌, ◌++◌, Option, Some, None, Bool, true, false, ◌&&◌, is_some, slice_get, ◌⊎◌, Result, Ok, Err}
+use Rattle.std.specs.Prelude.{◌≡◌, ℕ, List, [], ◌∷◌, ◌++◌, Option, Some, None, Bool, true, false, ◌&&◌, is_some, slice_get, ◌⊎◌, IsTrue, Result, Ok, Err}
 use Rattle.itpg_base.specs.Words.{Word}
-use Rattle.itpg_base.specs.Graphs.{Graph, Good, Named}
+use Rattle.itpg_base.specs.Graphs.{Graph, Object, Good, Named}
 use Rattle.itpg_base.specs.declared.rule_code.RuleCode.{RuleCode}
 use Rattle.itpg_base.specs.declared.text_code.TextCode.{TextCode}
 use Rattle.itpg_base.specs.declared.text_code.TextCode.TheVariants.{Names}
@@ -9,8 +9,8 @@ use Rattle.itpg_edit.specs.declared.edit.Edit.{Edit}
 use Rattle.itpg_edit.specs.Rules.{rules_of, Breaks, FirstOf, NoneOf}
 use Rattle.itpg_edit.specs.Next.{Makes as MakesGraph}
 use Rattle.edit_reader.specs.Readings.{Reading, Nothing, Changes, Asks, Wants, Watches, Shows, Unwatches, Ticks, Opens, Closes, AsksIn, Follows, Nears, Unfollows}
+use Rattle.edit_reader.specs.Names.{is_word}
 use Rattle.edit_reader.specs.declared.line.Wanted.{Wanted}
-use Rattle.edit_reader.specs.Lines.{LineOf}
 use Rattle.path_ast.specs.Terms.{QueryTerm}
 use Rattle.relation_rows.specs.Answered.{Answered}
 use Rattle.match_parser.specs.Reading.{Reads, FaultOf}
@@ -37,8 +37,20 @@ pub record Machine : Type 0 where
   pub pins : List Pin
   pub follows : List PlainFollow
 
--- what each machine keeps: its graph is good, no two watches, no two pins and no two follows have one name, and each watch asks for an
--- end of its path and has a base of its kind
+-- each object of the graph was declared under a word
+abbrev pub HasWords : Graph → Type 0
+HasWords g = (x : Object) → Among g.objects x → IsTrue (is_word x.name)
+
+-- names are words: those of the objects, of the watches, of the pins and of the objects of their graphs, and of the follows. So none
+-- of their bytes needs an escape in a reply of JSON
+pub record IsNamedByWords (m : Machine) : Type 0 where
+  pub objects : HasWords m.graph
+  pub watches : (w : PlainWatch) → Among m.watches w → IsTrue (is_word w.name)
+  pub pins : (p : Pin) → Among m.pins p → IsTrue (is_word p.name) × HasWords p.graph
+  pub follows : (f : PlainFollow) → Among m.follows f → IsTrue (is_word f.name)
+
+-- what each machine keeps: its graph is good, no two watches, no two pins and no two follows have one name, each watch asks for an
+-- end of its path and has a base of its kind, and names are words
 pub record IsGood (m : Machine) : Type 0 where
   pub graph : Good m.graph
   pub differ : Ordered NamesDiffer m.watches
@@ -46,6 +58,7 @@ pub record IsGood (m : Machine) : Type 0 where
   pub kinds : (w : PlainWatch) → Among m.watches w → IsOfKind w.query w.base
   pub pins : Ordered PinsDiffer m.pins
   pub follows : Ordered FollowsDiffer m.follows
+  pub words : IsNamedByWords m
 
 -- at first no graph is begun, and nothing is watched, pinned or followed
 abbrev pub opening : Machine
@@ -276,8 +289,8 @@ unfoldable pub TurnOf : ℕ → Machine → Result Reading TextCode → Turn →
 TurnOf limit m (Ok reading) t = Answers limit m reading t
 TurnOf limit m (Err code) t = t ≡ told m (Bad code)
 
--- the turn that the bytes of a line may have
-pub record Replies (limit : ℕ) (m : Machine) (line : List ℕ) (t : Turn) : Type 0 where
+-- the turn that a line may have which is this
+pub record Replies (limit : ℕ) (m : Machine) (Is : Result Reading TextCode → Type 0) (t : Turn) : Type 0 where
   pub what : Result Reading TextCode
-  pub line_of : LineOf line what
+  pub line_of : Is what
   pub turn : TurnOf limit m what t

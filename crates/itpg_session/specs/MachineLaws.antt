@@ -2,6 +2,8 @@
 use Rattle.std.specs.Prelude.{◌≡◌, ◌↔◌, ℕ, ◌≤◌, List, take}
 use Rattle.itpg_base.specs.Graphs.{Graph}
 use Rattle.itpg_session.specs.Replies.{Reply, IsReply, NamesDeclared}
+use Rattle.row_printer.specs.declared.form.Form.{Form}
+use Rattle.itpg_session.specs.Lines.{LineIs}
 use Rattle.itpg_session.specs.Machine.{Machine, IsGood, Turn, Replies, opening}
 
 -- on each graph a query text has at most one reply
@@ -16,17 +18,17 @@ SomeAsked = (g : Graph) (limit : ℕ) (text : List ℕ) → (reply : Reply) × I
 abbrev pub DeclaredAsked : Type 0
 DeclaredAsked = (g : Graph) (limit : ℕ) (text : List ℕ) (reply : Reply) → IsReply g limit text reply → NamesDeclared g reply
 
--- from a good machine a line has at most one turn
+-- from a good machine a line of either form has at most one turn
 abbrev pub OneReply : Type 0
-OneReply = (limit : ℕ) (m : Machine) (line : List ℕ) (x y : Turn) → IsGood m → Replies limit m line x → Replies limit m line y → x ≡ y
+OneReply = (limit : ℕ) (m : Machine) (form : Form) (line : List ℕ) (x y : Turn) → IsGood m → Replies limit m (LineIs form line) x → Replies limit m (LineIs form line) y → x ≡ y
 
 -- and it has one
 abbrev pub SomeReply : Type 0
-SomeReply = (limit : ℕ) (m : Machine) (line : List ℕ) → IsGood m → (t : Turn) × Replies limit m line t
+SomeReply = (limit : ℕ) (m : Machine) (form : Form) (line : List ℕ) → IsGood m → (t : Turn) × Replies limit m (LineIs form line) t
 
 -- which leaves a good machine
 abbrev pub GoodReply : Type 0
-GoodReply = (limit : ℕ) (m : Machine) (line : List ℕ) (t : Turn) → IsGood m → Replies limit m line t → IsGood t.next
+GoodReply = (limit : ℕ) (m : Machine) (form : Form) (line : List ℕ) (t : Turn) → IsGood m → Replies limit m (LineIs form line) t → IsGood t.next
 
 -- the machine is good at first
 abbrev pub GoodOpening : Type 0
@@ -34,4 +36,4 @@ GoodOpening = IsGood opening
 
 -- a line has the turns of its first 65,538 bytes, or of any longer front: of a longer line no more need be kept
 abbrev pub FrontReplies : Type 0
-FrontReplies = (limit : ℕ) (m : Machine) (line : List ℕ) (n : ℕ) (t : Turn) → 65538 ≤ n → Replies limit m (take n line) t ↔ Replies limit m line t
+FrontReplies = (limit : ℕ) (m : Machine) (form : Form) (line : List ℕ) (n : ℕ) (t : Turn) → 65538 ≤ n → Replies limit m (LineIs form (take n line)) t ↔ Replies limit m (LineIs form line) t

@@ -12,8 +12,8 @@ use Rattle.itpg_edit.specs.Next.{Makes as MakesGraph, TakesMemory}
 use Rattle.plan_cache.specs.Footprints.{footprints_of}
 use Rattle.plan_cache.specs.KeptRows.{Forgets}
 use Rattle.edit_reader.specs.Readings.{Reading, Changes, Asks, Wants, Watches, Shows, Ticks, Opens, Closes, AsksIn, Follows, Nears}
-use Rattle.edit_reader.specs.Lines.{LineOf}
 use Rattle.row_printer.specs.Texts.{AreDeclared}
+use Rattle.row_printer.specs.declared.form.Form.{Form}
 use Rattle.itpg_session.specs.Rules.{NameBreaks, TickBreaks, OpenBreaks, NearBreaks, name_rules, tick_rules, open_rules}
 use Rattle.itpg_session.specs.Ticks.{AreTicked}
 use Rattle.relation_rows.specs.Answered.{Answered}
@@ -49,18 +49,18 @@ pub record IsAlike (old new : Standing) : Type 0 where
   pub watches : AreReplanned old.watches new.watches
 
 -- a turn was taken: its reply was written whole, and the machine went on
-pub record Stepped {K : Type 0} (sink : Ghosts K) (before after : K) (Turns : Turn → Type 0) (number : ℕ) (old new : Standing) (seen : Seen) : Type 0 where
+pub record Stepped {K : Type 0} (sink : Ghosts K) (before after : K) (form : Form) (Turns : Turn → Type 0) (number : ℕ) (old new : Standing) (seen : Seen) : Type 0 where
   pub turn : Turn
   pub turns : Turns turn
-  pub written : Gets sink before after (text_of old.machine number turn.reply)
+  pub written : Gets sink before after (text_of form old.machine number turn.reply)
   pub next : StandsAs new turn.next old.limit
-  pub sees : Sees seen (text_of old.machine number turn.reply) (fails turn.reply)
+  pub sees : Sees seen (text_of form old.machine number turn.reply) (fails turn.reply)
 
 -- a front part of a turn's reply was written
-pub record StepsWithin {K : Type 0} (sink : Ghosts K) (before after : K) (Turns : Turn → Type 0) (number : ℕ) (old : Standing) : Type 0 where
+pub record StepsWithin {K : Type 0} (sink : Ghosts K) (before after : K) (form : Form) (Turns : Turn → Type 0) (number : ℕ) (old : Standing) : Type 0 where
   pub turn : Turn
   pub turns : Turns turn
-  pub some : GetsSome sink before after (text_of old.machine number turn.reply)
+  pub some : GetsSome sink before after (text_of form old.machine number turn.reply)
 
 -- a turn was taken, and nothing of its reply was written
 pub record Passed (Turns : Turn → Type 0) (old new : Standing) : Type 0 where
@@ -90,20 +90,20 @@ abbrev pub LeavesSo : Result Reading TextCode → Standing → Standing → Type
 LeavesSo (Ok reading) old new = LeavesTable reading old new
 LeavesSo (Err code) old new = new.table ≡ old.table
 
--- an edit that the line is and that breaks no rule is made so
-abbrev pub ForgetsLine : List ℕ → Standing → Standing → Type 0
-ForgetsLine line old new = (edit : Edit) → LineOf line (Ok (Changes edit)) → Unbroken old.machine.graph edit → ForgetsEdit edit old new
+-- an edit that a line is which is this, and that breaks no rule, is made so
+abbrev pub ForgetsLine : (Result Reading TextCode → Type 0) → Standing → Standing → Type 0
+ForgetsLine Is old new = (edit : Edit) → Is (Ok (Changes edit)) → Unbroken old.machine.graph edit → ForgetsEdit edit old new
 
--- and what answering the line leaves of the table
-abbrev pub LeavesLine : List ℕ → Standing → Standing → Type 0
-LeavesLine line old new = (what : Result Reading TextCode) → LineOf line what → LeavesSo what old new
+-- and what answering such a line leaves of the table
+abbrev pub LeavesLine : (Result Reading TextCode → Type 0) → Standing → Standing → Type 0
+LeavesLine Is old new = (what : Result Reading TextCode) → Is what → LeavesSo what old new
 
 -- an edit that isn't made leaves the table
 abbrev pub LeavesUnmade : Result Reading TextCode → Standing → Standing → Type 0
 LeavesUnmade what old new = (edit : Edit) → what ≡ Ok (Changes edit) → new.table ≡ old.table
 
-abbrev pub LeavesUnmadeLine : List ℕ → Standing → Standing → Type 0
-LeavesUnmadeLine line old new = (what : Result Reading TextCode) → LineOf line what → LeavesUnmade what old new
+abbrev pub LeavesUnmadeLine : (Result Reading TextCode → Type 0) → Standing → Standing → Type 0
+LeavesUnmadeLine Is old new = (what : Result Reading TextCode) → Is what → LeavesUnmade what old new
 
 -- what answering a line that asks for this leaves of the pins and of their tables
 abbrev pub LeavesPins : Reading → Standing → Standing → Type 0
@@ -117,9 +117,9 @@ abbrev pub LeavesPinsSo : Result Reading TextCode → Standing → Standing → 
 LeavesPinsSo (Ok reading) old new = LeavesPins reading old new
 LeavesPinsSo (Err code) old new = new.pins ≡ old.pins
 
--- and of the line
-abbrev pub LeavesPinsLine : List ℕ → Standing → Standing → Type 0
-LeavesPinsLine line old new = (what : Result Reading TextCode) → LineOf line what → LeavesPinsSo what old new
+-- and of a line that is this
+abbrev pub LeavesPinsLine : (Result Reading TextCode → Type 0) → Standing → Standing → Type 0
+LeavesPinsLine Is old new = (what : Result Reading TextCode) → Is what → LeavesPinsSo what old new
 
 -- what was worked out for the reply is kept
 abbrev pub KeepsReply : Reply → Standing → Type 0
@@ -154,9 +154,9 @@ abbrev pub KeepsAskedSo : Result Reading TextCode → Standing → Standing → 
 KeepsAskedSo (Ok reading) old new = KeepsAsked reading old new
 KeepsAskedSo (Err code) old new = Unit {0}
 
--- and of the line
-abbrev pub KeepsAskedLine : List ℕ → Standing → Standing → Type 0
-KeepsAskedLine line old new = (what : Result Reading TextCode) → LineOf line what → KeepsAskedSo what old new
+-- and of a line that is this
+abbrev pub KeepsAskedLine : (Result Reading TextCode → Type 0) → Standing → Standing → Type 0
+KeepsAskedLine Is old new = (what : Result Reading TextCode) → Is what → KeepsAskedSo what old new
 
 -- the line asks for what is kept, and breaks no rule: to show a watch that is fresh, or for a follow's rows from an object, which are
 -- kept of it
@@ -165,9 +165,9 @@ IsAtHand s (Shows name) = NoneOf (NameBreaks s.machine.graph s.machine.watches n
 IsAtHand s (Nears name id) = (answer : Answered) × NearsKept s name id answer
 IsAtHand s reading = ⊥
 
--- so it is with the line
-abbrev pub IsLineAtHand : Standing → List ℕ → Type 0
-IsLineAtHand s line = (reading : Reading) × LineOf line (Ok reading) × IsAtHand s reading
+-- so it is with a line that is this
+abbrev pub IsLineAtHand : Standing → (Result Reading TextCode → Type 0) → Type 0
+IsLineAtHand s Is = (reading : Reading) × Is (Ok reading) × IsAtHand s reading
 
 -- the line asks to show a watch of which this answer is kept, and breaks no rule
 pub record ShowsNameKept (s : Standing) (name : Word) (answer : Answered) : Type 0 where
@@ -206,9 +206,9 @@ abbrev pub WhatWants : Machine → Result Reading TextCode → Type 0
 WhatWants m (Ok reading) = WantsMemory m reading
 WhatWants m (Err code) = ⊥
 
--- the line asks for what takes memory
-abbrev pub LineWants : Machine → List ℕ → Type 0
-LineWants m line = (reading : Reading) × LineOf line (Ok reading) × WantsMemory m reading
+-- a line that is this asks for what takes memory
+abbrev pub LineWants : Machine → (Result Reading TextCode → Type 0) → Type 0
+LineWants m Is = (reading : Reading) × Is (Ok reading) × WantsMemory m reading
 
 -- the reply is decided: it is that of one of these turns; and where it says something, the session is as it was but for its plans
 pub record IsDecided (Turns : Turn → Type 0) (old new : Standing) (reply : Reply) : Type 0 where

@@ -10,9 +10,10 @@ ghost use Rattle.label_scope.specs.Touching.{Meets};
 ghost use Rattle.label_scope.specs.Agreeing.{Agree};
 ghost use Rattle.itpg_session.specs.MachineLaws.{OneAsked, SomeAsked, DeclaredAsked, OneReply, SomeReply, GoodReply, GoodOpening, FrontReplies};
 
-use edit_reader::{law_of_labels, law_of_lines, law_of_long_lines, law_of_moments};
+use edit_reader::{law_of_labels, law_of_lines, law_of_long_lines, law_of_moments, law_of_names};
 use itpg_edit::{law_of_next, law_of_rules};
 use itpg_graph::Graph;
+use json_port::{law_of_json_lines, law_of_long_json_lines};
 use match_parser::law_of_queries;
 use path_eval::law_of_near_rows;
 use standing_queries::law_of_changes;
@@ -26,7 +27,7 @@ pub fn law_of_asked()
     law_of_queries();
 }
 
-/// From a good machine a line has exactly one turn, which leaves a good machine; and the machine is good at first.
+/// From a good machine a line of either form has exactly one turn, which leaves a good machine; and the machine is good at first.
 pub fn law_of_replies()
     ensures one { OneReply }
     ensures some { SomeReply }
@@ -36,6 +37,8 @@ pub fn law_of_replies()
     law_of_lines();
     law_of_moments();
     law_of_labels();
+    law_of_names();
+    law_of_json_lines();
     law_of_rules();
     law_of_next();
     law_of_queries();
@@ -48,6 +51,7 @@ pub fn law_of_fronts()
     ensures { FrontReplies }
 {
     law_of_long_lines();
+    law_of_long_json_lines();
 }
 
 /// A graph in memory is a good one: its type keeps that.

@@ -5,6 +5,7 @@ ghost use Rattle.itpg_session.specs.Machine.{Machine};
 ghost use Rattle.itpg_session.specs.Ticks.{ticked_of, some_wide};
 ghost use Rattle.itpg_session.specs.Replies.{line_reply};
 ghost use Rattle.relation_rows.specs.Answered.{answered};
+ghost use Rattle.row_printer.specs.declared.form.Form.{Form};
 ghost use Rattle.itpg_session.specs.Texts.{found_text, tick_text, text_of, fails};
 ghost use Rattle.itpg_session.specs.Steps.{Sees};
 
@@ -56,7 +57,7 @@ impl From<Asked> for Reply {
 impl Reply {
     /// What is seen of it.
     pub(crate) fn seen(&self) -> Seen
-        ensures { (m : Machine) (number : ℕ) → Sees result (text_of m number (line_reply self.now)) (fails (line_reply self.now)) }
+        ensures { (form : Form) (m : Machine) (number : ℕ) → Sees result (text_of form m number (line_reply self.now)) (fails (line_reply self.now)) }
     {
         match self {
             Reply::Silent => Seen::Quiet,
@@ -85,7 +86,7 @@ pub enum Seen {
 
 // What is seen of what was found for a watch.
 fn seen_of_found(found: &Option<Answer>) -> Seen
-    ensures { (g : Graph) (number : ℕ) → Sees result (found_text g number (option_map answered found.now)) (is_none (option_map answered found.now)) }
+    ensures { (form : Form) (g : Graph) (number : ℕ) → Sees result (found_text form g number (option_map answered found.now)) (is_none (option_map answered found.now)) }
 {
     match found {
         Some(_) => Seen::Answered,
@@ -95,7 +96,7 @@ fn seen_of_found(found: &Option<Answer>) -> Seen
 
 // What is seen of a tick that found this of all watches.
 fn seen_of(found: &[Ticked]) -> Seen
-    ensures { (g : Graph) → Sees result (tick_text g (map ticked_of found.now)) (some_wide (map ticked_of found.now)) }
+    ensures { (form : Form) (g : Graph) → Sees result (tick_text form g (map ticked_of found.now)) (some_wide (map ticked_of found.now)) }
 {
     if found.is_empty() {
         return Seen::Quiet;

@@ -1,35 +1,39 @@
 //! The session, and what a step of it does with a line.
 //!
-//! `Session` has the graph, the watches, the pins, the follows and the limit of rows. A step decides the reply to its line, and there
-//! makes what the line changes and is accepted; it writes the reply to the sink that it is lent; and it settles what a `show` or a tick
-//! found. Only what is kept, the answer of a fresh watch or the rows of an object, is written at once.
-ghost use Rattle.std.specs.Prelude.{◌≡◌, ◌≢◌, ◌≤◌, [], IfOk, OnOk, OnErr, IsErrOf};
-ghost use Rattle.itpg_base.specs.Sinks.{Gets, GetsSome, GetsNothing, HasFailed, IsHonest};
+//! `Session` has the graph, the watches, the pins, the follows and the limit of rows. A line is read in one of two forms, and what it
+//! is then goes one way.
+ghost use Rattle.std.specs.Prelude.{◌≡◌, ◌≤◌, [], length, IfOk, OnOk, OnErr, IsErrOf, IsFalse};
+ghost use Rattle.std.specs.List.{list_all};
+ghost use Rattle.itpg_base.specs.Sinks.{GetsNothing, HasFailed};
+ghost use Rattle.script_lex.specs.Bytes.{is_blank};
+ghost use Rattle.edit_reader.specs.declared.reading.TheConstants.{MAX_LINE};
+ghost use Rattle.edit_reader.specs.Faults.{without_end};
+ghost use Rattle.edit_reader.specs.Lines.{LineOf};
 ghost use Rattle.relation_rows.specs.Answered.{Answered};
+ghost use Rattle.row_printer.specs.declared.form.Form.TheVariants.{Plain, Json};
 ghost use Rattle.itpg_session.specs.PlainWatches.{all_plain};
 ghost use Rattle.itpg_session.specs.PlainPins.{plain_pins};
 ghost use Rattle.itpg_session.specs.PlainFollows.{plain_follows};
-ghost use Rattle.itpg_session.specs.Replies.{Reply as PlainReply, Silent, Rows, reply_of, line_reply, IsReply, NamesDeclared};
-ghost use Rattle.itpg_session.specs.Texts.{text_of};
-ghost use Rattle.itpg_session.specs.Machine.{opening, Replies, after};
+ghost use Rattle.itpg_session.specs.Replies.{Reply as PlainReply, Rows, reply_of, IsReply, NamesDeclared};
+ghost use Rattle.itpg_session.specs.Lines.{JsonIs};
+ghost use Rattle.itpg_session.specs.Machine.{opening, Replies};
 ghost use Rattle.plan_cache.specs.RightRows.{IsTableRight};
 ghost use Rattle.itpg_session.specs.Keeping.{AddsText, KeepsText, AreWatchesRight, AreFollowsRight};
-ghost use Rattle.itpg_session.specs.Steps.{StandsAs, IsAlike, Stepped, StepsWithin, Passed, LineWants, IsLineAtHand, Suits};
+ghost use Rattle.itpg_session.specs.Steps.{StandsAs, IsAlike, Stepped, StepsWithin, Passed, LineWants, IsLineAtHand};
 ghost use Rattle.itpg_session.specs.Steps.{KeepsFresh, KeepsAskedLine, ForgetsLine, LeavesLine, LeavesPinsLine, LeavesUnmadeLine};
 ghost use Rattle.itpg_session.specs.Following.{LeavesFollowsLine, HoldsFollowsLine, SparesLine, KeepsNearLine};
 
 use crate::asking::Asked;
 use crate::fault::StepFault;
+use crate::json::{asked_by, read_object};
 use crate::laws::law_of_asked;
-use crate::reply::{Reply, Seen};
-use crate::texts::{write_bad, write_counts, write_found, write_refused, write_rows, write_wide};
-use crate::ticking::{move_bases, write_all};
-use edit_reader::read_line;
-use itpg_base::{Failed, Limits, Sink};
+use crate::reply::Seen;
+use edit_reader::{read_line, room};
+use itpg_base::{Limits, Sink};
 use itpg_graph::Graph;
 use itpg_pins::Pins;
 use plan_cache::Plans;
-use relation_rows::Answer;
+use row_printer::Form;
 use source_rows::Follows;
 use standing_queries::Watches;
 use std::alloc::{AllocError, Global};
@@ -187,36 +191,71 @@ impl Session {
     /// `show` of a fresh watch, or a `near` whose rows are kept. `Write` if the sink failed. After either, relations that were worked out
     /// may be kept, query plans may be added, and after `Write` the rows of a `near` may be kept.
     pub fn step<K: Sink>(&mut self, no: u64, line: &[u8], out: &mut K) -> Result<Seen, StepFault>
-        ensures stepped { IfOk result (λ seen. Stepped K.Sink out.old out.new (Replies self.old.limit self.old.machine line.now) no self.old self.new seen) }
+        ensures stepped { IfOk result (λ seen. Stepped K.Sink out.old out.new Plain (Replies self.old.limit self.old.machine (LineOf line.now)) no self.old self.new seen) }
         ensures alike { OnErr result (IsAlike self.old self.new) }
         ensures keeps { OnOk result (KeepsFresh self.old self.new) }
-        ensures asked { OnOk result (KeepsAskedLine line.now self.old self.new) }
-        ensures forgets { OnOk result (ForgetsLine line.now self.old self.new) }
-        ensures table { LeavesLine line.now self.old self.new }
-        ensures pins { LeavesPinsLine line.now self.old self.new }
-        ensures follows { LeavesFollowsLine line.now self.old self.new }
-        ensures spares { OnOk result (SparesLine line.now self.old self.new) }
-        ensures near { OnOk result (KeepsNearLine line.now self.old self.new) }
-        ensures holds { OnErr result (HoldsFollowsLine line.now self.old self.new) }
+        ensures asked { OnOk result (KeepsAskedLine (LineOf line.now) self.old self.new) }
+        ensures forgets { OnOk result (ForgetsLine (LineOf line.now) self.old self.new) }
+        ensures table { LeavesLine (LineOf line.now) self.old self.new }
+        ensures pins { LeavesPinsLine (LineOf line.now) self.old self.new }
+        ensures follows { LeavesFollowsLine (LineOf line.now) self.old self.new }
+        ensures spares { OnOk result (SparesLine (LineOf line.now) self.old self.new) }
+        ensures near { OnOk result (KeepsNearLine (LineOf line.now) self.old self.new) }
+        ensures holds { OnErr result (HoldsFollowsLine (LineOf line.now) self.old self.new) }
         ensures unkept { IsErrOf result StepFault.Memory → self.new.follows ≡ self.old.follows }
-        ensures at_hand { IsErrOf result StepFault.Memory → ¬ IsLineAtHand self.old line.now }
-        ensures unmade { OnErr result (LeavesUnmadeLine line.now self.old self.new) }
+        ensures at_hand { IsErrOf result StepFault.Memory → ¬ IsLineAtHand self.old (LineOf line.now) }
+        ensures unmade { OnErr result (LeavesUnmadeLine (LineOf line.now) self.old self.new) }
         ensures memory { IsErrOf result StepFault.Memory → GetsNothing K.Sink out.old out.new }
-        ensures wanting { IsErrOf result StepFault.Memory → LineWants self.old.machine line.now }
+        ensures wanting { IsErrOf result StepFault.Memory → LineWants self.old.machine (LineOf line.now) }
         ensures write { IsErrOf result StepFault.Write → HasFailed K.Sink out.old out.new }
-        ensures some { IsErrOf result StepFault.Write → StepsWithin K.Sink out.old out.new (Replies self.old.limit self.old.machine line.now) no self.old }
+        ensures some { IsErrOf result StepFault.Write → StepsWithin K.Sink out.old out.new Plain (Replies self.old.limit self.old.machine (LineOf line.now)) no self.old }
         ensures later { K.faults out.old ≤ K.faults out.new }
     {
-        let what = &read_line(line);
-        if let Some(answer) = self.kept_answer(what) {
-            write_rows(&self.graph, no, answer, out)?;
-            return Ok(Seen::Answered);
-        }
-        let reply = self.decide(what)?;
-        self.write(no, &reply, out)?;
-        let seen = reply.seen();
-        self.settle(reply);
-        Ok(seen)
+        let mut room = room();
+        self.step_read(Form::Plain, no, &read_line(line, &mut room), out)
+    }
+
+    /// Takes a line of JSON as `step` takes a plain line, and writes its reply as lines of JSON. The machine is the same one.
+    ///
+    /// ```text
+    ///     line 1   {"op":"graph","name":"g","lo":0,"hi":100}     nothing is written
+    ///     line 2   {"op":"live","id":"b","from":0,"to":9}        {"line":2,"refused":"unknown"}
+    ///     line 3   {"op":"text","line":"ask MATCH (x)"}          {"line":3,"rows":0}
+    /// ```
+    ///
+    /// # Errors
+    ///
+    /// `Memory` if memory runs out, which any line may want that is neither blank nor too long, since it is read into values. `Write` if
+    /// the sink failed. After either, the session is as it is after `step`.
+    pub fn step_json<K: Sink>(
+        &mut self,
+        no: u64,
+        line: &[u8],
+        out: &mut K,
+    ) -> Result<Seen, StepFault>
+        ensures stepped { IfOk result (λ seen. Stepped K.Sink out.old out.new Json (Replies self.old.limit self.old.machine (JsonIs line.now)) no self.old self.new seen) }
+        ensures alike { OnErr result (IsAlike self.old self.new) }
+        ensures keeps { OnOk result (KeepsFresh self.old self.new) }
+        ensures asked { OnOk result (KeepsAskedLine (JsonIs line.now) self.old self.new) }
+        ensures forgets { OnOk result (ForgetsLine (JsonIs line.now) self.old self.new) }
+        ensures table { LeavesLine (JsonIs line.now) self.old self.new }
+        ensures pins { LeavesPinsLine (JsonIs line.now) self.old self.new }
+        ensures follows { LeavesFollowsLine (JsonIs line.now) self.old self.new }
+        ensures spares { OnOk result (SparesLine (JsonIs line.now) self.old self.new) }
+        ensures near { OnOk result (KeepsNearLine (JsonIs line.now) self.old self.new) }
+        ensures holds { OnErr result (HoldsFollowsLine (JsonIs line.now) self.old self.new) }
+        ensures unkept { IsErrOf result StepFault.Memory → self.new.follows ≡ self.old.follows }
+        ensures unmade { OnErr result (LeavesUnmadeLine (JsonIs line.now) self.old self.new) }
+        ensures memory { IsErrOf result StepFault.Memory → GetsNothing K.Sink out.old out.new }
+        ensures blank { IsErrOf result StepFault.Memory → IsFalse (list_all is_blank (without_end line.now)) }
+        ensures fits { IsErrOf result StepFault.Memory → length (without_end line.now) ≤ MAX_LINE }
+        ensures write { IsErrOf result StepFault.Write → HasFailed K.Sink out.old out.new }
+        ensures some { IsErrOf result StepFault.Write → StepsWithin K.Sink out.old out.new Json (Replies self.old.limit self.old.machine (JsonIs line.now)) no self.old }
+        ensures later { K.faults out.old ≤ K.faults out.new }
+    {
+        let json = read_object(self.alloc, line)?;
+        let mut room = room();
+        self.step_read(Form::Json, no, &asked_by(&json, &mut room), out)
     }
 
     /// Takes a line as `step` does, and writes nothing.
@@ -225,71 +264,27 @@ impl Session {
     ///
     /// If memory runs out, and only if `step` could give `Memory`.
     pub fn pass(&mut self, line: &[u8]) -> Result<(), AllocError>
-        ensures passed { OnOk result (Passed (Replies self.old.limit self.old.machine line.now) self.old self.new) }
+        ensures passed { OnOk result (Passed (Replies self.old.limit self.old.machine (LineOf line.now)) self.old self.new) }
         ensures alike { OnErr result (IsAlike self.old self.new) }
         ensures keeps { OnOk result (KeepsFresh self.old self.new) }
-        ensures asked { OnOk result (KeepsAskedLine line.now self.old self.new) }
-        ensures forgets { OnOk result (ForgetsLine line.now self.old self.new) }
-        ensures table { LeavesLine line.now self.old self.new }
-        ensures pins { LeavesPinsLine line.now self.old self.new }
-        ensures follows { LeavesFollowsLine line.now self.old self.new }
-        ensures spares { OnOk result (SparesLine line.now self.old self.new) }
-        ensures near { OnOk result (KeepsNearLine line.now self.old self.new) }
+        ensures asked { OnOk result (KeepsAskedLine (LineOf line.now) self.old self.new) }
+        ensures forgets { OnOk result (ForgetsLine (LineOf line.now) self.old self.new) }
+        ensures table { LeavesLine (LineOf line.now) self.old self.new }
+        ensures pins { LeavesPinsLine (LineOf line.now) self.old self.new }
+        ensures follows { LeavesFollowsLine (LineOf line.now) self.old self.new }
+        ensures spares { OnOk result (SparesLine (LineOf line.now) self.old self.new) }
+        ensures near { OnOk result (KeepsNearLine (LineOf line.now) self.old self.new) }
         ensures unkept { OnErr result (self.new.follows ≡ self.old.follows) }
-        ensures at_hand { OnErr result (¬ IsLineAtHand self.old line.now) }
-        ensures wanting { OnErr result (LineWants self.old.machine line.now) }
+        ensures at_hand { OnErr result (¬ IsLineAtHand self.old (LineOf line.now)) }
+        ensures wanting { OnErr result (LineWants self.old.machine (LineOf line.now)) }
     {
-        let what = &read_line(line);
+        let mut room = room();
+        let what = &read_line(line, &mut room);
         if self.kept_answer(what).is_some() {
             return Ok(());
         }
         let unsaid = self.decide(what)?;
         self.settle(unsaid);
         Ok(())
-    }
-
-    // Writes the reply to the line of a number.
-    fn write<K: Sink>(&self, number: u64, reply: &Reply, out: &mut K) -> Result<(), Failed>
-        requires { Suits self.now (line_reply reply.now) }
-        ensures written { OnOk result (Gets K.Sink out.old out.new (text_of self.now.machine number (line_reply reply.now))) }
-        ensures some { OnErr result (GetsSome K.Sink out.old out.new (text_of self.now.machine number (line_reply reply.now))) }
-        ensures cause { IsHonest K.Sink out.old out.new result }
-        ensures says { OnErr result (line_reply reply.now ≢ Silent) }
-    {
-        match reply {
-            Reply::Silent => Ok(()),
-            Reply::Bad(code) => write_bad(number, *code, out),
-            Reply::Refused(rule) => write_refused(number, *rule, out),
-            Reply::Wide => write_wide(number, out),
-            Reply::Rows(answer) => write_rows(&self.graph, number, answer, out),
-            Reply::Counted(counts) => write_counts(number, counts, out),
-            Reply::Shown(_, found) => write_found(&self.graph, number, found, out),
-            Reply::OfPin(place, answer) => {
-                write_rows(self.pins.graph(*place), number, answer, out)
-            }
-            Reply::PerWatch(found) => write_all(&self.graph, found, out),
-        }
-    }
-
-    // Keeps what was found for a watch that is shown, or moves the bases to what a tick found. No other reply moves anything.
-    fn settle(&mut self, reply: Reply)
-        requires { Suits self.old (line_reply reply) }
-        ensures stands { StandsAs self.new (after self.old.machine (line_reply reply)) self.old.limit }
-        ensures table { self.new.table ≡ self.old.table }
-        ensures pins { self.new.pins ≡ self.old.pins }
-        ensures follows { self.new.follows ≡ self.old.follows }
-    {
-        match reply {
-            Reply::Shown(place, Some(answer)) => self.watches.set_now(place, answer),
-            Reply::Shown(place, None) => self.watches.drop_now(place),
-            Reply::PerWatch(found) => move_bases(&mut self.watches, found),
-            Reply::Silent
-            | Reply::Bad(_)
-            | Reply::Refused(_)
-            | Reply::Wide
-            | Reply::Rows(_)
-            | Reply::Counted(_)
-            | Reply::OfPin(_, _) => {}
-        }
     }
 }

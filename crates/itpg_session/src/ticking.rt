@@ -5,23 +5,22 @@ ghost use Rattle.itpg_base.specs.Graphs.{changed_at};
 ghost use Rattle.standing_queries.specs.Watches.{IsOfKind};
 ghost use Rattle.itpg_base.specs.Sinks.{Gets, GetsSome, IsHonest};
 ghost use Rattle.relation_rows.specs.Answered.{answered};
-ghost use Rattle.row_printer.specs.Texts.{AreDeclared};
 ghost use Rattle.itpg_session.specs.Questions.{IsTooWide, HasAnswer};
 ghost use Rattle.itpg_session.specs.PlainWatches.{plain, all_plain};
 ghost use Rattle.plan_cache.specs.RightRows.{IsTableRight};
 ghost use Rattle.itpg_session.specs.Keeping.{IsKeptRight, IsWorkedFor, IsStale, KeepsPath, KeepsTicked, KeepAllTicked};
 ghost use Rattle.itpg_session.specs.Ticks.{ticked_of, IsTicked, AreTicked, IsUnmoved, stays_wide, settled_at, all_settled};
-ghost use Rattle.itpg_session.specs.Texts.{changes_text, ticked_text, tick_text};
+ghost use Rattle.itpg_session.specs.Texts.{ticked_text, tick_text};
 ghost use Rattle.itpg_session.specs.Watching.{IsTickDeclared, AreTicksDeclared, IsMoveOfKind, AreMovesOfKind};
 
 use crate::finding::find;
-use crate::texts::{tick_head, tick_wide};
 use itpg_base::{Failed, Name, Sink};
 use itpg_graph::Graph;
 use path_eval::EvalFault;
 use plan_cache::Plans;
 use relation_rows::Answer;
-use row_printer::print_rows;
+use reply_text::{write_changes, write_tick_wide};
+use row_printer::Form;
 use standing_queries::{GainLoss, Watches, changes, no_changes};
 use std::alloc::{AllocError, Global};
 use std::marker::Model;
@@ -174,54 +173,36 @@ fn answer_now(
 }
 
 /// Writes what was found of each watch, in order.
-pub(crate) fn write_all<K: Sink>(graph: &Graph, found: &[Ticked], out: &mut K) -> Result<(), Failed>
+pub(crate) fn write_all<K: Sink>(
+    form: Form,
+    graph: &Graph,
+    found: &[Ticked],
+    out: &mut K,
+) -> Result<(), Failed>
     requires { AreTicksDeclared graph.now (map ticked_of found.now) }
-    ensures written { OnOk result (Gets K.Sink out.old out.new (tick_text graph.now (map ticked_of found.now))) }
-    ensures some { OnErr result (GetsSome K.Sink out.old out.new (tick_text graph.now (map ticked_of found.now))) }
+    ensures written { OnOk result (Gets K.Sink out.old out.new (tick_text form graph.now (map ticked_of found.now))) }
+    ensures some { OnErr result (GetsSome K.Sink out.old out.new (tick_text form graph.now (map ticked_of found.now))) }
     ensures cause { IsHonest K.Sink out.old out.new result }
 {
     for one in found {
-        write_one(graph, one, out)?;
+        write_one(form, graph, one, out)?;
     }
     Ok(())
 }
 
 // Writes what was found of a watch.
-fn write_one<K: Sink>(graph: &Graph, found: &Ticked, out: &mut K) -> Result<(), Failed>
+fn write_one<K: Sink>(form: Form, graph: &Graph, found: &Ticked, out: &mut K) -> Result<(), Failed>
     requires { IsTickDeclared graph.now (ticked_of found.now) }
-    ensures written { OnOk result (Gets K.Sink out.old out.new (ticked_text graph.now (ticked_of found.now))) }
-    ensures some { OnErr result (GetsSome K.Sink out.old out.new (ticked_text graph.now (ticked_of found.now))) }
+    ensures written { OnOk result (Gets K.Sink out.old out.new (ticked_text form graph.now (ticked_of found.now))) }
+    ensures some { OnErr result (GetsSome K.Sink out.old out.new (ticked_text form graph.now (ticked_of found.now))) }
     ensures cause { IsHonest K.Sink out.old out.new result }
 {
     match found {
-        Ticked::StaysWide { name } => {
-            tick_wide(name).write(out)?;
-            Ok(())
-        }
+        Ticked::StaysWide { name } => write_tick_wide(form, name, out),
         Ticked::Moves { name, changes, .. } => {
-            write_changes(graph, name, changes, out)?;
-            Ok(())
+            write_changes(form, graph, name, &changes.gained, &changes.lost, out)
         }
     }
-}
-
-// Writes what the watch of this name gained and lost.
-fn write_changes<K: Sink>(
-    graph: &Graph,
-    name: &Name,
-    changes: &GainLoss,
-    out: &mut K,
-) -> Result<(), Failed>
-    requires gained { AreDeclared (length graph.now.objects) (answered changes.now.gained) }
-    requires lost { AreDeclared (length graph.now.objects) (answered changes.now.lost) }
-    ensures written { OnOk result (Gets K.Sink out.old out.new (changes_text graph.now name.now (answered changes.now.gained) (answered changes.now.lost))) }
-    ensures some { OnErr result (GetsSome K.Sink out.old out.new (changes_text graph.now name.now (answered changes.now.gained) (answered changes.now.lost))) }
-    ensures cause { IsHonest K.Sink out.old out.new result }
-{
-    tick_head(name, changes.gained.rows(), changes.lost.rows()).write(out)?;
-    print_rows(graph, &changes.gained, b"+ ", out)?;
-    print_rows(graph, &changes.lost, b"- ", out)?;
-    Ok(())
 }
 
 /// Whether some watch is too wide.

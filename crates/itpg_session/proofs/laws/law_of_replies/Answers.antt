@@ -6,10 +6,18 @@ use Rattle.itpg_session.proofs.laws.law_of_replies.Goals as goal
 
 pub returns-clause-one : goal.returns-clause-one
 returns-clause-one c = one_reply (record {
-  some_line = c.law_of_lines.ensures.some;
-  one_line = c.law_of_lines.ensures.one;
-  moments = c.law_of_moments.ensures;
-  labels = c.law_of_labels.ensures;
+  lines = record {
+    some = c.law_of_lines.ensures.some;
+    one = c.law_of_lines.ensures.one;
+    moments = c.law_of_moments.ensures;
+    labels = c.law_of_labels.ensures;
+    words = c.law_of_names.ensures;
+    some_json = c.law_of_json_lines.ensures.some;
+    one_json = c.law_of_json_lines.ensures.one;
+    json_moments = c.law_of_json_lines.ensures.moments;
+    json_labels = c.law_of_json_lines.ensures.labels;
+    json_words = c.law_of_json_lines.ensures.words;
+  };
   rules = c.law_of_rules.ensures.some;
   good_next = c.law_of_next.ensures.good;
   one_next = c.law_of_next.ensures.one;
@@ -30,10 +38,18 @@ returns-clause-one c = one_reply (record {
 
 pub returns-clause-some : goal.returns-clause-some
 returns-clause-some c = some_reply (record {
-  some_line = c.law_of_lines.ensures.some;
-  one_line = c.law_of_lines.ensures.one;
-  moments = c.law_of_moments.ensures;
-  labels = c.law_of_labels.ensures;
+  lines = record {
+    some = c.law_of_lines.ensures.some;
+    one = c.law_of_lines.ensures.one;
+    moments = c.law_of_moments.ensures;
+    labels = c.law_of_labels.ensures;
+    words = c.law_of_names.ensures;
+    some_json = c.law_of_json_lines.ensures.some;
+    one_json = c.law_of_json_lines.ensures.one;
+    json_moments = c.law_of_json_lines.ensures.moments;
+    json_labels = c.law_of_json_lines.ensures.labels;
+    json_words = c.law_of_json_lines.ensures.words;
+  };
   rules = c.law_of_rules.ensures.some;
   good_next = c.law_of_next.ensures.good;
   one_next = c.law_of_next.ensures.one;
@@ -54,10 +70,18 @@ returns-clause-some c = some_reply (record {
 
 pub returns-clause-good : goal.returns-clause-good
 returns-clause-good c = good_reply (record {
-  some_line = c.law_of_lines.ensures.some;
-  one_line = c.law_of_lines.ensures.one;
-  moments = c.law_of_moments.ensures;
-  labels = c.law_of_labels.ensures;
+  lines = record {
+    some = c.law_of_lines.ensures.some;
+    one = c.law_of_lines.ensures.one;
+    moments = c.law_of_moments.ensures;
+    labels = c.law_of_labels.ensures;
+    words = c.law_of_names.ensures;
+    some_json = c.law_of_json_lines.ensures.some;
+    one_json = c.law_of_json_lines.ensures.one;
+    json_moments = c.law_of_json_lines.ensures.moments;
+    json_labels = c.law_of_json_lines.ensures.labels;
+    json_words = c.law_of_json_lines.ensures.words;
+  };
   rules = c.law_of_rules.ensures.some;
   good_next = c.law_of_next.ensures.good;
   one_next = c.law_of_next.ensures.one;
@@ -77,4 +101,4 @@ returns-clause-good c = good_reply (record {
 })
 
 pub returns-clause-opening : goal.returns-clause-opening
-returns-clause-opening c = record { graph = good_none; differ = tt; asks = λ w a. absurd a; kinds = λ w a. absurd a; pins = tt; follows = tt }
+returns-clause-opening c = record { graph = good_none; differ = tt; asks = λ w a. absurd a; kinds = λ w a. absurd a; pins = tt; follows = tt; words = record { objects = λ x a. absurd a; watches = λ w a. absurd a; pins = λ p a. absurd a; follows = λ f a. absurd a } }

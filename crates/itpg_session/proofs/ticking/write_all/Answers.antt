@@ -18,18 +18,18 @@ pub returns-in_err-write_one-clause-some : goal.returns-in_err-write_one-clause-
 returns-in_err-write_one-clause-some g c =
     let at : slice_get (map ticked_of c.args.found.now) c.loop-one.one-index ≡ Some (ticked_of c.one-item.result) =
     map_at ticked_of c.args.found.now c.loop-one.one-index _ c.loop-one-test.true ∙ ap (λ x. Some (ticked_of x)) (sym c.one-item.is) in
-    let split = text_split c.args.graph.now (map ticked_of c.args.found.now) c.loop-one.one-index (ticked_of c.one-item.result) at in
+    let split = text_split c.args.form c.args.graph.now (map ticked_of c.args.found.now) c.loop-one.one-index (ticked_of c.one-item.result) at in
     on_err _ _ (subst (GetsSome g.K.Sink c.args.out.now c.write_one.new.out) (sym split)
-    (some_second _ _ _ _ _ c.loop-one.invariant.written (some_first _ _ _ (tick_text c.args.graph.now (drop (suc c.loop-one.one-index) (map ticked_of c.args.found.now))) c.in_err-write_one.ensures.some)))
+    (some_second _ _ _ _ _ c.loop-one.invariant.written (some_first _ _ _ (tick_text c.args.form c.args.graph.now (drop (suc c.loop-one.one-index) (map ticked_of c.args.found.now))) c.in_err-write_one.ensures.some)))
 
 pub loop-one-preserved : goal.loop-one-preserved
 loop-one-preserved g c =
     let at : slice_get (map ticked_of c.args.found.now) c.loop-one.one-index ≡ Some (ticked_of c.one-item.result) =
     map_at ticked_of c.args.found.now c.loop-one.one-index _ c.loop-one-test.true ∙ ap (λ x. Some (ticked_of x)) (sym c.one-item.is) in
-    let more = text_more c.args.graph.now (map ticked_of c.args.found.now) c.loop-one.one-index (ticked_of c.one-item.result) at in
+    let more = text_more c.args.form c.args.graph.now (map ticked_of c.args.found.now) c.loop-one.one-index (ticked_of c.one-item.result) at in
     let next : suc c.loop-one.one-index ≡ c.loop-one.one-index + 1 = omega arith in
     record {
-      written = subst (λ k. Gets g.K.Sink c.args.out.now c.write_one.new.out (tick_text c.args.graph.now (take k (map ticked_of c.args.found.now)))) next
+      written = subst (λ k. Gets g.K.Sink c.args.out.now c.write_one.new.out (tick_text c.args.form c.args.graph.now (take k (map ticked_of c.args.found.now)))) next
           (subst (Gets g.K.Sink c.args.out.now c.write_one.new.out) (sym more) (Appends-trans _ _ _ _ _ c.loop-one.invariant.written c.in_ok-write_one.ensures.written));
       later = omega (arith, c.write_one.ensures.cause.later, c.loop-one.invariant.later);
     }

@@ -36,9 +36,9 @@ returns-in_ok-ask-in-Ask-clause-decides c =
 
 pub returns-in-Edit-clause-forgets : goal.returns-in-Edit-clause-forgets
 returns-in-Edit-clause-forgets c =
-    on_ok (λ (made : Unbroken c.args.self.now.machine.graph c.in-Edit.edit → ForgetsEdit c.in-Edit.edit c.args.self.now c.edit.new.self). λ edit is unbroken.
-    let read : Changes c.in-Edit.edit ≡ Changes edit = subst (λ l. reading_of l ≡ Changes edit) c.in-Edit.is is in
-    let same : c.in-Edit.edit ≡ edit = cc in
+    on_ok (λ (made : Unbroken c.args.self.now.machine.graph c.in-Edit.edit.now → ForgetsEdit c.in-Edit.edit.now c.args.self.now c.edit.new.self). λ edit is unbroken.
+    let read : Changes c.in-Edit.edit.now ≡ Changes edit = subst (λ l. reading_of l ≡ Changes edit) c.in-Edit.is is in
+    let same : c.in-Edit.edit.now ≡ edit = cc in
     subst (λ (e : Edit). ForgetsEdit e c.args.self.now c.edit.new.self) same (made (subst (Unbroken c.args.self.now.machine.graph) (sym same) unbroken))) c.edit.result c.edit.ensures.forgets
 
 pub returns-in-Edit-clause-table : goal.returns-in-Edit-clause-table
@@ -66,7 +66,7 @@ pub returns-in_err-ask-in-Ask-clause-table : goal.returns-in_err-ask-in-Ask-clau
 returns-in_err-ask-in-Ask-clause-table c = rw (c.in-Ask.is) c.ask.ensures.adds
 
 pub returns-in-Edit-clause-keeps : goal.returns-in-Edit-clause-keeps
-returns-in-Edit-clause-keeps c = decided_keeps _ (Changes c.in-Edit.edit) tt c.args.self.now c.edit.new.self c.edit.result c.edit.ensures.decides
+returns-in-Edit-clause-keeps c = decided_keeps _ (Changes c.in-Edit.edit.now) tt c.args.self.now c.edit.new.self c.edit.result c.edit.ensures.decides
 
 pub returns-in-Watch-clause-keeps : goal.returns-in-Watch-clause-keeps
 returns-in-Watch-clause-keeps c =
