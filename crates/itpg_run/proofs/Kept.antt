@@ -4,6 +4,7 @@ use Rattle.std.proofs.lemmas.List.{take_min}
 use Rattle.std.proofs.Math.Seq.{take-append-add}
 use Rattle.itpg_base.specs.declared.outside.Sink.{Ghosts}
 use Rattle.itpg_session.specs.Machine.{Standing, Turn, Replies}
+use Rattle.itpg_session.specs.Lines.{LineIs}
 use Rattle.itpg_session.specs.MachineLaws.{FrontReplies}
 use Rattle.itpg_session.specs.Steps.{Stepped, StepsWithin}
 use Rattle.itpg_session.specs.declared.reply.Seen.{Seen}
@@ -43,17 +44,17 @@ pub keeps : (xs ys : List ℕ) (n : ℕ) → length xs ≤ 65538 → n ≡ min (
 keeps xs ys n h e = subst (λ m. xs ++ take n ys ≡ take m (xs ++ ys)) (sym kept_is) (keeps_front 65538 xs ys n h e)
 
 -- a turn of what is kept gives each line with this front its output
-replies_to : FrontReplies → (r : Reader) (front : List ℕ) → front ≡ r.line.items → (turn : Turn) → Replies r.session.limit r.session.machine front turn → RepliesTo r (written r.session.machine r.number turn)
+replies_to : FrontReplies → (r : Reader) (front : List ℕ) → front ≡ r.line.items → (turn : Turn) → Replies r.session.limit r.session.machine (LineIs r.form front) turn → RepliesTo r (written r.form r.session.machine r.number turn)
 replies_to fronts r front is turn a = λ line e.
     record {
       turn = turn;
-      replies = (fronts r.session.limit r.session.machine line kept turn (omega (arith, kept_is))).0 (subst (λ f. Replies r.session.limit r.session.machine f turn) (is ∙ e) a);
+      replies = (fronts r.session.limit r.session.machine r.form line kept turn (omega (arith, kept_is))).0 (subst (λ f. Replies r.session.limit r.session.machine (LineIs r.form f) turn) (is ∙ e) a);
       is = refl;
     }
 
 module _ {K : Type 0} (sink : Ghosts K) (before after : K) (fronts : FrontReplies) (r : Reader) (front : List ℕ) (is : front ≡ r.line.items) where
-  pub stepped_to : (new : Standing) (seen : Seen) → Stepped sink before after (Replies r.session.limit r.session.machine front) r.number r.session new seen → AnswersLine (sink.held before) (sink.held after) r new seen
-  stepped_to new seen s = record { output = written r.session.machine r.number s.turn; replies = replies_to fronts r front is s.turn s.turns; written = s.written; next = s.next; sees = s.sees }
+  pub stepped_to : (new : Standing) (seen : Seen) → Stepped sink before after r.form (Replies r.session.limit r.session.machine (LineIs r.form front)) r.number r.session new seen → AnswersLine (sink.held before) (sink.held after) r new seen
+  stepped_to new seen s = record { output = written r.form r.session.machine r.number s.turn; replies = replies_to fronts r front is s.turn s.turns; written = s.written; next = s.next; sees = s.sees }
 
-  pub within_to : StepsWithin sink before after (Replies r.session.limit r.session.machine front) r.number r.session → AnswersWithin (sink.held before) (sink.held after) r
-  within_to s = record { output = written r.session.machine r.number s.turn; replies = replies_to fronts r front is s.turn s.turns; some = s.some }
+  pub within_to : StepsWithin sink before after r.form (Replies r.session.limit r.session.machine (LineIs r.form front)) r.number r.session → AnswersWithin (sink.held before) (sink.held after) r
+  within_to s = record { output = written r.form r.session.machine r.number s.turn; replies = replies_to fronts r front is s.turn s.turns; some = s.some }

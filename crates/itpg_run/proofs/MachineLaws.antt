@@ -2,7 +2,7 @@
 use Rattle.std.proofs.Common.{◌≡◌, ℕ, List, refl, sym, ap, ◌∙◌, subst}
 use Rattle.itpg_session.specs.Machine.{Machine, IsGood}
 use Rattle.itpg_session.specs.MachineLaws.{OneReply, SomeReply, GoodReply, GoodOpening}
-use Rattle.itpg_run.specs.Out.{Output, written, LineOut}
+use Rattle.itpg_run.specs.Out.{Mode, Output, written, LineOut}
 
 pub record Laws : Type 0 where
   pub one : OneReply
@@ -10,12 +10,12 @@ pub record Laws : Type 0 where
   pub good : GoodReply
   pub opening : GoodOpening
 
-module _ (laws : Laws) (limit : ℕ) (m : Machine) (number : ℕ) (line : List ℕ) (good : IsGood m) where
-  pub one_line : (x y : Output) → LineOut limit m number line x → LineOut limit m number line y → x ≡ y
-  one_line x y a b = a.is ∙ ap (written m number) (laws.one limit m line a.turn b.turn good a.replies b.replies) ∙ sym b.is
+module _ (laws : Laws) (mode : Mode) (m : Machine) (number : ℕ) (line : List ℕ) (good : IsGood m) where
+  pub one_line : (x y : Output) → LineOut mode m number line x → LineOut mode m number line y → x ≡ y
+  one_line x y a b = a.is ∙ ap (written mode.form m number) (laws.one mode.limit m mode.form line a.turn b.turn good a.replies b.replies) ∙ sym b.is
 
-  pub some_line : (o : Output) × LineOut limit m number line o
-  some_line = let t = laws.some limit m line good in (written m number t.0, record { turn = t.0; replies = t.1; is = refl })
+  pub some_line : (o : Output) × LineOut mode m number line o
+  some_line = let t = laws.some mode.limit m mode.form line good in (written mode.form m number t.0, record { turn = t.0; replies = t.1; is = refl })
 
-  pub good_line : (o : Output) → LineOut limit m number line o → IsGood o.next
-  good_line o a = subst (λ (x : Output). IsGood x.next) (sym a.is) (laws.good limit m line a.turn good a.replies)
+  pub good_line : (o : Output) → LineOut mode m number line o → IsGood o.next
+  good_line o a = subst (λ (x : Output). IsGood x.next) (sym a.is) (laws.good mode.limit m mode.form line a.turn good a.replies)

@@ -37,10 +37,10 @@ parts (b ∷ bytes) = by_test (nat_eq b 10) refl (parts bytes)
     by_test false e p = before b bytes e p
 
 pub one_output : Laws → OneOutput
-one_output laws limit bytes x y r s = one_run laws limit opening 1 (lines bytes) x y laws.opening r s
+one_output laws mode bytes x y r s = one_run laws mode opening 1 (lines bytes) x y laws.opening r s
 
 pub some_output : Laws → SomeOutput
-some_output laws limit bytes = some_run laws limit opening 1 (lines bytes) laws.opening
+some_output laws mode bytes = some_run laws mode opening 1 (lines bytes) laws.opening
 
 -- the lines of the whole lines of a front part begin the lines of all
 pub lines_front : (front rest : List ℕ) → (more : List (List ℕ)) × (lines (whole front) ++ more ≡ lines (front ++ rest))
@@ -52,13 +52,13 @@ lines_front front rest =
     (lines (p.rest ++ rest), ap (λ t. t ++ lines (p.rest ++ rest)) fronts ∙ sym all)
 
 pub output_begins : OutputBegins
-output_begins limit front rest y s =
+output_begins mode front rest y s =
     let l = lines_front front rest in
-    let p = runs-part limit opening 1 (lines (whole front)) l.0 y (subst (λ ls. Runs limit opening 1 ls y) (sym l.1) s) in
+    let p = runs-part mode opening 1 (lines (whole front)) l.0 y (subst (λ ls. Runs mode opening 1 ls y) (sym l.1) s) in
     (p.front, p.runs, (p.rest.text, sym (ap (λ u. u.text) p.is)))
 
 pub output_grows : Laws → OutputGrows
-output_grows laws limit front rest x y r s =
-    let b = output_begins limit front rest y s in
-    let same : x ≡ b.0 = one_output laws limit (whole front) x b.0 r b.1 in
+output_grows laws mode front rest x y r s =
+    let b = output_begins mode front rest y s in
+    let same : x ≡ b.0 = one_output laws mode (whole front) x b.0 r b.1 in
     (b.2.0, ap (λ u. u.text ++ b.2.0) same ∙ b.2.1)

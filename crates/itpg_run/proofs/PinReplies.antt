@@ -16,10 +16,12 @@ use Rattle.itpg_session.specs.Rules.{PinBreaks, name_rules}
 use Rattle.itpg_session.specs.Replies.{Reply, Silent, Bad, Refused, Wide, Rows, Counted, Shown, OfPin, PerWatch, IsReply, IsReplyTo, of_pin}
 use Rattle.itpg_session.specs.Machine.{Machine, IsGood, Turn, Answers, TurnOf, AsksPin, AsksPinText, told}
 use Rattle.itpg_session.specs.MachineLaws.{OneAsked}
-use Rattle.itpg_session.specs.Texts.{text_of, pin_rows_text, head_text, fails}
+use Rattle.row_printer.specs.declared.form.Form.{Form}
+use Rattle.reply_text.specs.Texts.{head_text}
+use Rattle.itpg_session.specs.Texts.{text_of, pin_rows_text, fails}
 use Rattle.relation_rows.specs.Answered.{row_number}
 use Rattle.itpg_session.proofs.Replying.{of_read}
-use Rattle.itpg_run.specs.Out.{Output, LineOut, written}
+use Rattle.itpg_run.specs.Out.{plain, Output, LineOut, written}
 use Rattle.itpg_run.proofs.PinStays.{Holds}
 
 -- the pin at a place is the one of its name
@@ -41,16 +43,16 @@ bare g = record { graph = g; watches = []; pins = []; follows = [] }
 
 -- what is written is the text of this reply on the graph, at the line of a number
 record TextIs (g : Graph) (number : ℕ) (reply : Reply) (o : Output) : Type 0 where
-  text : o.text ≡ text_of (bare g) number reply
+  text : o.text ≡ text_of Form.Plain (bare g) number reply
   failing : o.failing ≡ fails reply
 
 -- of a pin the text is that on its graph
-pin_text : (m : Machine) (number place : ℕ) (p : Pin) (limit : ℕ) (q : QueryTerm) (reply : Reply) → slice_get m.pins place ≡ Some p → IsReplyTo p.graph limit q reply → TextIs p.graph number reply (written m number (told m (of_pin place reply)))
+pin_text : (m : Machine) (number place : ℕ) (p : Pin) (limit : ℕ) (q : QueryTerm) (reply : Reply) → slice_get m.pins place ≡ Some p → IsReplyTo p.graph limit q reply → TextIs p.graph number reply (written Form.Plain m number (told m (of_pin place reply)))
 pin_text m number place p limit q Silent at a = record { text = refl; failing = refl }
 pin_text m number place p limit q (Bad code) at a = record { text = refl; failing = refl }
 pin_text m number place p limit q (Refused rule) at a = record { text = refl; failing = refl }
 pin_text m number place p limit q Wide at a = record { text = refl; failing = refl }
-pin_text m number place p limit q (Rows answer) at a = record { text = ap (λ (o : Option Pin). head_text number (row_number answer) ++ pin_rows_text o answer) at; failing = refl }
+pin_text m number place p limit q (Rows answer) at a = record { text = ap (λ (o : Option Pin). head_text Form.Plain number (row_number answer) ++ pin_rows_text Form.Plain o answer) at; failing = refl }
 pin_text m number place p limit q (Counted counts) at a = record { text = refl; failing = refl }
 pin_text m number place p limit q (Shown i found) at a = absurd a.1
 pin_text m number place p limit q (OfPin i answer) at a = absurd a.1
@@ -64,23 +66,23 @@ module _ (one_line : (line : List ℕ) (a b : Result Reading TextCode) → LineO
     is : TextIs g number reply o
 
   module _ (m : Machine) (holds : Holds name g m) (good : IsGood m) where
-    tells_query : (q : QueryTerm) (t : Turn) → Reads text q → AsksPin limit m name q t → TellsOn (written m number t)
+    tells_query : (q : QueryTerm) (t : Turn) → Reads text q → AsksPin limit m name q t → TellsOn (written Form.Plain m number t)
     tells_query q t reads a =
         let pin : a.pin ≡ holds.pin = one_named m.pins good.pins a.pin holds.pin (at_among m.pins a.place a.pin a.at) holds.among (a.named ∙ sym holds.named) in
         let graph : (a.pin).graph ≡ g = ap (λ (p : Pin). p.graph) pin ∙ holds.graph in
-        let is : TextIs g number a.reply (written m number (told m (of_pin a.place a.reply))) = subst (λ (h : Graph). TextIs h number a.reply (written m number (told m (of_pin a.place a.reply)))) graph (pin_text m number a.place a.pin limit q a.reply a.at a.replies) in
+        let is : TextIs g number a.reply (written Form.Plain m number (told m (of_pin a.place a.reply))) = subst (λ (h : Graph). TextIs h number a.reply (written Form.Plain m number (told m (of_pin a.place a.reply)))) graph (pin_text m number a.place a.pin limit q a.reply a.at a.replies) in
         record {
           reply = a.reply;
           replies = of_read g limit text q reads a.reply (subst (λ (h : Graph). IsReplyTo h limit q a.reply) graph a.replies);
-          is = subst (λ (u : Turn). TextIs g number a.reply (written m number u)) (sym a.is) is;
+          is = subst (λ (u : Turn). TextIs g number a.reply (written Form.Plain m number u)) (sym a.is) is;
         }
 
-    tells : (t : Turn) → AsksPinText limit m name text t → TellsOn (written m number t)
-    tells t (inl (c, f, e)) = record { reply = Bad c; replies = f; is = subst (λ (u : Turn). TextIs g number (Bad c) (written m number u)) (sym e) (record { text = refl; failing = refl }) }
+    tells : (t : Turn) → AsksPinText limit m name text t → TellsOn (written Form.Plain m number t)
+    tells t (inl (c, f, e)) = record { reply = Bad c; replies = f; is = subst (λ (u : Turn). TextIs g number (Bad c) (written Form.Plain m number u)) (sym e) (record { text = refl; failing = refl }) }
     tells t (inr (q, r, inl a)) = absurd (first_or_unbroken (PinBreaks m.graph m.pins name) name_rules a.rule a.first (holds.begun, ((λ no. no (holds.pin, holds.among, holds.named)), tt)))
     tells t (inr (q, r, inr a)) = tells_query q t r a
 
-    line_tells : (line : List ℕ) → LineOf line (Ok (AsksIn name text)) → (o : Output) → LineOut limit m number line o → TellsOn o
+    line_tells : (line : List ℕ) → LineOf line (Ok (AsksIn name text)) → (o : Output) → LineOut (plain limit) m number line o → TellsOn o
     unfolding TurnOf Answers
     line_tells line is o a =
         let r = a.replies in
@@ -89,9 +91,9 @@ module _ (one_line : (line : List ℕ) (a b : Result Reading TextCode) → LineO
   one_told : (x y : Output) → TellsOn x → TellsOn y → (x.text ≡ y.text) × (x.failing ≡ y.failing)
   one_told x y a b =
       let same : a.reply ≡ b.reply = one_asked g limit text a.reply b.reply a.replies b.replies in
-      ((a.is).text ∙ ap (text_of (bare g) number) same ∙ sym (b.is).text, (a.is).failing ∙ ap fails same ∙ sym (b.is).failing)
+      ((a.is).text ∙ ap (text_of Form.Plain (bare g) number) same ∙ sym (b.is).text, (a.is).failing ∙ ap fails same ∙ sym (b.is).failing)
 
   -- from two machines in which a pin of the name stands with this graph
   pub one_in_both : (m n : Machine) (line : List ℕ) → LineOf line (Ok (AsksIn name text)) → Holds name g m → IsGood m → Holds name g n → IsGood n
-      → (x y : Output) → LineOut limit m number line x → LineOut limit n number line y → (x.text ≡ y.text) × (x.failing ≡ y.failing)
+      → (x y : Output) → LineOut (plain limit) m number line x → LineOut (plain limit) n number line y → (x.text ≡ y.text) × (x.failing ≡ y.failing)
   one_in_both m n line is h good k fine x y a b = one_told x y (line_tells m h good line is x a) (line_tells n k fine line is y b)

@@ -21,7 +21,7 @@ use Rattle.itpg_session.specs.PlainPins.{Pin, new_pin, without_pin}
 use Rattle.itpg_session.specs.Rules.{OpenBreaks, open_rules}
 use Rattle.itpg_session.specs.Replies.{Reply, Silent, Bad, Refused, Wide, Rows, Counted, Shown, OfPin, PerWatch}
 use Rattle.itpg_session.specs.Machine.{Machine, Turn, Answers, TurnOf, Refuses, told}
-use Rattle.itpg_run.specs.Out.{Output, LineOut, Runs}
+use Rattle.itpg_run.specs.Out.{plain, Output, LineOut, Runs}
 use Rattle.itpg_run.specs.StillLaws.{IsOpened}
 
 -- ---- a graph stays begun
@@ -173,7 +173,7 @@ module _ (name : Word) (g : Graph) (limit : ℕ) (m : Machine) (holds : Holds na
   turn_holds (Err code) stays t a = told_holds t (Bad code) a
 
   -- over a line that doesn't close it
-  pub line_holds : (number : ℕ) (line : List ℕ) → (LineOf line (Ok (Closes name)) → ⊥) → (o : Output) → LineOut limit m number line o → Holds name g o.next
+  pub line_holds : (number : ℕ) (line : List ℕ) → (LineOf line (Ok (Closes name)) → ⊥) → (o : Output) → LineOut (plain limit) m number line o → Holds name g o.next
   line_holds number line stays o a =
       let r = a.replies in
       subst (λ (x : Output). Holds name g x.next) (sym a.is) (turn_holds r.what (λ e. stays (subst (LineOf line) e r.line_of)) a.turn r.turn)
@@ -184,7 +184,7 @@ AllStay name [] = Unit {0}
 AllStay name (x ∷ xs) = (LineOf x (Ok (Closes name)) → ⊥) × AllStay name xs
 
 -- over such lines
-pub run_holds : (name : Word) (g : Graph) (limit : ℕ) (m : Machine) (number : ℕ) (xs : List (List ℕ)) (o : Output) → AllStay name xs → Holds name g m → Runs limit m number xs o → Holds name g o.next
+pub run_holds : (name : Word) (g : Graph) (limit : ℕ) (m : Machine) (number : ℕ) (xs : List (List ℕ)) (o : Output) → AllStay name xs → Holds name g m → Runs (plain limit) m number xs o → Holds name g o.next
 unfolding Runs
 run_holds name g limit m number [] o stay h r = subst (λ (x : Output). Holds name g x.next) (sym r) h
 run_holds name g limit m number (x ∷ xs) o stay h r =
@@ -193,7 +193,7 @@ run_holds name g limit m number (x ∷ xs) o stay h r =
 -- ---- an accepted `open` pins the graph
 
 module _ (one_line : (line : List ℕ) (a b : Result Reading TextCode) → LineOf line a → LineOf line b → a ≡ b) where
-  pub opened_holds : (limit : ℕ) (m : Machine) (number : ℕ) (line : List ℕ) (name : Word) (o : Output) → IsOpened name m line → LineOut limit m number line o → Holds name m.graph o.next
+  pub opened_holds : (limit : ℕ) (m : Machine) (number : ℕ) (line : List ℕ) (name : Word) (o : Output) → IsOpened name m line → LineOut (plain limit) m number line o → Holds name m.graph o.next
   unfolding TurnOf Answers
   opened_holds limit m number line name o is a =
       let r = a.replies in

@@ -4,7 +4,7 @@ use Rattle.std.specs.declared.option.Option.{Option}
 use Rattle.std.specs.Io.KnownBytes.{Consumes, Keeps, IsAtEnd}
 use Rattle.std.proofs.KnownBytes.{Consumes-trans, Consumes-kept, Appends-nil}
 use Rattle.itpg_run.specs.Lines.{kept, whole}
-use Rattle.itpg_run.specs.Out.{no_output, Runs}
+use Rattle.itpg_run.specs.Out.{Mode, no_output, Runs}
 use Rattle.itpg_session.specs.Machine.{opening}
 use Rattle.itpg_session.specs.Steps.{StandsAs}
 use Rattle.itpg_run.specs.Served.{longest, Served, WritesWithin, WritesOut, EndsWell}
@@ -18,8 +18,8 @@ use Rattle.itpg_run.specs.declared.Status.TheVariants.{Done, DoneRefused, Usage,
 use Rattle.itpg_run.proofs.Kept.{take_past, take_nothing}
 use Rattle.itpg_run.proofs.Fed.{fed_out_whole}
 
-pub pumped : (limit : ℕ) (before mid left start now : Option (List ℕ)) (r : Reader) (count : ℕ) → Pumping limit before mid start now r count → count ≤ longest → Consumes mid left [] → IsAtEnd left → Pumped limit before left start now r
-pumped limit before mid left start now r count p fits consumes ended = record {
+pub pumped : (mode : Mode) (before mid left start now : Option (List ℕ)) (r : Reader) (count : ℕ) → Pumping mode before mid start now r count → count ≤ longest → Consumes mid left [] → IsAtEnd left → Pumped mode before left start now r
+pumped mode before mid left start now r count p fits consumes ended = record {
   bytes = p.bytes;
   taken = subst (Consumes before left) (append-nil p.bytes) (Consumes-trans before mid left p.bytes [] p.taken consumes);
   fits = omega (arith, p.counted);
@@ -27,68 +27,68 @@ pumped limit before mid left start now r count p fits consumes ended = record {
   fed = p.fed;
 }
 
-pub read_fault : (limit : ℕ) (before mid left start now : Option (List ℕ)) (r : Reader) (count : ℕ) → Pumping limit before mid start now r count → count ≤ longest → Keeps mid left → Served ReadFault limit before left start now
-read_fault limit before mid left start now r count p fits keeps = record {
+pub read_fault : (mode : Mode) (before mid left start now : Option (List ℕ)) (r : Reader) (count : ℕ) → Pumping mode before mid start now r count → count ≤ longest → Keeps mid left → Served ReadFault mode before left start now
+read_fault mode before mid left start now r count p fits keeps = record {
   bytes = p.bytes;
   taken = Consumes-kept before mid left p.bytes p.taken keeps;
-  writes = (omega (arith, p.counted), fed_out_whole limit start now r p.bytes p.fed);
+  writes = (omega (arith, p.counted), fed_out_whole mode start now r p.bytes p.fed);
 }
 
-pub pumping_more : (limit : ℕ) (before mid left start held now : Option (List ℕ)) (old new : Reader) (count : ℕ) (more : List ℕ) → Pumping limit before mid start held old count → Consumes mid left more → Feeds held now old new more → Pumping limit before left start now new (count + length more)
-pumping_more limit before mid left start held now old new count more p consumes feeds = record {
+pub pumping_more : (mode : Mode) (before mid left start held now : Option (List ℕ)) (old new : Reader) (count : ℕ) (more : List ℕ) → Pumping mode before mid start held old count → Consumes mid left more → Feeds held now old new more → Pumping mode before left start now new (count + length more)
+pumping_more mode before mid left start held now old new count more p consumes feeds = record {
   bytes = p.bytes ++ more;
   taken = Consumes-trans before mid left p.bytes more p.taken consumes;
   counted = omega (arith, p.counted, length-append p.bytes more);
-  fed = feeds limit start p.bytes p.fed;
+  fed = feeds mode start p.bytes p.fed;
 }
 
 -- known bytes that are consumed are those bytes and what is left
-within_all : (limit : ℕ) (before left start now : Option (List ℕ)) (bytes : List ℕ) → Consumes before left bytes → ((rest : List ℕ) → WritesWithin limit start now (bytes ++ rest)) → IfSome before (λ all. WritesWithin limit start now all)
-within_all limit None left start now bytes c f = tt
-within_all limit (Some x) None start now bytes c f = absurd c
-within_all limit (Some x) (Some y) start now bytes c f = subst (λ t. WritesWithin limit start now t) (sym c) (f y)
+within_all : (mode : Mode) (before left start now : Option (List ℕ)) (bytes : List ℕ) → Consumes before left bytes → ((rest : List ℕ) → WritesWithin mode start now (bytes ++ rest)) → IfSome before (λ all. WritesWithin mode start now all)
+within_all mode None left start now bytes c f = tt
+within_all mode (Some x) None start now bytes c f = absurd c
+within_all mode (Some x) (Some y) start now bytes c f = subst (λ t. WritesWithin mode start now t) (sym c) (f y)
 
-pub stopped : (limit : ℕ) (stop : Stop) (before mid left start held now : Option (List ℕ)) (r : Reader) (count : ℕ) (more : List ℕ) → Pumping limit before mid start held r count → count ≤ longest → Consumes mid left more → Stops stop held now r more (longest - count) → Served (status_of stop) limit before left start now
-stopped limit stop.Memory before mid left start held now r count more p fits consumes stops = record {
+pub stopped : (mode : Mode) (stop : Stop) (before mid left start held now : Option (List ℕ)) (r : Reader) (count : ℕ) (more : List ℕ) → Pumping mode before mid start held r count → count ≤ longest → Consumes mid left more → Stops stop held now r more (longest - count) → Served (status_of stop) mode before left start now
+stopped mode stop.Memory before mid left start held now r count more p fits consumes stops = record {
   bytes = p.bytes ++ more;
   taken = Consumes-trans before mid left p.bytes more p.taken consumes;
-  writes = stops limit start p.bytes p.fed;
+  writes = stops mode start p.bytes p.fed;
 }
-stopped limit stop.Write before mid left start held now r count more p fits consumes stops =
+stopped mode stop.Write before mid left start held now r count more p fits consumes stops =
     let taken = Consumes-trans before mid left p.bytes more p.taken consumes in
     record {
       bytes = p.bytes ++ more;
       taken = taken;
-      writes = within_all limit before left start now (p.bytes ++ more) taken (λ rest. subst (λ t. WritesWithin limit start now t) (sym (append_assoc p.bytes more rest)) (stops limit start p.bytes p.fed rest));
+      writes = within_all mode before left start now (p.bytes ++ more) taken (λ rest. subst (λ t. WritesWithin mode start now t) (sym (append_assoc p.bytes more rest)) (stops mode start p.bytes p.fed rest));
     }
-stopped limit stop.TooLong before mid left start held now r count more p fits consumes stops =
+stopped mode stop.TooLong before mid left start held now r count more p fits consumes stops =
     let long : longest < length (p.bytes ++ more) = omega (arith, stops.0, p.counted, length-append p.bytes more) in
     let front : take longest (p.bytes ++ more) ≡ p.bytes ++ take (longest - count) more = take_past p.bytes more longest (omega (arith, p.counted)) ∙ ap (λ k. p.bytes ++ take (longest - k) more) p.counted in
     record {
       bytes = p.bytes ++ more;
       taken = Consumes-trans before mid left p.bytes more p.taken consumes;
-      writes = (long, subst (λ t. WritesOut limit start now (whole t)) (sym front) (stops.1 limit start p.bytes p.fed));
+      writes = (long, subst (λ t. WritesOut mode start now (whole t)) (sym front) (stops.1 mode start p.bytes p.fed));
     }
 
 -- all was read, and then answered
-pub finished : (limit : ℕ) (status : Status) (before left start mid now : Option (List ℕ)) (r : Reader) → (p : Pumped limit before left start mid r) → Ends status limit start now p.bytes → Served status limit before left start now
-finished limit Done before left start mid now r p e = record { bytes = p.bytes; taken = p.taken; writes = record { fits = p.fits; ended = p.ended; writes = e } }
-finished limit DoneRefused before left start mid now r p e = record { bytes = p.bytes; taken = p.taken; writes = record { fits = p.fits; ended = p.ended; writes = e } }
-finished limit Usage before left start mid now r p e = absurd e
-finished limit ReadFault before left start mid now r p e = absurd e
-finished limit WriteFault before left start mid now r p e = record { bytes = p.bytes; taken = p.taken; writes = all_of before left p.bytes p.taken p.ended e }
+pub finished : (mode : Mode) (status : Status) (before left start mid now : Option (List ℕ)) (r : Reader) → (p : Pumped mode before left start mid r) → Ends status mode start now p.bytes → Served status mode before left start now
+finished mode Done before left start mid now r p e = record { bytes = p.bytes; taken = p.taken; writes = record { fits = p.fits; ended = p.ended; writes = e } }
+finished mode DoneRefused before left start mid now r p e = record { bytes = p.bytes; taken = p.taken; writes = record { fits = p.fits; ended = p.ended; writes = e } }
+finished mode Usage before left start mid now r p e = absurd e
+finished mode ReadFault before left start mid now r p e = absurd e
+finished mode WriteFault before left start mid now r p e = record { bytes = p.bytes; taken = p.taken; writes = all_of before left p.bytes p.taken p.ended e }
   where
-    all_of : (before left : Option (List ℕ)) (bytes : List ℕ) → Consumes before left bytes → IsAtEnd left → WritesWithin limit start now bytes → IfSome before (λ all. WritesWithin limit start now all)
+    all_of : (before left : Option (List ℕ)) (bytes : List ℕ) → Consumes before left bytes → IsAtEnd left → WritesWithin mode start now bytes → IfSome before (λ all. WritesWithin mode start now all)
     all_of None l bytes c d f = tt
     all_of (Some x) None bytes c d f = absurd c
-    all_of (Some x) (Some y) bytes c d f = subst (λ t. WritesWithin limit start now t) (sym (c ∙ ap (λ t. bytes ++ t) d ∙ append-nil bytes)) f
-finished limit Memory before left start mid now r p e = record { bytes = p.bytes; taken = p.taken; writes = e }
-finished limit TooLong before left start mid now r p e = absurd e
+    all_of (Some x) (Some y) bytes c d f = subst (λ t. WritesWithin mode start now t) (sym (c ∙ ap (λ t. bytes ++ t) d ∙ append-nil bytes)) f
+finished mode Memory before left start mid now r p e = record { bytes = p.bytes; taken = p.taken; writes = e }
+finished mode TooLong before left start mid now r p e = absurd e
 
 -- a new reader was fed nothing
-pub begins : (limit : ℕ) (held : Option (List ℕ)) (r : Reader) → StandsAs r.session opening limit → r.number ≡ 1 → r.line.items ≡ [] → r.failing ≡ false → Fed limit held held r []
+pub begins : (mode : Mode) (held : Option (List ℕ)) (r : Reader) → r.form ≡ mode.form → StandsAs r.session opening mode.limit → r.number ≡ 1 → r.line.items ≡ [] → r.failing ≡ false → Fed mode held held r []
 unfolding Runs
-begins limit held r session number line failing = record {
+begins mode held r form session number line failing = record {
   lines = [];
   rest = [];
   split = refl;
@@ -96,6 +96,7 @@ begins limit held r session number line failing = record {
   open_end = tt;
   output = no_output opening;
   runs = refl;
+  form = form;
   session = session;
   number = number;
   line = line ∙ sym (take_nothing kept);
@@ -108,17 +109,17 @@ longer_than_all all bytes None c = absurd c
 longer_than_all all bytes (Some y) c = omega (arith, ap length c, length-append bytes y)
 
 -- with no fault and a script that fits, all ends well
-pub ends_well : (limit : ℕ) (status : Status) (before left held now : Option (List ℕ)) (R W : Type 0) → Served status limit before left held now → (status ≡ ReadFault → R) → (status ≡ WriteFault → W)
+pub ends_well : (mode : Mode) (status : Status) (before left held now : Option (List ℕ)) (R W : Type 0) → Served status mode before left held now → (status ≡ ReadFault → R) → (status ≡ WriteFault → W)
     → (all : List ℕ) → before ≡ Some all → length all ≤ longest → ¬ R → ¬ W → EndsWell status
-ends_well limit Done before left held now R W s read write all is fits r w = tt
-ends_well limit DoneRefused before left held now R W s read write all is fits r w = tt
-ends_well limit Usage before left held now R W s read write all is fits r w = s.writes
-ends_well limit ReadFault before left held now R W s read write all is fits r w = r (read refl)
-ends_well limit WriteFault before left held now R W s read write all is fits r w = w (write refl)
-ends_well limit Memory before left held now R W s read write all is fits r w = tt
-ends_well limit TooLong before left held now R W s read write all is fits r w =
+ends_well mode Done before left held now R W s read write all is fits r w = tt
+ends_well mode DoneRefused before left held now R W s read write all is fits r w = tt
+ends_well mode Usage before left held now R W s read write all is fits r w = s.writes
+ends_well mode ReadFault before left held now R W s read write all is fits r w = r (read refl)
+ends_well mode WriteFault before left held now R W s read write all is fits r w = w (write refl)
+ends_well mode Memory before left held now R W s read write all is fits r w = tt
+ends_well mode TooLong before left held now R W s read write all is fits r w =
     let some = longer_than_all all s.bytes left (subst (λ b. Consumes b left s.bytes) is s.taken) in
     absurd (omega (arith, s.writes.0))
 
-pub never_usage : (limit : ℕ) (status : Status) (before left held now : Option (List ℕ)) → status ≡ Usage → Served status limit before left held now → ⊥
-never_usage limit status before left held now is s = (subst (λ t. Served t limit before left held now) is s).writes
+pub never_usage : (mode : Mode) (status : Status) (before left held now : Option (List ℕ)) → status ≡ Usage → Served status mode before left held now → ⊥
+never_usage mode status before left held now is s = (subst (λ t. Served t mode before left held now) is s).writes

@@ -11,7 +11,7 @@ use Rattle.edit_reader.specs.Faults.{OfTokens, HasFault}
 use Rattle.edit_reader.specs.Lines.{LineOf}
 use Rattle.itpg_session.specs.Machine.{Machine, IsGood, opening}
 use Rattle.itpg_session.specs.MachineLaws.{OneAsked}
-use Rattle.itpg_run.specs.Out.{Output, LineOut, Runs, Then}
+use Rattle.itpg_run.specs.Out.{plain, Output, LineOut, Runs, Then}
 use Rattle.itpg_run.specs.Still.{IsStilled, AreStill}
 use Rattle.itpg_run.specs.StillLaws.{IsOpened, NoneCloses, StillReplies}
 use Rattle.itpg_run.proofs.MachineLaws.{Laws}
@@ -71,7 +71,7 @@ stilled_stay below name (x ∷ xs) (y ∷ ys) a stay = (head a.0, stilled_stay b
 -- ---- the pin stands where it is asked
 
 -- the first of more lines
-runs_first : (limit : ℕ) (m : Machine) (number : ℕ) (x : List ℕ) (xs : Lines) (o : Output) → Runs limit m number (x ∷ xs) o → Then (LineOut limit m number x) (λ next rest. Runs limit next (number + 1) xs rest) o
+runs_first : (limit : ℕ) (m : Machine) (number : ℕ) (x : List ℕ) (xs : Lines) (o : Output) → Runs (plain limit) m number (x ∷ xs) o → Then (LineOut (plain limit) m number x) (λ next rest. Runs (plain limit) next (number + 1) xs rest) o
 unfolding Runs
 runs_first limit m number x xs o r = r
 
@@ -81,19 +81,19 @@ record Reached (name : Word) (g : Graph) (m : Machine) : Type 0 where
 
 module _ (below : Below) (limit : ℕ) (name : Word) where
   -- behind the line that opens it, and lines of which none closes it
-  reached : (front middle : Lines) (line : List ℕ) (opens : Output) → Runs limit opening 1 front opens → IsOpened name opens.next line → AllStay name middle
-      → (t : Output) → Runs limit opening 1 (front ++ line ∷ middle) t → Reached name opens.next.graph t.next
+  reached : (front middle : Lines) (line : List ℕ) (opens : Output) → Runs (plain limit) opening 1 front opens → IsOpened name opens.next line → AllStay name middle
+      → (t : Output) → Runs (plain limit) opening 1 (front ++ line ∷ middle) t → Reached name opens.next.graph t.next
   reached front middle line opens runs is stay t all =
-      let p = runs-part limit opening 1 front (line ∷ middle) t all in
-      let same : p.front ≡ opens = one_run below.machine limit opening 1 front p.front opens below.machine.opening p.runs runs in
-      let on : Runs limit opens.next (1 + length front) (line ∷ middle) p.rest = subst (λ (u : Output). Runs limit u.next (1 + length front) (line ∷ middle) p.rest) same p.goes_on in
+      let p = runs-part (plain limit) opening 1 front (line ∷ middle) t all in
+      let same : p.front ≡ opens = one_run below.machine (plain limit) opening 1 front p.front opens below.machine.opening p.runs runs in
+      let on : Runs (plain limit) opens.next (1 + length front) (line ∷ middle) p.rest = subst (λ (u : Output). Runs (plain limit) u.next (1 + length front) (line ∷ middle) p.rest) same p.goes_on in
       let r = runs_first limit opens.next (1 + length front) line middle p.rest on in
       let begins : Holds name opens.next.graph r.first.next = opened_holds below.one_line limit opens.next (1 + length front) line name r.first is r.begins in
       let here : Holds name opens.next.graph r.rest.next = run_holds name opens.next.graph limit r.first.next (1 + length front + 1) middle r.rest stay begins r.goes_on in
       let last : t.next ≡ r.rest.next = ap (λ (u : Output). u.next) p.is ∙ ap (λ (u : Output). u.next) r.is in
       record {
         holds = subst (Holds name opens.next.graph) (sym last) here;
-        good = good_run below.machine limit opening 1 (front ++ line ∷ middle) t below.machine.opening all;
+        good = good_run below.machine (plain limit) opening 1 (front ++ line ∷ middle) t below.machine.opening all;
       }
 
 pub still_replies : Below → StillReplies
@@ -124,6 +124,6 @@ still_replies below limit lines others i j name text x y o a lt none still p q =
     let size : length before ≡ length o.front + suc (length next.front) = length-append o.front (o.line ∷ next.front) in
     let two = same_split q.front before q.line p.line q.rest head.0 (sym q.split ∙ all) (let n = q.count in let m = p.count in let w = next.long in omega (arith, n, m, w, size, long)) in
     -- the pin stands in both
-    let x_there = reached below limit name o.front b.middle o.line o.output o.runs o.is stay p.output (subst (λ (f : Lines). Runs limit opening 1 f p.output) b.is p.runs) in
-    let y_there = reached below limit name o.front next.front o.line o.output o.runs o.is quiet q.output (subst (λ (f : Lines). Runs limit opening 1 f q.output) two.front q.runs) in
-    one_in_both below.one_line below.one_asked limit j name text o.output.next.graph p.output.next q.output.next p.line is x_there.holds x_there.good y_there.holds y_there.good x y p.is (subst (λ (l : List ℕ). LineOut limit q.output.next j l y) two.line q.is)
+    let x_there = reached below limit name o.front b.middle o.line o.output o.runs o.is stay p.output (subst (λ (f : Lines). Runs (plain limit) opening 1 f p.output) b.is p.runs) in
+    let y_there = reached below limit name o.front next.front o.line o.output o.runs o.is quiet q.output (subst (λ (f : Lines). Runs (plain limit) opening 1 f q.output) two.front q.runs) in
+    one_in_both below.one_line below.one_asked limit j name text o.output.next.graph p.output.next q.output.next p.line is x_there.holds x_there.good y_there.holds y_there.good x y p.is (subst (λ (l : List ℕ). LineOut (plain limit) q.output.next j l y) two.line q.is)

@@ -1,6 +1,7 @@
 -- Lines tell one thing.
 use Rattle.std.proofs.Common.{◌≡◌, ◌⊎◌, inl, inr, ℕ, ◌+◌, Bool, true, false, List, [], ◌∷◌, ◌++◌, codes, get_or, drop, length, nat_eq, refl, ap, ◌∙◌, sym, subst, append_assoc, append-nil, arith}
 use Rattle.std.proofs.lemmas.Bool.{eqb-true, eqb-false}
+use Rattle.row_printer.specs.declared.form.Form.{Form}
 use Rattle.itpg_session.specs.Replies.{IsReply}
 use Rattle.itpg_session.specs.Machine.{Machine, IsGood, opening}
 use Rattle.itpg_session.specs.MachineLaws.{OneAsked, SomeAsked, OneReply, SomeReply, GoodReply, GoodOpening}
@@ -49,8 +50,8 @@ one_told laws limit m k (l ∷ ls) x y good (inl r) (inl s) =
 one_told laws limit m k (l ∷ ls) x y good (inl r) (inr s) = absurd (s.others r.query r.asks)
 one_told laws limit m k (l ∷ ls) x y good (inr r) (inl s) = absurd (r.others s.query s.asks)
 one_told laws limit m k (l ∷ ls) x y good (inr r) (inr s) =
-    let turn : r.turn ≡ s.turn = laws.one limit m l r.turn s.turn good r.replies s.replies in
-    one_told laws limit s.turn.next k ls x y (laws.good limit m l s.turn good s.replies) (subst (λ t. Tells limit t.next k ls x) turn r.goes_on) s.goes_on
+    let turn : r.turn ≡ s.turn = laws.one limit m Form.Plain l r.turn s.turn good r.replies s.replies in
+    one_told laws limit s.turn.next k ls x y (laws.good limit m Form.Plain l s.turn good s.replies) (subst (λ t. Tells limit t.next k ls x) turn r.goes_on) s.goes_on
 
 pub some_told : Laws → (limit : ℕ) (m : Machine) (k : ℕ) (ls : List (List ℕ)) → IsGood m → (t : Told) × Tells limit m k ls t
 unfolding Tells
@@ -61,8 +62,8 @@ some_told laws limit m k (l ∷ ls) good = elim (begins (codes "ask ") l) [
       let rest = some_told laws limit m (k + 1) ls good in
       (told_both (told_of k reply.0) rest.0, inl (record { query = asks.0; asks = asks.1; reply = reply.0; replies = reply.1; rest = rest.0; goes_on = rest.1; is = refl }))
   | inr others ↦
-      let turn = laws.some limit m l good in
-      let rest = some_told laws limit turn.0.next k ls (laws.good limit m l turn.0 good turn.1) in
+      let turn = laws.some limit m Form.Plain l good in
+      let rest = some_told laws limit turn.0.next k ls (laws.good limit m Form.Plain l turn.0 good turn.1) in
       (rest.0, inr (record { others = others; turn = turn.0; replies = turn.1; goes_on = rest.1 }))
 ]
 

@@ -50,7 +50,7 @@ pub record Behind (limit : ℕ) (last : Graph) (k : ℕ) (rest : List Text) (all
 
 -- the turn of an edit that breaks no rule
 next_graph : ScriptLaws → (limit : ℕ) (m : Machine) (line : Text) (edit : Edit) (next : Graph) (t : Turn) → Good m.graph → LineOf line (Ok (Changes edit)) → Unbroken m.graph edit → Next m.graph edit next
-    → Replies limit m line t → t.next.graph ≡ next
+    → Replies limit m (LineOf line) t → t.next.graph ≡ next
 unfolding TurnOf Answers
 next_graph laws limit m line edit next t good reads unbroken goes replies =
     by_answer (subst (λ (what : Result Reading TextCode). TurnOf limit m what t) (laws.one_line line replies.what (Ok (Changes edit)) replies.line_of reads) replies.turn)

@@ -7,6 +7,8 @@ use Rattle.std.specs.Io.KnownBytes.{Appends, Keeps}
 use Rattle.std.proofs.lemmas.List.{append-nil}
 use Rattle.std.proofs.KnownBytes.{Appends-nil, Appends-trans, Appends-kept}
 use Rattle.itpg_base.specs.Outside.{AppendsSome}
+use Rattle.edit_reader.specs.Lines.{LineOf}
+use Rattle.row_printer.specs.declared.form.Form.{Form}
 use Rattle.itpg_session.specs.Replies.{Reply, IsReply}
 use Rattle.itpg_session.specs.Machine.{Machine, Turn, IsGood, Replies, opening}
 use Rattle.itpg_session.specs.Steps.{StandsAs}
@@ -23,7 +25,7 @@ behind_question : (r : Running) (line query : List ℕ) (reply : Reply) (lines :
 unfolding Tells
 behind_question r line query reply lines rest asks replies goes = inl (record { query = query; asks = asks; reply = reply; replies = replies; rest = rest; goes_on = goes; is = refl })
 
-behind_other : (r : Running) (line : List ℕ) (turn : Turn) (lines : List (List ℕ)) (rest : Told) → ((query : List ℕ) → ¬ Asks line query) → Replies r.session.limit r.session.machine line turn
+behind_other : (r : Running) (line : List ℕ) (turn : Turn) (lines : List (List ℕ)) (rest : Told) → ((query : List ℕ) → ¬ Asks line query) → Replies r.session.limit r.session.machine (LineOf line) turn
     → Tells r.session.limit turn.next r.question lines rest → TellsFrom r (line ∷ lines) (told_both nothing rest)
 unfolding Tells
 behind_other r line turn lines rest others replies goes = inr (record { others = others; turn = turn; replies = replies; goes_on = goes })
@@ -57,7 +59,7 @@ takes_some laws held now old line query text reply asks replies is some = record
   some = subst (AppendsSome held now) is some;
 }
 
-pub takes_other : GoodReply → (held : Option (List ℕ)) (old new : Running) (line : List ℕ) (turn : Turn) → ((query : List ℕ) → ¬ Asks line query) → Replies old.session.limit old.session.machine line turn
+pub takes_other : GoodReply → (held : Option (List ℕ)) (old new : Running) (line : List ℕ) (turn : Turn) → ((query : List ℕ) → ¬ Asks line query) → Replies old.session.limit old.session.machine (LineOf line) turn
     → StandsAs new.session turn.next old.session.limit → new.question ≡ old.question → new.wide ≡ old.wide → Takes held held old new line
 takes_other good_reply held old new line turn others replies session question wide = record {
   told = nothing;
@@ -66,7 +68,7 @@ takes_other good_reply held old new line turn others replies session question wi
       (subst (λ k. Tells old.session.limit turn.next k lines rest) question (stands_tells new turn.next old.session.limit lines rest session goes));
   written = Appends-nil held;
   wide = wide ∙ or_false old.wide;
-  good = λ good. subst IsGood (sym session.machine) (good_reply old.session.limit old.session.machine line turn good replies);
+  good = λ good. subst IsGood (sym session.machine) (good_reply old.session.limit old.session.machine Form.Plain line turn good replies);
   question = omega (arith, question);
 }
   where

@@ -7,7 +7,7 @@ use Rattle.itpg_base.specs.declared.outside.Sink.{Ghosts as SinkGhosts}
 use Rattle.itpg_session.specs.Machine.{Standing, opening}
 use Rattle.itpg_session.specs.Steps.{Sees, StandsAs}
 use Rattle.itpg_session.specs.declared.reply.Seen.{Seen}
-use Rattle.itpg_run.specs.Out.{Output, LineOut, Runs}
+use Rattle.itpg_run.specs.Out.{Mode, mode_at, Output, LineOut, Runs}
 use Rattle.itpg_run.specs.Split.{NoEnd, NoEnds, joined}
 use Rattle.itpg_run.specs.Served.{WritesLines, WritesOut, WritesAs, WritesWithin}
 use Rattle.itpg_run.specs.Lines.{kept, whole}
@@ -17,9 +17,13 @@ use Rattle.itpg_run.specs.declared.reader.Stop.TheVariants as stop
 use Rattle.itpg_run.specs.declared.Status.{Status}
 use Rattle.itpg_run.specs.declared.Status.TheVariants.{Done, DoneRefused, Usage, ReadFault, WriteFault, Memory, TooLong}
 
+-- how the reader runs its script
+abbrev pub mode_of : Reader → Mode
+mode_of r = mode_at r.form r.session.limit
+
 -- an output that each line may have of which the reader has the front that is kept
 abbrev pub RepliesTo : Reader → Output → Type 0
-RepliesTo r output = (line : List ℕ) → r.line.items ≡ take kept line → LineOut r.session.limit r.session.machine r.number line output
+RepliesTo r output = (line : List ℕ) → r.line.items ≡ take kept line → LineOut (mode_of r) r.session.machine r.number line output
 
 -- the session answered the line that was read
 pub record AnswersLine (held now : Option (List ℕ)) (old : Reader) (session : Standing) (seen : Seen) : Type 0 where
@@ -35,6 +39,7 @@ pub record EndsLine (held now : Option (List ℕ)) (old new : Reader) : Type 0 w
   pub replies : RepliesTo old output
   pub written : Appends held now output.text
   pub session : StandsAs new.session output.next old.session.limit
+  pub form : new.form ≡ old.form
   pub number : new.number ≡ old.number + 1
   pub line : new.line.items ≡ []
   pub failing : new.failing ≡ (old.failing || output.failing)
@@ -46,15 +51,16 @@ pub record AnswersWithin (held now : Option (List ℕ)) (r : Reader) : Type 0 wh
   pub some : AppendsSome held now output.text
 
 -- the reader was given these bytes, and the replies to the whole lines in them were written
-pub record Fed (limit : ℕ) (start now : Option (List ℕ)) (r : Reader) (bytes : List ℕ) : Type 0 where
+pub record Fed (mode : Mode) (start now : Option (List ℕ)) (r : Reader) (bytes : List ℕ) : Type 0 where
   pub lines : List (List ℕ)
   pub rest : List ℕ
   pub split : joined lines ++ rest ≡ bytes
   pub ended : NoEnds lines
   pub open_end : NoEnd rest
   pub output : Output
-  pub runs : Runs limit opening 1 lines output
-  pub session : StandsAs r.session output.next limit
+  pub runs : Runs mode opening 1 lines output
+  pub form : r.form ≡ mode.form
+  pub session : StandsAs r.session output.next mode.limit
   pub number : r.number ≡ 1 + length lines
   pub line : r.line.items ≡ take kept rest
   pub failing : r.failing ≡ output.failing
@@ -62,39 +68,39 @@ pub record Fed (limit : ℕ) (start now : Option (List ℕ)) (r : Reader) (bytes
 
 -- more bytes were given
 abbrev pub Feeds : Option (List ℕ) → Option (List ℕ) → Reader → Reader → List ℕ → Type 0
-Feeds before now old new more = (limit : ℕ) (start : Option (List ℕ)) (bytes : List ℕ) → Fed limit start before old bytes → Fed limit start now new (bytes ++ more)
+Feeds before now old new more = (mode : Mode) (start : Option (List ℕ)) (bytes : List ℕ) → Fed mode start before old bytes → Fed mode start now new (bytes ++ more)
 
 -- whole replies were written, and no further one
 abbrev pub StopsWhole : Option (List ℕ) → Option (List ℕ) → Reader → List ℕ → Type 0
-StopsWhole before now old more = (limit : ℕ) (start : Option (List ℕ)) (bytes : List ℕ) → Fed limit start before old bytes → WritesLines limit start now (bytes ++ more)
+StopsWhole before now old more = (mode : Mode) (start : Option (List ℕ)) (bytes : List ℕ) → Fed mode start before old bytes → WritesLines mode start now (bytes ++ more)
 
 -- a front part of the output was written, whatever follows
 abbrev pub StopsWithin : Option (List ℕ) → Option (List ℕ) → Reader → List ℕ → Type 0
-StopsWithin before now old more = (limit : ℕ) (start : Option (List ℕ)) (bytes : List ℕ) → Fed limit start before old bytes → (rest : List ℕ) → WritesWithin limit start now (bytes ++ (more ++ rest))
+StopsWithin before now old more = (mode : Mode) (start : Option (List ℕ)) (bytes : List ℕ) → Fed mode start before old bytes → (rest : List ℕ) → WritesWithin mode start now (bytes ++ (more ++ rest))
 
 -- a chunk was not taken whole
 abbrev pub Stops : Stop → Option (List ℕ) → Option (List ℕ) → Reader → List ℕ → ℕ → Type 0
 Stops stop.Memory before now old more room = StopsWhole before now old more
 Stops stop.Write before now old more room = StopsWithin before now old more
-Stops stop.TooLong before now old more room = (room < length more) × ((limit : ℕ) (start : Option (List ℕ)) (bytes : List ℕ) → Fed limit start before old bytes → WritesOut limit start now (whole (bytes ++ take room more)))
+Stops stop.TooLong before now old more room = (room < length more) × ((mode : Mode) (start : Option (List ℕ)) (bytes : List ℕ) → Fed mode start before old bytes → WritesOut mode start now (whole (bytes ++ take room more)))
 
 -- the last line was answered, if there was one
 abbrev pub EndsLast : Option (List ℕ) → Option (List ℕ) → Reader → Reader → Type 0
-EndsLast before now old new = (limit : ℕ) (start : Option (List ℕ)) (bytes : List ℕ) → Fed limit start before old bytes → WritesAs limit start now bytes new.failing
+EndsLast before now old new = (mode : Mode) (start : Option (List ℕ)) (bytes : List ℕ) → Fed mode start before old bytes → WritesAs mode start now bytes new.failing
 
 -- or a front part of its reply was written
 abbrev pub EndsWithin : Option (List ℕ) → Option (List ℕ) → Reader → Type 0
-EndsWithin before now old = (limit : ℕ) (start : Option (List ℕ)) (bytes : List ℕ) → Fed limit start before old bytes → WritesWithin limit start now bytes
+EndsWithin before now old = (mode : Mode) (start : Option (List ℕ)) (bytes : List ℕ) → Fed mode start before old bytes → WritesWithin mode start now bytes
 
 -- all bytes were taken
-abbrev pub Ends : Status → ℕ → Option (List ℕ) → Option (List ℕ) → List ℕ → Type 0
-Ends Done limit start now bytes = WritesAs limit start now bytes false
-Ends DoneRefused limit start now bytes = WritesAs limit start now bytes true
-Ends Usage limit start now bytes = ⊥
-Ends ReadFault limit start now bytes = ⊥
-Ends WriteFault limit start now bytes = WritesWithin limit start now bytes
-Ends Memory limit start now bytes = WritesLines limit start now bytes
-Ends TooLong limit start now bytes = ⊥
+abbrev pub Ends : Status → Mode → Option (List ℕ) → Option (List ℕ) → List ℕ → Type 0
+Ends Done mode start now bytes = WritesAs mode start now bytes false
+Ends DoneRefused mode start now bytes = WritesAs mode start now bytes true
+Ends Usage mode start now bytes = ⊥
+Ends ReadFault mode start now bytes = ⊥
+Ends WriteFault mode start now bytes = WritesWithin mode start now bytes
+Ends Memory mode start now bytes = WritesLines mode start now bytes
+Ends TooLong mode start now bytes = ⊥
 
 -- the same of a sink, named by the ghost value of its type: before the call, and after it
 module _ {K : Type 0} (sink : SinkGhosts K) (before now : K) where
@@ -127,4 +133,4 @@ module _ {K : Type 0} (sink : SinkGhosts K) (before now : K) where
 
   -- whatever the reader was given, all of it was taken
   abbrev pub FinishesTo : Reader → Status → Type 0
-  FinishesTo old status = (limit : ℕ) (start : Option (List ℕ)) (bytes : List ℕ) → Fed limit start (sink.held before) old bytes → Ends status limit start (sink.held now) bytes
+  FinishesTo old status = (mode : Mode) (start : Option (List ℕ)) (bytes : List ℕ) → Fed mode start (sink.held before) old bytes → Ends status mode start (sink.held now) bytes

@@ -6,10 +6,10 @@ use Rattle.edit_reader.specs.Readings.{Opens, Closes, AsksIn, Follows, Nears, Un
 use Rattle.edit_reader.specs.Lines.{LineOf}
 use Rattle.itpg_session.specs.Rules.{OpenBreaks, open_rules}
 use Rattle.itpg_session.specs.Machine.{Machine, opening}
-use Rattle.itpg_run.specs.Out.{Output, LineOut, Runs}
+use Rattle.itpg_run.specs.Out.{plain, Output, LineOut, Runs}
 use Rattle.itpg_run.specs.Still.{AreStill}
 
--- the lines have a line of this number, counted from 1: those before it were run, and of the machine that they leave and of the line
+-- the plain lines have a line of this number, counted from 1: those before it were run, and of the machine that they leave and of the line
 -- it is so
 pub record AtLine (limit : ℕ) (lines : List (List ℕ)) (number : ℕ) (Is : Machine → List ℕ → Type 0) : Type 0 where
   pub front : List (List ℕ)
@@ -18,12 +18,12 @@ pub record AtLine (limit : ℕ) (lines : List (List ℕ)) (number : ℕ) (Is : M
   pub split : lines ≡ front ++ line ∷ rest
   pub count : length front + 1 ≡ number
   pub output : Output
-  pub runs : Runs limit opening 1 front output
+  pub runs : Runs (plain limit) opening 1 front output
   pub is : Is output.next line
 
 -- over the lines, this is written at the line of this number
 abbrev pub IsOutAt : ℕ → List (List ℕ) → ℕ → Output → Type 0
-IsOutAt limit lines number o = AtLine limit lines number (λ m line. LineOut limit m number line o)
+IsOutAt limit lines number o = AtLine limit lines number (λ m line. LineOut (plain limit) m number line o)
 
 -- the line opens a pin of this name, and is accepted
 abbrev pub IsOpened : Word → Machine → List ℕ → Type 0

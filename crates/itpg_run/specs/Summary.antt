@@ -6,6 +6,7 @@ use Rattle.std.specs.Io.KnownBytes.{Appends}
 use Rattle.itpg_base.specs.Outside.{AppendsSome}
 use Rattle.itpg_base.specs.declared.outside.Sink.{Ghosts as SinkGhosts}
 use Rattle.relation_rows.specs.Answered.{row_number}
+use Rattle.edit_reader.specs.Lines.{LineOf}
 use Rattle.itpg_session.specs.Replies.{Reply, Silent, Bad, Refused, Wide, Rows, Counted, Shown, OfPin, PerWatch, IsReply}
 use Rattle.itpg_session.specs.Machine.{Machine, Turn, opening, Replies}
 use Rattle.trial_script.specs.Script.{Asks, script}
@@ -57,7 +58,7 @@ pub record TellsAsked (limit : ℕ) (m : Machine) (k : ℕ) (line : List ℕ) (R
 pub record TellsNothing (limit : ℕ) (m : Machine) (line : List ℕ) (Rest : Machine → Type 0) : Type 0 where
   pub others : (query : List ℕ) → ¬ Asks line query
   pub turn : Turn
-  pub replies : Replies limit m line turn
+  pub replies : Replies limit m (LineOf line) turn
   pub goes_on : Rest turn.next
 
 -- what lines tell whose questions are numbered from here on

@@ -38,7 +38,7 @@ pub enum Status {
     #[error("done, and some line was bad, refused or wide")]
     DoneRefused,
     /// The words ask for nothing. Nothing was read or written.
-    #[error("usage: itpg [--max-rows N] [--trial NUMBER]")]
+    #[error("usage: itpg [--max-rows N] [--trial NUMBER] [--json]")]
     Usage,
     /// The source failed. The lines whose end was read were answered.
     #[error("read fault")]

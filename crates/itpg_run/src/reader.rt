@@ -1,18 +1,21 @@
 //! Lines out of bytes.
 //!
-//! A `Reader` has the session, the front of the line that is being read, its number, and whether a reply failed so far. It takes
+//! A `Reader` has the session, the form of its lines, the front of the line that is being read, its number, and whether a reply failed
+//! so far. It takes
 //! bytes as they come, has the session answer each line at its end, and touches no source.
 ghost use Rattle.std.specs.Prelude.{◌≡◌, ◌+◌, ◌-◌, ◌^◌, ◌≤◌, ◌<◌, [], ◌∷◌, ◌++◌, ◌||◌};
 ghost use Rattle.std.specs.Prelude.{take, length, false, true, IfOk, OnOk, OnErr, IfErr, IsErrOf, ℕ, List};
 ghost use Rattle.std.specs.declared.option.Option.{Option};
 ghost use Rattle.itpg_base.specs.Sinks.{GetsNothing, HasFailed};
-ghost use Rattle.itpg_session.specs.Machine.{opening};
-ghost use Rattle.itpg_session.specs.Steps.{StandsAs};
+ghost use Rattle.itpg_session.specs.Lines.{LineIs};
+ghost use Rattle.itpg_session.specs.Machine.{opening, Replies};
+ghost use Rattle.itpg_session.specs.Steps.{StandsAs, Stepped, StepsWithin};
 
 use crate::Status;
 use itpg_base::{Limits, Sink};
 use itpg_session::{Seen, Session, StepFault, law_of_fronts};
 use memchr::memchr;
+use row_printer::Form;
 use std::alloc::{AllocError, Global};
 
 /// How many first bytes of a line are kept. They have the same reply as the whole line.
@@ -20,10 +23,11 @@ pub(crate) const KEPT: usize = 65_538;
 
 const LINE_END: u8 = b'\n';
 
-/// A session, and the line that is being read: its number and its first bytes.
+/// A session, and the line that is being read: its form, its number and its first bytes.
 #[derive(Drop)]
 pub(crate) struct Reader {
     pub(crate) session: Session,
+    pub(crate) form: Form,
     pub(crate) line: Vec<u8>,
     pub(crate) number: u64,
     pub(crate) failing: bool,
@@ -31,7 +35,8 @@ pub(crate) struct Reader {
 }
 
 impl Reader {
-    pub(crate) fn new(alloc: Global, limits: Limits) -> Self
+    pub(crate) fn new(alloc: Global, form: Form, limits: Limits) -> Self
+        ensures form { result.form ≡ form }
         ensures session { StandsAs result.session opening limits }
         ensures line { result.line.items ≡ [] }
         ensures number { result.number ≡ 1 }
@@ -39,6 +44,7 @@ impl Reader {
     {
         Reader {
             session: Session::new(alloc, limits),
+            form,
             line: Vec::new(alloc),
             number: 1,
             failing: false,
@@ -50,9 +56,28 @@ impl Reader {
     ghost use Rattle.itpg_run.specs.Fed.{AnswersLineTo, AnswersWithinTo, EndsLineTo, EndsLastTo, EndsWithinTo, Feeds, FeedsTo, FinishesTo, StopsTo, StopsWholeTo, StopsWithinTo};
     ghost use Rattle.itpg_run.specs.Split.{NoEnd};
 
+    // Has the session take what is kept of the line.
+    fn step<K: Sink>(&mut self, out: &mut K) -> Result<Seen, StepFault>
+        ensures stepped { IfOk result (λ seen. Stepped K.Sink out.old out.new self.old.form (Replies self.old.session.limit self.old.session.machine (LineIs self.old.form self.old.line.items)) self.old.number self.old.session self.new.session seen) }
+        ensures form { self.new.form ≡ self.old.form }
+        ensures line { self.new.line.items ≡ self.old.line.items }
+        ensures number { self.new.number ≡ self.old.number }
+        ensures failing { self.new.failing ≡ self.old.failing }
+        ensures memory { IsErrOf result StepFault.Memory → GetsNothing K.Sink out.old out.new }
+        ensures write { IsErrOf result StepFault.Write → HasFailed K.Sink out.old out.new }
+        ensures some { IsErrOf result StepFault.Write → StepsWithin K.Sink out.old out.new self.old.form (Replies self.old.session.limit self.old.session.machine (LineIs self.old.form self.old.line.items)) self.old.number self.old.session }
+        ensures later { K.faults out.old ≤ K.faults out.new }
+    {
+        match self.form {
+            Form::Plain => self.session.step(self.number, &self.line, out),
+            Form::Json => self.session.step_json(self.number, &self.line, out),
+        }
+    }
+
     // Answers the line of which the front is kept.
     fn answer<K: Sink>(&mut self, out: &mut K) -> Result<Seen, StepFault>
         ensures answers { IfOk result (λ seen. AnswersLineTo K.Sink out.old out.new self.old self.new.session seen) }
+        ensures form { self.new.form ≡ self.old.form }
         ensures line { self.new.line.items ≡ self.old.line.items }
         ensures number { self.new.number ≡ self.old.number }
         ensures failing { self.new.failing ≡ self.old.failing }
@@ -62,7 +87,7 @@ impl Reader {
         ensures later { K.faults out.old ≤ K.faults out.new }
     {
         law_of_fronts();
-        let seen = self.session.step(self.number, &self.line, out)?;
+        let seen = self.step(out)?;
         Ok(seen)
     }
 

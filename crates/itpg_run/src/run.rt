@@ -3,7 +3,8 @@
 ghost use Rattle.std.specs.Prelude.{◌≡◌, ◌+◌, ◌-◌, ◌^◌, ◌≤◌, ◌<◌, ◌⊎◌, ℕ, List, [], Some, length, map, string_bytes, OnOk, IfErr, IsErrOf};
 ghost use Rattle.itpg_base.specs.Outside.{Rose};
 ghost use Rattle.itpg_base.specs.Sinks.{HasFailed};
-ghost use Rattle.itpg_run.specs.Served.{Serves, BeginsTo, EndsWell, Idles, AskForScript, AskForTrial, AskForSome, longest};
+ghost use Rattle.itpg_run.specs.Served.{Serves, BeginsTo, EndsWell, Idles, AskForScript, AskForTrial, AskForSome, is_json, longest};
+ghost use Rattle.itpg_run.specs.Out.{Mode, mode_at};
 ghost use Rattle.itpg_run.specs.Tried.{Tries, WritesSummaryTo};
 ghost use Rattle.itpg_run.specs.Pumped.{PumpsAll, PumpsTo};
 
@@ -13,6 +14,7 @@ use crate::trial::run_trial;
 use command_words::{WordsFault, law_of_one_reading, read_words};
 use itpg_base::{Failed, Limits, Sink, Source};
 use itpg_session::{StepFault, law_of_replies};
+use row_printer::Form;
 use std::alloc::Global;
 
 // How many bytes a script may have.
@@ -23,8 +25,8 @@ const CHUNK: usize = 65_536;
 
 /// Does all that the program does: reads a script from the source and writes the plain machine's output to the sink.
 ///
-/// `words` are the command line's words without the program's name: `[--max-rows N] [--trial NUMBER]`. The limit of rows that
-/// they ask for is the machine's. If they ask for a trial, nothing is read, and the summary of the trial is written in place of
+/// `words` are the command line's words without the program's name: `[--max-rows N] [--trial NUMBER] [--json]`. The limit of rows that
+/// they ask for is the machine's, and the lines and their replies are of JSON if they ask for that. If they ask for a trial, nothing is read, and the summary of the trial is written in place of
 /// an output. The output over a script is the replies of the plain machine to its lines, numbered from 1 (`docs/PROVED.md`).
 /// [`Status`] says what each status means. Whatever it is, what was written begins the output over all that the source had, or
 /// the summary. Every call returns, on every source.
@@ -35,7 +37,7 @@ pub fn serve<S: Source, K: Sink>(
     sink: &mut K,
 ) -> Status
     // The table of what was taken and written at each status.
-    ensures served { (limit : ℕ) → AskForScript (map string_bytes words.entry.now) limit → Serves S.Source K.Sink source.old sink.old source.new sink.new result limit }
+    ensures served { (mode : Mode) → AskForScript (map string_bytes words.entry.now) mode → Serves S.Source K.Sink source.old sink.old source.new sink.new result mode }
 
     // With a trial: the source stays as it is, and what was written of the summary at each status.
     ensures tried { (limit number : ℕ) → AskForTrial (map string_bytes words.entry.now) limit number → Tries S.Source K.Sink source.old sink.old source.new sink.new result limit number }
@@ -48,7 +50,7 @@ pub fn serve<S: Source, K: Sink>(
     ensures usage { result ≡ Status.Usage → ¬ AskForSome (map string_bytes words.entry.now) }
 
     // Whatever the status, a front part of the output over all that the source had was written.
-    ensures each { (limit : ℕ) → AskForScript (map string_bytes words.entry.now) limit → BeginsTo S.Source K.Sink source.old sink.old sink.new limit }
+    ensures each { (mode : Mode) → AskForScript (map string_bytes words.entry.now) mode → BeginsTo S.Source K.Sink source.old sink.old sink.new mode }
 
     // A fault is told only if its device's count rose in this call.
     ensures read { result ≡ Status.ReadFault → Rose (S.faults source.old) (S.faults source.new) }
@@ -61,7 +63,7 @@ pub fn serve<S: Source, K: Sink>(
     law_of_one_reading();
     match read_words(alloc, words) {
         Ok(options) => match options.trial {
-            None => run_script(alloc, options.limits, source, sink),
+            None => run_script(alloc, form_of(options.json), options.limits, source, sink),
             Some(number) => run_number(alloc, options.limits, number, sink),
         },
         Err(WordsFault::Usage) => Status::Usage,
@@ -69,23 +71,31 @@ pub fn serve<S: Source, K: Sink>(
     }
 }
 
-// The same for words that ask for a script, with their limit.
+// The form of the lines, where the words ask for lines of JSON or don't.
+fn form_of(json: bool) -> Form
+    ensures { is_json result ≡ json }
+{
+    if json { Form::Json } else { Form::Plain }
+}
+
+// The same for words that ask for a script, with their form and limit.
 fn run_script<S: Source, K: Sink>(
     alloc: Global,
+    form: Form,
     limits: Limits,
     source: &mut S,
     sink: &mut K,
 ) -> Status
-    ensures served { Serves S.Source K.Sink source.old sink.old source.new sink.new result limits }
+    ensures served { Serves S.Source K.Sink source.old sink.old source.new sink.new result (mode_at form limits) }
     ensures usage { result ≡ Status.Usage → ⊥ }
-    ensures each { BeginsTo S.Source K.Sink source.old sink.old sink.new limits }
+    ensures each { BeginsTo S.Source K.Sink source.old sink.old sink.new (mode_at form limits) }
     ensures read { result ≡ Status.ReadFault → Rose (S.faults source.old) (S.faults source.new) }
     ensures write { result ≡ Status.WriteFault → HasFailed K.Sink sink.old sink.new }
     ensures complete { (all : List ℕ) → S.left source.old ≡ Some all → length all ≤ longest
         → ¬ Rose (S.faults source.old) (S.faults source.new) → ¬ HasFailed K.Sink sink.old sink.new → EndsWell result }
 {
     law_of_replies();
-    let mut reader = Reader::new(alloc, limits);
+    let mut reader = Reader::new(alloc, form, limits);
     match pump(&mut reader, source, sink) {
         Ok(()) => reader.finish(sink),
         Err(status) => status,

@@ -44,5 +44,5 @@ take_piece-requires g c =
 
 pub returns-in_err-take_piece-clause-memory : goal.returns-in_err-take_piece-clause-memory
 returns-in_err-take_piece-clause-memory g c = λ is.
-    stops_whole_then _ _ _ _ _ c.loop-end.invariant.done c.loop-end.rest.now [] _ c.loop-end.invariant.fed (λ limit start bytes s. fed_whole limit start _ _ _ bytes _ s (Keeps-refl _))
+    stops_whole_then _ _ _ _ _ c.loop-end.invariant.done c.loop-end.rest.now [] _ c.loop-end.invariant.fed (λ mode start bytes s. fed_whole mode start _ _ _ bytes _ s (Keeps-refl _))
     (ap (λ t. c.loop-end.invariant.done ++ t) (append-nil c.loop-end.rest.now) ∙ c.loop-end.invariant.split)

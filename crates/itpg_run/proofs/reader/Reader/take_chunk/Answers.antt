@@ -8,21 +8,21 @@ use Rattle.itpg_run.proofs.reader.Reader.take_chunk.Goals as goal
 pub returns-in-Ok-clause-stops : goal.returns-in-Ok-clause-stops
 returns-in-Ok-clause-stops g c = (
   search rules,
-  λ limit start bytes s.
+  λ mode start bytes s.
       let e : c.min.result ≡ c.args.room = omega arith in
-      subst (λ n. WritesOut limit start (g.K.Sink.held c.feed.new.out) (whole (bytes ++ take n c.args.bytes.now))) e (fed_out_whole limit start _ _ _ (c.in-Ok.ensures.fed limit start bytes s)),
+      subst (λ n. WritesOut mode start (g.K.Sink.held c.feed.new.out) (whole (bytes ++ take n c.args.bytes.now))) e (fed_out_whole mode start _ _ _ (c.in-Ok.ensures.fed mode start bytes s)),
 )
 
 pub returns-in-Err-Memory-clause-stops : goal.returns-in-Err-Memory-clause-stops
-returns-in-Err-Memory-clause-stops g c = λ limit start bytes s.
+returns-in-Err-Memory-clause-stops g c = λ mode start bytes s.
     let xs = c.args.bytes.now in
     let n = c.min.result in
     let stops : StopsWhole (g.K.Sink.held c.args.out.now) (g.K.Sink.held c.feed.new.out) c.args.self.now (take c.min.result c.args.bytes.now) = search rules in
-    writes_longer limit start _ (bytes ++ take n xs) (drop n xs) _ (stops limit start bytes s) (append_assoc bytes (take n xs) (drop n xs) ∙ ap (λ t. bytes ++ t) (take-append-drop n xs))
+    writes_longer mode start _ (bytes ++ take n xs) (drop n xs) _ (stops mode start bytes s) (append_assoc bytes (take n xs) (drop n xs) ∙ ap (λ t. bytes ++ t) (take-append-drop n xs))
 
 pub returns-in-Err-Write-clause-stops : goal.returns-in-Err-Write-clause-stops
-returns-in-Err-Write-clause-stops g c = λ limit start bytes s rest.
+returns-in-Err-Write-clause-stops g c = λ mode start bytes s rest.
     let xs = c.args.bytes.now in
     let n = c.min.result in
     let stops : StopsWithin (g.K.Sink.held c.args.out.now) (g.K.Sink.held c.feed.new.out) c.args.self.now (take c.min.result c.args.bytes.now) = search rules in
-    subst (λ t. WritesWithin limit start (g.K.Sink.held c.feed.new.out) (bytes ++ t)) (sym (append_assoc (take n xs) (drop n xs) rest) ∙ ap (λ t. t ++ rest) (take-append-drop n xs)) (stops limit start bytes s (drop n xs ++ rest))
+    subst (λ t. WritesWithin mode start (g.K.Sink.held c.feed.new.out) (bytes ++ t)) (sym (append_assoc (take n xs) (drop n xs) rest) ∙ ap (λ t. t ++ rest) (take-append-drop n xs)) (stops mode start bytes s (drop n xs ++ rest))

@@ -9,4 +9,4 @@ returns-in-Ok-clause-fed c = λ held.
     let piece = c.args.piece.now in
     let added : c.extend_from_slice.new.self.items ≡ line ++ take c.min.result piece = search rules in
     let room : c.min.result ≡ min (65538 - length line) (length piece) = omega arith in
-    feeds_piece held _ _ piece c.requires refl refl refl (added ∙ keeps line piece c.min.result c.args.self.now.short room)
+    feeds_piece held _ _ piece c.requires refl refl refl refl (added ∙ keeps line piece c.min.result c.args.self.now.short room)
