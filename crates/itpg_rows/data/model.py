@@ -1,7 +1,7 @@
 #!/usr/bin/env python3
 """A second opinion on the scripts beside it: the plain machine, worked out moment by moment.
 
-    model.py SCRIPT [LIMIT]     writes what the script must write
+    model.py SCRIPT [LIMIT] [--json]     writes what the script must write
     model.py                    tries each script of this folder against its NAME.out and NAME.status, and the files
                                 of the folder examples/ at the top, which are copies of files here
 
@@ -11,7 +11,8 @@ the five conditions of a normal list; wide is told by the rows of each worked me
 than MOST_MOMENTS. A watch keeps the relation that the last tick worked out, and what was gained and lost are the points that
 one relation leads to and the other doesn't. A `first` or `last` tries each pair of a relation, a `count` each object at each
 moment. A pin keeps a whole copy of the graph. A `near` makes the graph near its object anew, asks there what is wide, and takes its
-rows from the whole graph. Trials are worked out by `trial_model.py`, but for those with a limit of rows.
+rows from the whole graph. Trials are worked out by `trial_model.py`, but for those with a limit of rows, and lines of JSON are read
+and written by `json_model.py`.
 """
 import copy
 import functools
@@ -21,6 +22,7 @@ import re
 import sys
 
 sys.dont_write_bytecode = True
+import json_model  # noqa: E402
 import trial_model  # noqa: E402
 
 MOST_MOMENTS = 10_001
@@ -990,25 +992,35 @@ class Machine:
         return f"{names[0]} {low}..{high} {names[1]} {shown[0]}..{shown[1]}"
 
 
-def run(script, limit=100_000):
-    """What the script must write, and the exit status."""
+def plain_line(line):
+    """The plain line that asks for what a line of JSON asks for."""
+    try:
+        return json_model.plain_line(line)
+    except json_model.Bad as bad:
+        raise Fault(bad.code) from None
+
+
+def run(script, limit=100_000, is_json=False):
+    """What the script must write, and the exit status. The script and its output are lines of JSON if that is asked for."""
     machine, output, status = Machine(limit), [], 0
     lines = script.split(b"\n")
     for number, line in enumerate(lines if lines[-1] else lines[:-1], start=1):
         try:
-            reply = machine.reply(number, line)
+            reply = machine.reply(number, plain_line(line) if is_json else line)
             failing = any(text.endswith(" wide") for text in reply)
         except Fault as fault:
             reply, failing = [f"line {number} {fault.reply}"], True
         output += reply
         status = status or int(failing)
+    if is_json:
+        output = json_model.json_output(output)
     return "".join(line + "\n" for line in output).encode(), status
 
 
 def stale_copies(folder):
-    """The names of the scripts and outputs in examples/ that aren't the same as here."""
-    examples = sorted(path for path in (folder.parents[2] / "examples").iterdir() if path.suffix in (".itpg", ".out"))
-    return [path.name for path in examples if path.read_bytes() != (folder / path.name).read_bytes()]
+    """The names of the scripts and outputs in examples/ that aren't the same as here, where a script .jsonl has the ending .itpg."""
+    examples = sorted(path for path in (folder.parents[2] / "examples").iterdir() if path.suffix in (".itpg", ".jsonl", ".out"))
+    return [path.name for path in examples if path.read_bytes() != (folder / path.name.replace(".jsonl", ".itpg")).read_bytes()]
 
 
 def script_of(path):
@@ -1028,16 +1040,20 @@ def number_in(path, otherwise):
 
 
 def options_in(words):
-    """The limit of rows and the trial that the words ask for; None where they are no sentence."""
+    """The limit of rows and the trial that the words ask for, and whether for lines of JSON; None where they are no sentence."""
     values = {}
     while words:
         name, equals, value = words[0].partition("=")
-        value, words = (value, words[1:]) if equals else (words[1] if words[1:] else "", words[2:])
-        if name not in ("--max-rows", "--trial") or name in values or not re.fullmatch("[0-9]{1,20}", value):
+        is_flag = words[0] == "--json"
+        if is_flag or equals:
+            value, words = "1" if is_flag else value, words[1:]
+        else:
+            value, words = words[1] if words[1:] else "", words[2:]
+        if not is_flag and name not in ("--max-rows", "--trial") or name in values or not re.fullmatch("[0-9]{1,20}", value):
             return None
         values[name] = int(value)
     limit, trial = values.get("--max-rows", 100_000), values.get("--trial")
-    return (limit, trial) if 1 <= limit <= 1_000_000 and (trial or 0) < 2**64 else None
+    return (limit, trial, "--json" in values) if 1 <= limit <= 1_000_000 and (trial or 0) < 2**64 else None
 
 
 def run_with(path):
@@ -1046,9 +1062,9 @@ def run_with(path):
     options = options_in(words.read_text().split("\n")[:-1] if words.exists() else [])
     if options is None:
         return b"", 2
-    limit, trial = options
+    limit, trial, is_json = options
     if trial is None:
-        return run(script_of(path), number_in(path.with_suffix(".limit"), limit))
+        return run(script_of(path), number_in(path.with_suffix(".limit"), limit), is_json)
     if limit == 100_000:
         return trial_model.summary(trial), 0
     raise TooLong
@@ -1079,7 +1095,8 @@ def try_all(folder):
 def main():
     if len(sys.argv) == 1:
         return try_all(pathlib.Path(__file__).resolve().parent)
-    output, status = run(script_of(pathlib.Path(sys.argv[1])), int(sys.argv[2]) if len(sys.argv) > 2 else 100_000)
+    words = [word for word in sys.argv[1:] if word != "--json"]
+    output, status = run(script_of(pathlib.Path(words[0])), int(words[1]) if words[1:] else 100_000, "--json" in sys.argv)
     sys.stdout.buffer.write(output)
     return status
 

@@ -62,6 +62,42 @@ impl Case {
         })
     }
 
+    /// The script's bytes.
+    pub fn script(&self) -> &[u8] {
+        &self.script
+    }
+
+    /// The bytes that it must write.
+    pub fn output(&self) -> &[u8] {
+        &self.output
+    }
+
+    /// The status that it must end with.
+    pub fn status(&self) -> u32 {
+        self.status
+    }
+
+    /// The words that ask for lines of JSON and else for the same; `None` for a trial, and where they ask for JSON already.
+    pub fn json_words(&self, alloc: Global) -> Result<Option<Vec<String>>, AllocError> {
+        let mut words = Vec::new(alloc);
+        match &self.way {
+            Way::Served(plain) => {
+                for word in plain {
+                    if word.as_str().starts_with("--trial") || word.as_str().starts_with("--json") {
+                        return Ok(None);
+                    }
+                    words.push(word.clone()?)?;
+                }
+            }
+            Way::Stepped(limits) => {
+                let rows = limits.max_rows();
+                words.push(format!(in alloc; "--max-rows={rows}")?)?;
+            }
+        }
+        words.push(String::from_str(alloc, "--json")?)?;
+        Ok(Some(words))
+    }
+
     /// Runs the script, and says how the run differed from what it must be, if it did.
     pub fn difference(&self, alloc: Global) -> Result<Option<Difference>, AllocError> {
         let mut sink = sink_for(alloc, self.output.len())?;

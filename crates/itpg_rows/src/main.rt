@@ -3,13 +3,17 @@
 //! `NAME.itpg` is a script, or `NAME.made` makes it, and `NAME.out` has the bytes that it must write; `NAME.status` is the status as a
 //! number, 0 where it is missing. It goes through `serve` with the words of `NAME.words`, one a line; where there is a `NAME.limit`, it goes line by
 //! line through a session with this limit of rows. The folder is the first word of this program, or else the one that it is
-//! run in. A script as long as it may be and one that is longer by a byte are made here. Then come the runs over devices that fail.
+//! run in. A script as long as it may be and one that is longer by a byte are made here. Then each plain script is run as lines of JSON,
+//! and its replies are compared with the plain ones. Then come the runs over devices that fail.
 #![tactic(auto)]
 
 mod case;
 mod devices;
+mod json_lines;
+mod json_script;
 mod longest;
 mod made;
+mod plain_reply;
 mod runs;
 
 use anyhow::Result;
@@ -36,6 +40,7 @@ fn main(rt: HostRuntime) -> Result<()> {
     }
     let count = names.len().saturating_add(longest::SCRIPTS.len());
     println!(rt; "{count} scripts, {differing} differ")?;
+    json_lines::compare_scripts(&rt, folder.as_str(), &names)?;
     devices::compare_rows(&rt, folder.as_str())
 }
 

@@ -4,7 +4,7 @@ ghost use Rattle.std.specs.Prelude.{IfOk};
 ghost use Rattle.itpg_edit.specs.Sites.{HasMoments};
 
 use anyhow::{Context, Result, bail};
-use edit_reader::{Line, read_line};
+use edit_reader::{Line, read_line, room};
 use interval_set::{IntervalSet, ValuedSet};
 use itpg_base::{LabelSet, Name, ObjNo, Touch};
 use itpg_edit::{Edit, EditFault, apply};
@@ -59,8 +59,9 @@ pub fn compare(rt: &HostRuntime) -> Result<()> {
 fn edit_of(line: &str) -> Result<Edit>
     ensures { IfOk result HasMoments }
 {
-    match &read_line(line.as_bytes()) {
-        Ok(Line::Edit(edit)) => Ok(*edit),
+    let mut room = room();
+    match &read_line(line.as_bytes(), &mut room) {
+        Ok(Line::Edit(edit)) => Ok(**edit),
         _ => bail!("{line:?} is no edit"),
     }
 }

@@ -1,7 +1,7 @@
 //! The table of script lines with what each asks for.
 
 use anyhow::{Context, Result, bail};
-use edit_reader::{Line, read_line};
+use edit_reader::{Line, read_line, room};
 use itpg_base::{LabelSet, Name};
 use itpg_edit::Edit;
 use std::alloc::Global;
@@ -56,7 +56,8 @@ fn add_bytes(line: &mut Vec<u8>, piece: &str) -> Result<()> {
 
 // What the line is read as, in the words of the table.
 fn describe(alloc: Global, line: &[u8]) -> Result<String> {
-    match &read_line(line) {
+    let mut room = room();
+    match &read_line(line, &mut room) {
         Ok(Line::Blank) => Ok(format!(in alloc; "blank")?),
         Ok(Line::Edit(edit)) => describe_edit(alloc, edit),
         Ok(Line::Ask(query)) => {

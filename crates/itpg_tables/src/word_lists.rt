@@ -1,7 +1,7 @@
 //! Compares `read_words` with what was worked out by hand.
 //!
 //! `data/word_lists.txt` has lists of words, each word with a comma behind it, and on the line behind each list what it gives:
-//! the limit of rows and the trial, or `usage`.
+//! the limit of rows, the trial and `json` if lines are JSON, or `usage`.
 
 use anyhow::Result;
 use command_words::{Options, WordsFault, read_words};
@@ -44,9 +44,10 @@ fn answer(alloc: Global, list: &str) -> Result<String> {
 
 fn told(alloc: Global, options: &Options) -> Result<String, AllocError> {
     let rows = options.limits.max_rows();
+    let json = if options.json { " json" } else { "" };
     match options.trial {
-        Some(trial) => format!(in alloc; "rows {rows} trial {trial}"),
-        None => format!(in alloc; "rows {rows} trial none"),
+        Some(trial) => format!(in alloc; "rows {rows} trial {trial}{json}"),
+        None => format!(in alloc; "rows {rows} trial none{json}"),
     }
 }
 

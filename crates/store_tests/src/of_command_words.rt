@@ -6,7 +6,7 @@ fn faults_are_told(rt: HostRuntime) {
     let usage = WordsFault::Usage
         .to_string(rt.alloc())
         .expect(&rt, "memory");
-    assert!(rt; usage.as_str() == "usage: itpg [--max-rows N] [--trial NUMBER]");
+    assert!(rt; usage.as_str() == "usage: itpg [--max-rows N] [--trial NUMBER] [--json]");
     let memory = WordsFault::Memory
         .to_string(rt.alloc())
         .expect(&rt, "memory");
