@@ -1,11 +1,16 @@
 #!/usr/bin/env python3
 """Writes the script that ingest is measured over: so many nodes, as many edges, their lives and values, and a question.
 
-    bench/ingest_script.py NODES > SCRIPT
+    bench/ingest_script.py NODES [--json] > SCRIPT
 
-Every line is accepted. `crates/itpg_bench` makes the same script.
+Every line is accepted. `crates/itpg_bench` makes the same script. With --json it is lines of JSON.
 """
+import pathlib
 import sys
+
+sys.dont_write_bytecode = True
+sys.path.insert(0, str(pathlib.Path(__file__).resolve().parent.parent / "crates/itpg_rows/data"))
+import json_model  # noqa: E402
 
 LAST = 999_999
 
@@ -43,5 +48,11 @@ def output(nodes):
     return f"line {count} rows {len(rooms)}\n{rows}".encode()
 
 
+def json_output(nodes):
+    """The same as lines of JSON."""
+    return "".join(line + "\n" for line in json_model.json_output(output(nodes).decode().splitlines())).encode()
+
+
 if __name__ == "__main__":
-    sys.stdout.buffer.write(script(int(sys.argv[1])))
+    written = script(int(sys.argv[1]))
+    sys.stdout.buffer.write(json_model.json_script(written) if "--json" in sys.argv else written)

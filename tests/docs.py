@@ -5,11 +5,12 @@
 
 It proves nothing and builds nothing. It prints what differs and `N shown, M differ`, and its exit status is 1 if M is above 0.
 
-Compared are each `examples/NAME.itpg` with its `NAME.out`, and what README.md, examples/*.md and docs/*.md show by these conventions:
+Compared are each `examples/NAME.itpg` and `NAME.jsonl` with its `NAME.out`, and what README.md, examples/*.md and docs/*.md show by these conventions:
 
 - A block whose line begins with `$ ./itpg` shows a command. The lines up to the next `$` are its whole output. A line `..` stands
-  for any number of lines that the page leaves out.
-- The page's script is the last file .itpg that it named outside a table, by a path from the top or from the page's folder. A command
+  for any number of lines that the page leaves out. What stands behind a `|` gets the output, if it is installed.
+- A script of lines of JSON is a file .jsonl, or a block whose lines have a member `op` first. It is run with `--json`.
+- The page's script is the last file .itpg or .jsonl that it named outside a table, by a path from the top or from the page's folder. A command
   without a script has none, and its words are those of the page's script from then on.
 - A block that begins with a reply (`line 12 rows 3`, `tick w wide`) is a part of that script's output. If the paragraph directly
   above it ends with a line `ask ..`, `near ..` and so on as code, or the block directly above it is one, that is line 12 of the
@@ -28,6 +29,7 @@ import difflib
 import pathlib
 import re
 import shlex
+import shutil
 import subprocess
 import sys
 
@@ -35,7 +37,9 @@ TOP = pathlib.Path(__file__).resolve().parent.parent
 ASKS = "ask", "first", "last", "count", "in", "near"
 EDITS = "graph", "extend", "node", "edge", "live", "gone", "set", "unset", "drop"
 COMMANDS = {*EDITS, *ASKS, "watch", "show", "unwatch", "tick", "open", "close", "follow", "unfollow"}
-REPLY = re.compile(r"(line \d+ (rows \d+|counts \d+|wide|bad \w+|refused \w+)|tick (?!NAME\b)\w+ (gained \d+ lost \d+|wide)|ask \d (rows|wide)\b.*)$")
+REPLY = re.compile(r"(line \d+ (rows \d+|counts \d+|wide|bad \w+|refused \w+)|tick (?!NAME\b)\w+ (gained \d+ lost \d+|wide)|ask \d (rows|wide)\b.*"
+                   r'|\{"(line":\d|tick":"(?!NAME")).*)$')
+OBJECT = '{"op":'  # how a line of JSON begins
 CODE = re.compile(r"(bad|refused) [a-z]+$")
 CODES_IN_A_ROW = re.compile(r"`[^`]+`(?:, `[^`]+`)*")
 SPAN = re.compile(r"`([^`]+)`")
@@ -103,6 +107,13 @@ def fits(shown, written):
     return True
 
 
+def piped(words, lines):
+    """What a command makes of these lines; without words, the lines."""
+    if not words:
+        return lines
+    return subprocess.run(words, input="".join(f"{line}\n" for line in lines), stdout=subprocess.PIPE, text=True, timeout=SECONDS).stdout.splitlines()
+
+
 def near(shown, written):
     """The part of the output that a page means: it begins as the first shown line does."""
     head = " ".join(shown[0].split()[:2])
@@ -118,8 +129,13 @@ def is_taken_from(lines, script):
     return all(any(line == other for other in rest) for line in lines)
 
 
+def words_of(path):
+    """The words that a script is run with by itself."""
+    return ["--json"] if path.suffix == ".jsonl" else []
+
+
 def is_script(lines):
-    return all(line.startswith("#") or line.split(" ")[0] in COMMANDS for line in lines)
+    return all(line.startswith(OBJECT) for line in lines) or all(line.startswith("#") or line.split(" ")[0] in COMMANDS for line in lines)
 
 
 def cells_of(row):
@@ -191,10 +207,10 @@ class Page:
     # What the page's script is
 
     def name(self, text):
-        for found in re.findall(r"[\w./-]+\.itpg\b", text):
+        for found in re.findall(r"[\w./-]+\.(?:itpg|jsonl)\b", text):
             for folder in (TOP, self.path.parent):
                 if (folder / found).is_file() and (folder / found) != self.script:
-                    self.script, self.words = folder / found, []
+                    self.script, self.words = folder / found, words_of(folder / found)
 
     def script_lines(self):
         return [line.rstrip("\r") for line in self.script.read_bytes().decode("ascii", "replace").split("\n")]
@@ -226,8 +242,9 @@ class Page:
                 commands[-1][1].append(line)
         for command, shown in commands:
             words, _, file = command.partition("<")
-            words = shlex.split(words)
-            if words[0] != "./itpg":
+            file, *pipe = file.split("|", 1)
+            words, pipe = shlex.split(words), shlex.split("".join(pipe))
+            if words[0] != "./itpg" or pipe and not shutil.which(pipe[0]):
                 continue
             script = b""
             if file.strip():
@@ -238,7 +255,7 @@ class Page:
                     continue
                 script = self.script.read_bytes()
             if shown:
-                self.report.compare(f"{where} $ {command}", shown, self.program.output(words[1:], script))
+                self.report.compare(f"{where} $ {command}", shown, piped(pipe, self.program.output(words[1:], script)))
 
     def read_block(self, where, lines):
         self.end_own()
@@ -251,7 +268,7 @@ class Page:
         if self.script and is_taken_from(lines, self.script_lines()):
             self.report.shown += 1
         else:
-            self.own = where, list(self.limit), lines
+            self.own = where, [*self.limit, *["--json"] * lines[0].startswith(OBJECT)], lines
 
     def read_replies(self, where, lines):
         if self.own:
@@ -312,11 +329,11 @@ class Page:
 
 
 def examples(program, report):
-    for script in sorted((TOP / "examples").glob("*.itpg")):
+    for script in sorted([*(TOP / "examples").glob("*.itpg"), *(TOP / "examples").glob("*.jsonl")]):
         out = script.with_suffix(".out")
         where = str(script.relative_to(TOP))
         if out.is_file():
-            report.compare(where, out.read_text().splitlines(), program.output([], script.read_bytes()))
+            report.compare(where, out.read_text().splitlines(), program.output(words_of(script), script.read_bytes()))
         else:
             report.fail(where, f"has no {out.name} beside it")
 

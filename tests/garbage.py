@@ -1,11 +1,15 @@
 #!/usr/bin/env python3
 """Feeds the program garbage and checks what can be checked. It proves nothing and builds nothing.
 
-    tests/garbage.py PROGRAM [--cases N] [--seed S] [--minutes M]
+    tests/garbage.py PROGRAM [--json] [--cases N] [--seed S] [--minutes M]
 
 A case is a line of random bytes, a line of the grammar's words and marks at random, a good line with tokens left out, doubled,
 swapped or replaced, or a worked script of `crates/itpg_rows/data` with bytes dropped, doubled, swapped or replaced. Lines run by
 the hundred behind a small graph. It ends after N cases (100,000 unless given) or M minutes (5).
+
+With --json the scripts are lines of JSON: random bytes, objects with members at random, good objects and plain lines in `text` objects
+with tokens of JSON changed, and the worked scripts as lines of JSON with bytes changed. What a line asks for, or its fault as JSON, is
+read by `crates/itpg_rows/data/json_model.py`, and replies are taken in the plain form by their members.
 
 - The status is 0 exactly if no reply is bad, refused or wide, and else 1.
 - The replies rise by line, and each is one that the reference allows for its line's first word (`docs/REFERENCE.md`).
@@ -14,6 +18,7 @@ the hundred behind a small graph. It ends after N cases (100,000 unless given) o
 
 It prints what differs, and its exit status is 1 if something does."""
 import argparse
+import json
 import pathlib
 import random
 import re
@@ -27,6 +32,8 @@ TOP = pathlib.Path(__file__).resolve().parent.parent
 DATA = TOP / "crates/itpg_rows/data"
 sys.dont_write_bytecode = True
 sys.path[:0] = [str(DATA), str(TOP / "tests")]
+import garbage_json  # noqa: E402
+import json_model  # noqa: E402
 import kept  # noqa: E402
 import model  # noqa: E402
 
@@ -111,9 +118,11 @@ class Hostile:
         kinds = [self.noise, self.words, self.bent, self.bent]
         return GRAPH.encode() + b"".join(self.random.choice(kinds)() + b"\n" for _ in range(LINES))
 
-    def script(self):
+    def script(self, is_json=False):
         script = self.random.choice(self.worked)
-        other = lambda: self.random.choice([self.random.randrange(256), *b" \n'()/-0129"])  # noqa: E731
+        if is_json:
+            script = json_model.json_script(script) or script
+        other = lambda: self.random.choice([self.random.randrange(256), *b" \n'()/-0129", *b'{}[]:,"\\' * is_json])  # noqa: E731
         return bytes(self.bend(script, other, [1, 2, 4, 8, 20]))
 
 
@@ -136,6 +145,14 @@ def first_word(line):
     line = line.removesuffix(b"\r").lstrip(b" \t")
     word = re.match(rb"[A-Za-z][A-Za-z0-9_]*", line)
     return "" if not line or line[:1] == b"#" else word[0].decode() if word and word[0].decode() in RULES else None
+
+
+def plain_of(line):
+    """The plain line that asks for what a line of JSON does, or the code of its fault as JSON."""
+    try:
+        return json_model.plain_line(line)
+    except json_model.Bad as bad:
+        return bad.code
 
 
 def is_allowed(command, line, reply):
@@ -168,32 +185,44 @@ def replies_of(output):
     return found
 
 
-def run(program, limit, script):
-    ran = subprocess.run([program, "--max-rows", str(limit)], input=script, capture_output=True, timeout=60)
+def plain_output(output):
+    """An output of lines of JSON in the plain form."""
+    try:
+        return "".join(json_model.plain_text(json.loads(line)) + "\n" for line in output.decode().splitlines()).encode()
+    except (ValueError, KeyError, AttributeError) as wrong:
+        raise Wrong(f"no reply of JSON: {wrong}") from None
+
+
+def run(program, limit, script, is_json=False):
+    ran = subprocess.run([program, "--max-rows", str(limit), *["--json"] * is_json], input=script, capture_output=True, timeout=60)
     insist(ran.returncode in (0, 1), f"the status is {ran.returncode}")
-    return ran.returncode, ran.stdout, replies_of(ran.stdout)
+    return ran.returncode, ran.stdout, replies_of(plain_output(ran.stdout) if is_json else ran.stdout)
 
 
-def check(program, limit, script):
+def check(program, limit, script, is_json=False):
     """Checks a script. Says whether the model had an answer."""
     lines = lines_of(script)
-    status, output, replies = run(program, limit, script)
+    status, output, replies = run(program, limit, script, is_json)
     numbers = [number for number, _ in replies if number]
     insist(numbers == sorted(set(numbers)) and all(number <= len(lines) for number in numbers), "the numbers of lines don't rise")
     insist(status == any(head.endswith("wide") or head.startswith(("bad", "refused")) for _, (head, *_) in replies), f"the status is {status}")
     answered = dict((number, head) for number, (head, *_) in replies if number)
     for number, line in enumerate(lines, 1):
+        line = plain_of(line) if is_json else line
+        if isinstance(line, str):
+            insist(answered.get(number) == f"bad {line}", f"line {number} is bad {line}: {answered.get(number, 'no reply')}")
+            continue
         command = first_word(line)
         allowed = is_allowed(command, line, answered[number]) if number in answered else command in {"", *RULES} - set(ANSWERED)
         insist(allowed, f"line {number} {line[:80]!r}: {answered.get(number, 'no reply')}")
     gone = {number for number, head in answered.items() if head.startswith(("bad", "refused"))}
     left = [number for number in range(1, len(lines) + 1) if number not in gone]
-    again = run(program, limit, b"".join(lines[number - 1] + b"\n" for number in left))[2]
+    again = run(program, limit, b"".join(lines[number - 1] + b"\n" for number in left), is_json)[2]
     again = [(number and left[number - 1], rows) for number, rows in again]
     insist(again == [(number, rows) for number, rows in replies if number not in gone], "without its bad and refused lines it gives other replies")
     try:
         signal.setitimer(signal.ITIMER_REAL, 2)
-        wanted = model.run(script, limit)
+        wanted = model.run(script, limit, is_json)
     except (model.TooLong, RecursionError):
         return False
     finally:
@@ -214,6 +243,7 @@ def too_slow(*_):
 def main():
     parser = argparse.ArgumentParser()
     parser.add_argument("program")
+    parser.add_argument("--json", action="store_true")
     for word, value in (("cases", 100_000), ("seed", 0), ("minutes", 5)):
         parser.add_argument(f"--{word}", type=int, default=value)
     options = parser.parse_args()
@@ -222,16 +252,16 @@ def main():
     cases = lines = scripts = modelled = differ = 0
     while cases < options.cases and time.monotonic() < end:
         of_lines = (lines + scripts) % 10 == 0
-        script = hostile.lines() if of_lines else hostile.script()
+        script = (garbage_json.lines(hostile, GRAPH.encode(), GOOD) if options.json else hostile.lines()) if of_lines else hostile.script(options.json)
         lines, scripts, cases = lines + of_lines, scripts + (not of_lines), cases + (LINES if of_lines else 1)
         limit = [3, 20, 100_000][(lines + scripts) % 3]
         try:
-            modelled += check(options.program, limit, script)
+            modelled += check(options.program, limit, script, options.json)
         except (Wrong, subprocess.TimeoutExpired) as wrong:
             differ += 1
             name = pathlib.Path(tempfile.gettempdir()) / f"garbage_{options.seed}_{cases}.itpg"
             name.write_bytes(script)
-            print(f"--max-rows {limit} < {name}: {wrong}")
+            print(f"{'--json ' * options.json}--max-rows {limit} < {name}: {wrong}")
     print(f"{cases} cases in {lines} scripts of lines and {scripts} worked ones, {modelled} compared with the model, {differ} differ")
     return 1 if differ else 0
 

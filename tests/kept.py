@@ -1,14 +1,15 @@
 #!/usr/bin/env python3
 """Tries whether what the program keeps across edits changes a reply. It proves nothing and builds nothing.
 
-    tests/kept.py PROGRAM [--scripts N] [--from SEED] [--edits M] [--long] [--sets] [--fresh OTHER]
+    tests/kept.py PROGRAM [--scripts N] [--from SEED] [--edits M] [--long] [--sets] [--json] [--fresh OTHER]
 
 Draws N scripts (200 unless given), each of M edits (100) over few names, labels and properties, with watches of five queries, which
 are also asked by `ask`, `first`, `last` and `count`, of pins that come and go, and of single objects by follows that come and go, and
 shows and ticks between. Every second script has a small limit of rows, so that answers are wide now and then.
 With --long a script has 10,000 edits unless M is given, and 32 watches of as many queries. Most edits come 600 at a time; then the
 watches tick, and one or two edits come before each of six questions. In each tenth script great questions fill the table of plans, of
-the graph or of a pin by turns, so that it is made anew. With --sets objects have up to three labels.
+the graph or of a pin by turns, so that it is made anew. With --sets objects have up to three labels. With --json the script is run as
+lines of JSON, and the fresh runs are of plain lines all the same.
 
 Each question that the program answers there is also asked of a fresh run, of OTHER if it is given, which reads the edits accepted so
 far and this one question. So in a fresh run nothing is kept.
@@ -21,10 +22,16 @@ far and this one question. So in a fresh run nothing is kept.
 
 It prints the first reply of each script that differs and `N scripts, M replies, D differ`; its exit status is 1 if D is above 0."""
 import argparse
+import json
+import pathlib
 import random
 import re
 import subprocess
 import sys
+
+sys.dont_write_bytecode = True
+sys.path.insert(0, str(pathlib.Path(__file__).resolve().parent.parent / "crates/itpg_rows/data"))
+import json_model  # noqa: E402
 
 LAST, SMALL_LIMITS = 7, [3, 6, 12, 20, 40]  # the horizon is 0..LAST at first
 QUIET, COMPARED = 600, 2  # edits at a time in a long script, and watches of a tick that are compared
@@ -158,11 +165,14 @@ class Draw:
         return lines
 
 
-def run(program, limit, script):
-    ran = subprocess.run([program, "--max-rows", str(limit)], input=script, capture_output=True, timeout=600)
+def run(program, limit, script, is_json=False):
+    """The lines of the output in the plain form; the script may be run as lines of JSON."""
+    words = [program, "--max-rows", str(limit), *["--json"] * is_json]
+    ran = subprocess.run(words, input=json_model.json_script(script) if is_json else script, capture_output=True, timeout=600)
     if ran.returncode not in (0, 1):
         raise SystemExit(f"the program ended with {ran.returncode}")
-    return ran.stdout.decode().splitlines()
+    lines = ran.stdout.decode().splitlines()
+    return [json_model.plain_text(json.loads(line)) for line in lines] if is_json else lines
 
 
 def points(rows, numbers):
@@ -184,9 +194,9 @@ class Differs(Exception):
 class Trial:
     """One script, read along its output as far as the first reply that differs."""
 
-    def __init__(self, program, fresh, limit, lines, compared):
+    def __init__(self, program, fresh, limit, lines, compared, is_json):
         self.program, self.limit, self.lines, self.compared = fresh, limit, lines, compared
-        self.output, self.at = run(program, limit, "\n".join(lines).encode()), 0
+        self.output, self.at = run(program, limit, "\n".join(lines).encode(), is_json), 0
         self.random = random.Random(len(self.output))
         self.edits, self.numbers = bytearray(), {}  # accepted so far; of each name a number of the last object declared
         self.pins = {}  # of each name how long the edits were when it was opened
@@ -272,6 +282,7 @@ def main():
         parser.add_argument(f"--{word}", type=int, default=value)
     parser.add_argument("--long", action="store_true")
     parser.add_argument("--sets", action="store_true")
+    parser.add_argument("--json", action="store_true")
     parser.add_argument("--fresh")
     options = vars(parser.parse_args())
     is_long, program = options["long"], options["program"]
@@ -281,7 +292,7 @@ def main():
         great = None if seed % 10 else ["ask", "in s ask"][seed // 10 % 2]
         draw = Draw(seed, *((MANY, 32) if is_long else (FEW, 5)), options["sets"])
         lines = draw.long_script(options["edits"] or 10_000, great) if is_long else draw.script(options["edits"] or 100)
-        trial = Trial(program, options["fresh"] or program, limit, lines, COMPARED if is_long else 32)
+        trial = Trial(program, options["fresh"] or program, limit, lines, COMPARED if is_long else 32, options["json"])
         try:
             trial.read()
         except Differs as wrong:

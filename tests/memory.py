@@ -7,11 +7,11 @@ It compiles a small library in a temporary folder that stands before the C libra
 the requests, and refuses the one of a number, or that and all later ones. So it needs a C compiler, and a program that is linked
 dynamically.
 
-- Each request of three scripts and of a trial is refused, alone and with all later ones; of a run with more than N requests (4,000
+- Each request of three scripts, of one of them as lines of JSON, and of a trial is refused, alone and with all later ones; of a run with more than N requests (4,000
   unless given), every second, third and so on. The status must be 5 and the output that of some first lines, or the status and the
   output must be those of a run with all memory.
 - Lines that must take no memory come last in a script, which must ask as often as without them, and must end well if memory is
-  refused from there on.
+  refused from there on. Of lines of JSON these are the blank ones.
 - A tick with nothing met must ask as often on a graph of 2,000 objects as on one of 20.
 
 It prints what differs and a table, and its exit status is 1 if something differs."""
@@ -24,6 +24,10 @@ import tempfile
 
 TOP = pathlib.Path(__file__).resolve().parent.parent
 DATA = TOP / "crates/itpg_rows/data"
+sys.dont_write_bytecode = True
+sys.path.insert(0, str(DATA))
+import json_model  # noqa: E402
+
 MEMORY = 5
 
 LIBRARY = r"""
@@ -125,9 +129,10 @@ class Runs:
 
 def fronts(runs, words, script):
     """What the first lines of a script write, for each count of them; of a trial the first lines of its summary."""
-    lines = (runs.run(words, script)[1] if words else script).splitlines(keepends=True)
+    is_trial = "--trial" in words
+    lines = (runs.run(words, script)[1] if is_trial else script).splitlines(keepends=True)
     starts = [b"".join(lines[:count]) for count in range(len(lines) + 1)]
-    return set(starts) if words else {runs.run([], start)[1] for start in starts}
+    return set(starts) if is_trial else {runs.run(words, start)[1] for start in starts}
 
 
 def refuse_each(runs, name, words, script, most):
@@ -148,14 +153,14 @@ def refuse_each(runs, name, words, script, most):
     return differ
 
 
-def count_free(runs, before, lines):
+def count_free(runs, before, lines, *words):
     """Tries lines that must take no memory behind others. Gives what differs."""
     differ = []
-    base = runs.run([], before)
+    base = runs.run(words, before)
     for line in lines:
         script = before + line.encode() + b"\n"
-        got = runs.run([], script)
-        refused = runs.run([], script, base[2] + 1, 2**62)
+        got = runs.run(words, script)
+        refused = runs.run(words, script, base[2] + 1, 2**62)
         if got[2] != base[2] or refused[:2] != got[:2]:
             differ.append(f"{line!r} asks {got[2] - base[2]} times for {got[3] - base[3]} bytes; with these refused the status is {refused[0]}")
     print(f"{len(lines)} lines that must take no memory, behind {len(before.splitlines())} lines: {len(differ)} do")
@@ -196,9 +201,12 @@ def main():
         differ = []
         for name in ("contact_study_with_a_watch", "lines_of_all_kinds", "near_before_and_after_edits"):
             differ += refuse_each(runs, name, [], (DATA / f"{name}.itpg").read_bytes(), options.runs)
+        script = json_model.json_script((DATA / "near_before_and_after_edits.itpg").read_bytes())
+        differ += refuse_each(runs, "the last one as lines of JSON", ["--json"], script, options.runs)
         differ += refuse_each(runs, "--trial 7", ["--trial", "7"], b"", options.runs // 40)
         differ += count_free(runs, BEFORE.encode(), FREE)
         differ += count_free(runs, BEFORE.splitlines(keepends=True)[0].encode(), FREE_AT_FIRST)
+        differ += count_free(runs, json_model.json_script(BEFORE.encode()), ["", " \t ", "\r"], "--json")
         differ += ticks(runs)
     for one in differ:
         print(one)

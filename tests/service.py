@@ -4,10 +4,10 @@
     tests/service.py PROGRAM
 
 - The page shows examples/service.py as it is, and below it what that writes with the program.
-- A reply comes while the input is open, one by one. A last line without its end is answered when the input is closed.
+- A reply comes while the input is open, one by one, also of lines of JSON. A last line without its end is answered when the input is closed.
 - Each of the seven kinds of line that are always answered has one reply, and a comment has none.
 - A row may begin as a head does.
-- Behind a byte order mark the first line is `bad byte`.
+- Behind a byte order mark the first line is `bad byte`, and as a line of JSON `bad text`.
 - If nobody reads any more, lines without a reply are read on, and the next reply ends the run with status 4.
 
 It prints what differs and `N tried, M differ`, and its exit status is 1 if M is above 0."""
@@ -28,8 +28,8 @@ WRITE_FAULT = 4
 class Kept:
     """A run whose input is kept open."""
 
-    def __init__(self, program):
-        self.process = subprocess.Popen([program], stdin=PIPE, stdout=PIPE, stderr=PIPE, bufsize=0)
+    def __init__(self, program, *words):
+        self.process = subprocess.Popen([program, *words], stdin=PIPE, stdout=PIPE, stderr=PIPE, bufsize=0)
 
     def send(self, text):
         self.process.stdin.write(text)
@@ -65,8 +65,8 @@ def shown():
     return code, "".join(line[4:] + "\n" for line in lines)
 
 
-def whole(program, script):
-    ran = subprocess.run([program], input=script, stdout=PIPE, stderr=PIPE, timeout=SECONDS)
+def whole(program, script, *words):
+    ran = subprocess.run([program, *words], input=script, stdout=PIPE, stderr=PIPE, timeout=SECONDS)
     return ran.stdout, ran.returncode
 
 
@@ -88,6 +88,19 @@ def one_by_one(program):
     kept.send(b"ask MATCH (x:U)")
     yield "no reply to a line without its end", True, kept.is_quiet()
     yield "what comes at the end", (b"line 7 rows 0\n", 0), kept.end()
+
+
+def one_by_one_of_json(program):
+    kept = Kept(program, "--json")
+    kept.send(b'{"op":"graph","name":"g","lo":0,"hi":9}\n{"op":"node","id":"a","labels":["T"]}\n{"op":"live","id":"a","from":0,"to":5}\n')
+    yield "no reply to edits of JSON that were made", True, kept.is_quiet()
+    for number in range(4, 7):
+        kept.send(b'{"op":"text","line":"ask MATCH (x)"}\n')
+        reply = b'{"line":%d,"rows":1}\n{"id":"a","from":0,"to":5}\n' % number
+        yield f"the reply of JSON to question {number}", reply, kept.replies(len(reply))
+    kept.send(b'{"op":"text","line":"# a comment"}\n\n{"op":"text","line":"ask MATCH (x:U)"}')
+    yield "no reply to a comment, a blank line and one of JSON without its end", True, kept.is_quiet()
+    yield "what comes of JSON at the end", (b'{"line":9,"rows":0}\n', 0), kept.end()
 
 
 def always_answered(program):
@@ -117,6 +130,8 @@ def names(program):
 def byte_order_mark(program):
     script = b"\xef\xbb\xbfgraph g 0 9\nnode a T\n# a comment\nask MATCH (x)\n"
     yield "a byte order mark", (b"line 1 bad byte\nline 2 refused nograph\nline 4 refused nograph\n", 1), whole(program, script)
+    script = b'\xef\xbb\xbf{"op":"graph","name":"g","lo":0,"hi":9}\n{"op":"drop","id":"a"}\n'
+    yield "a byte order mark before JSON", (b'{"line":1,"bad":"text"}\n{"line":2,"refused":"nograph"}\n', 1), whole(program, script, "--json")
 
 
 def nobody_reads(program):
@@ -138,7 +153,7 @@ def main():
         return 2
     program = str(pathlib.Path(sys.argv[1]).resolve())
     tried = differ = 0
-    for part in (example, one_by_one, always_answered, names, byte_order_mark, nobody_reads):
+    for part in (example, one_by_one, one_by_one_of_json, always_answered, names, byte_order_mark, nobody_reads):
         try:
             for what, wanted, got in part(program):
                 tried += 1
