@@ -1,5 +1,5 @@
 -- What the operations on rows say of relations that are written down.
-use Rattle.std.proofs.Common.{◌≡◌, ℕ, List, Result, Ok, Err, IfOk, refl, subst}
+use Rattle.std.proofs.Common.{◌≡◌, ℕ, List, Result, Ok, Err, IfOk, inl, inr, refl, subst}
 use Rattle.itpg_base.specs.declared.object_number.ObjNo.{ObjNo}
 use Rattle.itpg_base.specs.Spans.{Span}
 use Rattle.itpg_base.specs.Graphs.{Graph, Good}
@@ -9,7 +9,7 @@ use Rattle.relation_rows.specs.declared.rows.RelFault.{RelFault}
 use Rattle.relation_rows.specs.declared.rows.RelFault.TheVariants.{Memory, Wide}
 use Rattle.relation_rows.specs.Rows.{RowsHold, NormalRows, IsRelation}
 use Rattle.relation_rows.specs.Answers.{Gives}
-use Rattle.relation_rows.specs.Relations.{IsBetween, IsItself}
+use Rattle.relation_rows.specs.Relations.{EitherHolds, HasMiddlePoint, IsBetween, IsItself}
 use Rattle.relation_rows.proofs.Giving.{gives_alike}
 use Rattle.relation_rows.proofs.Alike.{rows_alike, hold_only, wide_apart}
 use Rattle.relation_rows.proofs.Listed.{rows_unique}
@@ -18,7 +18,7 @@ use Rattle.condition_eval.specs.Tested.{HasHorizon}
 use Rattle.condition_eval.proofs.Points.{in_horizon}
 use Rattle.label_scope.specs.declared.scope.Scope.{Scope}
 use Rattle.repeat_engine.specs.Composed.{IsOkWhere}
-use Rattle.repeat_engine.specs.Relations.{Given}
+use Rattle.repeat_engine.specs.Relations.{Given, Union, Composition}
 use Rattle.path_eval.specs.Powers.{SamePoint, Written, Leads, LeadAlike, FitsInside, HeldBetween}
 
 -- the fault is want of memory
@@ -35,6 +35,17 @@ module _ (g : Graph) (u : Scope) (w : Written) (limit : ℕ) where
   exact_of (Ok rows) h = (rows, h.0, h.1)
   exact_of (Err Memory) h = λ other fits. other refl
   exact_of (Err Wide) h = λ other fits. wide_apart (Leads g u w) limit fits h
+
+-- what was made of two relations, together with further rows
+module _ (g : Graph) (u : Scope) (base x y made : List Row) (is_made : NormalRows (HasMiddlePoint x y) made) where
+  abbrev pub Onto : Written
+  Onto = Union (Given base) (Composition (Given x) (Given y))
+
+  pub onto_gives : (limit : ℕ) (result : Result (List Row) RelFault) → Gives result (EitherHolds base made) limit → Gives result (Leads g u Onto) limit
+  onto_gives =
+      gives_alike (EitherHolds base made) (Leads g u Onto)
+      (λ a b h. elim h [ inl left ↦ inl left | inr right ↦ inr (hold_only (HasMiddlePoint x y) made is_made a b right) ])
+      (λ a b h. elim h [ inl left ↦ inl left | inr right ↦ inr (is_made.whole a b right) ])
 
 -- relations that lead alike have the same rows
 pub same_rows : (g : Graph) (u : Scope) (xs ys : List Row) → IsRelation xs → IsRelation ys → LeadAlike g u (Given xs) (Given ys) → xs ≡ ys

@@ -18,6 +18,9 @@ use relation_rows::{RelFault, Relation};
 use repeat_engine::{Composed, closure, power, up_to};
 use std::alloc::AllocError;
 
+// So many times the limit of rows may be made on the way to a union.
+const MORE: u32 = 4;
+
 /// A path that is repeated, on a graph, and its relation between the objects within the scope of all that a repetition of it
 /// passes.
 ///
@@ -70,6 +73,22 @@ impl Composed for Powers<'_, '_> {
 
     fn union(&self, x: &Relation, y: &Relation) -> Result<Relation, RelFault> {
         x.union(y, self.ground.max_rows)
+    }
+
+    fn compose_onto(
+        &self,
+        base: &Relation,
+        x: &Relation,
+        y: &Relation,
+    ) -> Result<Option<Relation>, RelFault> {
+        let more = self.ground.max_rows.saturating_mul(MORE);
+        let Ok(made) = x.compose(y, more) else {
+            return Ok(None);
+        };
+        match base.union(&made, self.ground.max_rows) {
+            Ok(all) => Ok(Some(all)),
+            Err(fault) => Err(fault),
+        }
     }
 
     fn beyond(&self, x: &Relation, y: &Relation) -> Result<Relation, RelFault> {

@@ -70,6 +70,15 @@ impl Composed for Lengths {
         self.fitting(x.0.min(y.0), x.1.max(y.1))
     }
 
+    fn compose_onto(
+        &self,
+        _base: &(u64, u64),
+        _x: &(u64, u64),
+        _y: &(u64, u64),
+    ) -> Result<Option<(u64, u64)>, TooMany> {
+        Ok(None)
+    }
+
     fn beyond(&self, x: &(u64, u64), _y: &(u64, u64)) -> Result<(u64, u64), TooMany> {
         Ok(*x)
     }

@@ -130,6 +130,25 @@ module _ {M : Type 0} {Alike : M → M → Type 0} {Own Fits : M → Type 0} {al
       let below = n.below in
       record { fewer = k + n.fewer; below = omega (arith, below); makes = square_is k n.fewer d own_d n.below n.makes }
 
+  -- and so is what of that is beyond the union of the powers 0 to k
+  pub rest_new : (k : ℕ) (d square rest : M) → Own d → Own square → Own rest → New k d → Alike square (compose d d) → Alike (unite (To k) rest) (unite (To k) square) → New (k + k) rest
+  rest_new k d square rest own_d own_square own_rest n is value =
+      let far : ℕ = k + n.fewer in
+      let below = n.below in
+      let held : Alike (unite (To far) (To k)) (To far) = to_holds k far (omega arith) in
+      record {
+        fewer = far;
+        below = omega (arith, below);
+        makes =
+            first_side laws rest (back held)
+            ~ laws.united_associative (To far) (To k) rest (own_to far) (own_to k) own_rest
+            ~ second_side laws (To far) value
+            ~ back (laws.united_associative (To far) (To k) square (own_to far) (own_to k) own_square)
+            ~ first_side laws square held
+            ~ second_side laws (To far) is
+            ~ square_is k n.fewer d own_d n.below n.makes;
+      }
+
   -- what makes the further union of a nearer one is new there
   pub made_new : (k n : ℕ) (d : M) → k < n → Alike (unite (To k) d) (To n) → New n d
   made_new k n d below makes = record { fewer = k; below = below; makes = makes }

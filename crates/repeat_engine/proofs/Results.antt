@@ -1,7 +1,7 @@
 -- What a result says, said of something alike.
-use Rattle.std.proofs.Common.{Result, Ok, Err, IfOk}
+use Rattle.std.proofs.Common.{Result, Ok, Err, IfOk, Option, Some, None, IfSome}
 use Rattle.repeat_engine.specs.Powers.{Algebra}
-use Rattle.repeat_engine.specs.Composed.{IsLawful, IsOkWhere}
+use Rattle.repeat_engine.specs.Composed.{IsLawful, IsOkWhere, IsSomeWhere}
 
 -- Ok where the one condition holds is Ok where the other does
 pub exact_as : {T E A B : Type 0} (WantsMemory : E → Type 0) (r : Result T E) → (A → B) → (B → A) → IsOkWhere WantsMemory r A → IsOkWhere WantsMemory r B
@@ -28,3 +28,14 @@ module _ {M : Type 0} {Alike : M → M → Type 0} {Own Fits : M → Type 0} {al
   pub fits_result : {T E : Type 0} (means : T → M) (WantsMemory : E → Type 0) (r : Result T E) (m : M) → IfOk r (λ v. Alike (means v) m) → IsOkWhere WantsMemory r (Fits m) → IfOk r (λ v. Fits (means v))
   fits_result means WantsMemory (Ok v) m h fits = fits_from (means v) m h fits
   fits_result means WantsMemory (Err fault) m h fits = tt
+
+  -- and of a result that may hold nothing
+  pub own_found : {T E : Type 0} (means : T → M) (r : Result (Option T) E) (m : M) → Own m → IfOk r (λ o. IfSome o (λ v. Alike (means v) m)) → IfOk r (λ o. IfSome o (λ v. Own (means v)))
+  own_found means (Ok (Some v)) m own h = own_from (means v) m h own
+  own_found means (Ok None) m own h = tt
+  own_found means (Err fault) m own h = tt
+
+  pub fits_found : {T E : Type 0} (means : T → M) (WantsMemory : E → Type 0) (r : Result (Option T) E) (m : M) → IfOk r (λ o. IfSome o (λ v. Alike (means v) m)) → IsSomeWhere WantsMemory r (Fits m) → IfOk r (λ o. IfSome o (λ v. Fits (means v)))
+  fits_found means WantsMemory (Ok (Some v)) m h fits = fits_from (means v) m h fits
+  fits_found means WantsMemory (Ok None) m h fits = tt
+  fits_found means WantsMemory (Err fault) m h fits = tt

@@ -10,7 +10,7 @@ use Rattle.repeat_engine.specs.GrownUnions.{newest_or, newest_part, IsLatestStep
 use Rattle.repeat_engine.proofs.ChainLaws.{chain_one, chain_first, chain_split, chain_join}
 use Rattle.repeat_engine.proofs.UnionLaws.{union_first}
 use Rattle.repeat_engine.proofs.Order.{first_side, second_side}
-use Rattle.repeat_engine.proofs.Growth.{to_sum, step_made, double_made, square_new, whole_new, new_alike, all_stay}
+use Rattle.repeat_engine.proofs.Growth.{to_sum, step_made, double_made, square_new, rest_new, whole_new, new_alike, all_stay}
 
 pub pick : {V : Type 0} (P : V → Type 0) (o : Option V) (all : V) → IfSome o P → P all → P (newest_or o all)
 pick P (Some d) all some whole = some
@@ -128,6 +128,14 @@ module _ {M : Type 0} {Alike : M → M → Type 0} {Own Fits : M → Type 0} {al
           let at = on.grows in
           let new : New k (means d) = subst (λ (o : Option V). IfSome o (λ v. New k (means v))) e (at.newest on.more) in
           new_alike laws x own (k + k) _ _ (back value) (square_new laws x own k (means d) own_d new)
+
+      -- and without what the nearer union has
+      pub rest_is_new : (d : V) (square rest : M) → g.newest ≡ Some d → Own (means d) → Own square → Own rest → Alike square (compose (means d) (means d)) → Alike (unite (means g.all) rest) (unite (means g.all) square) → New (k + k) rest
+      rest_is_new d square rest e own_d own_square own_rest value beyond =
+          let at = on.grows in
+          let new : New k (means d) = subst (λ (o : Option V). IfSome o (λ v. New k (means v))) e (at.newest on.more) in
+          let same : Alike (unite (To k) rest) (unite (To k) square) = first_side laws rest (back at.is) ~ beyond ~ first_side laws square at.is in
+          rest_new laws x own k (means d) square rest own_d own_square own_rest new value same
 
       module _ (n : ℕ) (below : k < n) (all : M) (is : Alike all (To n)) where
         -- where nothing was added, nothing is added from there on

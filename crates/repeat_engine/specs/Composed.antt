@@ -1,5 +1,5 @@
 -- What composition and union keep, and where a call of them answers Ok.
-use Rattle.std.specs.Prelude.{ℕ, ◌≤◌, ◌^◌, Result, MatchResult}
+use Rattle.std.specs.Prelude.{ℕ, ◌≤◌, ◌^◌, Option, IfSome, Result, MatchResult}
 use Rattle.repeat_engine.specs.Powers.{Algebra, nth_power, union_of_powers}
 
 -- the first includes the second: united with it, it stays what it is
@@ -14,6 +14,11 @@ IncludesPowers Alike algebra v x = (n : ℕ) → Includes Alike algebra v (nth_p
 abbrev pub IsOkWhere : {T E : Type 0} → (E → Type 0) → Result T E → Type 0 → Type 0
 IsOkWhere WantsMemory result Condition =
     MatchResult result (λ value. Condition) (λ fault. ¬ WantsMemory fault → ¬ Condition)
+
+-- Some only where the condition holds, and a fault other than that of memory only if it fails
+abbrev pub IsSomeWhere : {T E : Type 0} → (E → Type 0) → Result (Option T) E → Type 0 → Type 0
+IsSomeWhere WantsMemory result Condition =
+    MatchResult result (λ made. IfSome made (λ value. Condition)) (λ fault. ¬ WantsMemory fault → ¬ Condition)
 
 module _ {M : Type 0} (Alike : M → M → Type 0) (Own Fits : M → Type 0) (algebra : Algebra M) where
   open algebra use {one, compose, unite}

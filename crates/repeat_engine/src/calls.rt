@@ -1,6 +1,6 @@
 //! The calls of `Composed` with what follows of their results, which are c's own and fit.
-ghost use Rattle.std.specs.Prelude.{IfOk};
-ghost use Rattle.repeat_engine.specs.Composed.{IsOkWhere};
+ghost use Rattle.std.specs.Prelude.{IfOk, IfSome};
+ghost use Rattle.repeat_engine.specs.Composed.{IsOkWhere, IsSomeWhere};
 
 use crate::Composed;
 
@@ -34,4 +34,27 @@ pub(crate) fn union<C: Composed>(c: &C, x: &C::Value, y: &C::Value) -> Result<C:
         IsOkWhere C.wants_memory result (C.fits c.now both) }
 {
     c.union(x, y)
+}
+
+/// The base together with x and then y, if that is found.
+pub(crate) fn compose_onto<C: Composed>(
+    c: &C,
+    base: &C::Value,
+    x: &C::Value,
+    y: &C::Value,
+) -> Result<Option<C::Value>, C::Fault>
+    requires own_base { C.own c.now (C.means base.now) }
+    requires own_x { C.own c.now (C.means x.now) }
+    requires own_y { C.own c.now (C.means y.now) }
+    requires fits_base { C.fits c.now (C.means base.now) }
+    requires fits_x { C.fits c.now (C.means x.now) }
+    requires fits_y { C.fits c.now (C.means y.now) }
+    ensures value { let a = C.algebra c.now in let all = a.unite (C.means base.now) (a.compose (C.means x.now) (C.means y.now)) in
+        IfOk result (λ made. IfSome made (λ v. C.alike c.now (C.means v) all)) }
+    ensures own { IfOk result (λ made. IfSome made (λ v. C.own c.now (C.means v))) }
+    ensures fits { IfOk result (λ made. IfSome made (λ v. C.fits c.now (C.means v))) }
+    ensures exact { let a = C.algebra c.now in let all = a.unite (C.means base.now) (a.compose (C.means x.now) (C.means y.now)) in
+        IsSomeWhere C.wants_memory result (C.fits c.now all) }
+{
+    c.compose_onto(base, x, y)
 }

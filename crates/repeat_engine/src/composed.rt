@@ -1,9 +1,9 @@
 //! What powers are taken of.
 #![tactic(auto)]
 
-ghost use Rattle.std.specs.Prelude.{◌↔◌, IsTrue, IfOk};
+ghost use Rattle.std.specs.Prelude.{◌↔◌, IsTrue, IfOk, IfSome};
 ghost use Rattle.repeat_engine.specs.Powers.{Algebra};
-ghost use Rattle.repeat_engine.specs.Composed.{IsOkWhere, IsLawful};
+ghost use Rattle.repeat_engine.specs.Composed.{IsOkWhere, IsSomeWhere, IsLawful};
 
 /// Values that can be composed and united, of which some are c's own and some of these fit.
 ///
@@ -74,6 +74,27 @@ pub trait Composed {
             IfOk result (λ v. alike self.now (means v) both) }
         ensures exact { let both = (algebra self.now).unite (means x.now) (means y.now) in
             IsOkWhere wants_memory result (fits self.now both) };
+
+    /// The base together with x and then y, or None if it is better worked out in another way, which may come at any time. It
+    /// answers a fault other than running out of memory only if the result doesn't fit.
+    ///
+    /// It is wanted where x and then y alone doesn't fit.
+    fn compose_onto(
+        &self,
+        base: &Self::Value,
+        x: &Self::Value,
+        y: &Self::Value,
+    ) -> Result<Option<Self::Value>, Self::Fault>
+        requires own_base { own self.now (means base.now) }
+        requires own_x { own self.now (means x.now) }
+        requires own_y { own self.now (means y.now) }
+        requires fits_base { fits self.now (means base.now) }
+        requires fits_x { fits self.now (means x.now) }
+        requires fits_y { fits self.now (means y.now) }
+        ensures value { let c = algebra self.now in let all = c.unite (means base.now) (c.compose (means x.now) (means y.now)) in
+            IfOk result (λ made. IfSome made (λ v. alike self.now (means v) all)) }
+        ensures exact { let c = algebra self.now in let all = c.unite (means base.now) (c.compose (means x.now) (means y.now)) in
+            IsSomeWhere wants_memory result (fits self.now all) };
 
     /// What x has beyond y: together with y it means as much as x together with y. It may hold more, up to all of x.
     ///

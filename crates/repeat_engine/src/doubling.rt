@@ -1,13 +1,16 @@
 //! Unions of powers twice as far, by what is new in them.
-ghost use Rattle.std.specs.Prelude.{◌+◌, ℕ, IfOk, IfSome};
+ghost use Rattle.std.specs.Prelude.{◌≡◌, ◌+◌, ℕ, Some, IfOk, IfSome};
 ghost use Rattle.repeat_engine.specs.Powers.{union_of_powers};
 ghost use Rattle.repeat_engine.specs.Composed.{IsOkWhere};
 ghost use Rattle.repeat_engine.specs.GrownUnions.{OfEach, IsNewest, IsSound, Grows, GrowsOn};
 
 use crate::Composed;
-use crate::calls::{compose, union};
+use crate::calls::{compose, compose_onto, union};
 use crate::grown_union::{Grown, grown_to, newest_of};
 use crate::single_steps::walked;
+
+// So much is composed with itself, however little more the union has.
+const FEW: u64 = 64;
 
 /// Twice as far, or where no further power adds anything.
 pub(crate) fn doubled<C: Composed>(
@@ -50,7 +53,26 @@ fn squared<C: Composed>(c: &C, half: &Grown<C::Value>) -> Result<Grown<C::Value>
             let newest = newest_squared(c, half, made);
             Ok(grown_to(c, half, all, Some(newest)))
         }
-        Err(_) => squared_whole(c, half),
+        Err(_) => squared_onto(c, half),
+    }
+}
+
+// Twice as far, where what is new composed with the union doesn't fit alone: made onto the union, or else the union squared.
+fn squared_onto<C: Composed>(c: &C, half: &Grown<C::Value>) -> Result<Grown<C::Value>, C::Fault>
+    requires sound { IsSound (C.own c.now) (C.fits c.now) C.means half.now }
+    ensures sound { IfOk result (IsSound (C.own c.now) (C.fits c.now) C.means) }
+    ensures grows { let Each = OfEach (C.alike c.now) (C.own c.now) (C.algebra c.now) C.means half.now in
+        Each (λ x k. IfOk result (Grows (C.alike c.now) (C.algebra c.now) x C.means (k + k))) }
+    ensures exact { let Each = OfEach (C.alike c.now) (C.own c.now) (C.algebra c.now) C.means half.now in
+        Each (λ x k. IsOkWhere C.wants_memory result (C.fits c.now (union_of_powers (C.algebra c.now) x (k + k)))) }
+{
+    match compose_onto(c, &half.all, newest_of(half), &half.all) {
+        Ok(Some(all)) => {
+            let newest = short_squared(c, half);
+            Ok(grown_to(c, half, all, newest))
+        }
+        Ok(None) => squared_whole(c, half),
+        Err(fault) => Err(fault),
     }
 }
 
@@ -68,7 +90,7 @@ fn squared_whole<C: Composed>(c: &C, half: &Grown<C::Value>) -> Result<Grown<C::
     Ok(grown_to(c, half, all, newest))
 }
 
-// What is new twice as far: what is new composed with itself, where it isn't most of the union and that fits.
+// What is new twice as far, where what is new isn't most of the union and its square fits.
 fn short_squared<C: Composed>(c: &C, half: &Grown<C::Value>) -> Option<C::Value>
     requires sound { IsSound (C.own c.now) (C.fits c.now) C.means half.now }
     ensures own { IfSome result (λ m. C.own c.now (C.means m)) }
@@ -78,13 +100,18 @@ fn short_squared<C: Composed>(c: &C, half: &Grown<C::Value>) -> Option<C::Value>
 {
     match &half.newest {
         Some(newest) => {
-            if c.size(newest) > c.size(&half.all) / 2 {
+            if is_most(c.size(newest), c.size(&half.all)) {
                 return None;
             }
-            compose(c, newest, newest).ok()
+            newest_twice(c, half, newest)
         }
         None => None,
     }
+}
+
+// Whether what is new is too much of the union to be worth its square.
+fn is_most(newest: u64, all: u64) -> bool {
+    newest > FEW && newest > all / 2
 }
 
 // What is new twice as far: what is new composed with itself, where that fits and isn't longer than what was made.
@@ -99,16 +126,42 @@ fn newest_squared<C: Composed>(c: &C, half: &Grown<C::Value>, made: C::Value) ->
         New (C.means made) → New (C.means result)) }
 {
     match &half.newest {
-        Some(newest) => match compose(c, newest, newest) {
-            Ok(square) => {
+        Some(newest) => match newest_twice(c, half, newest) {
+            Some(square) => {
                 if c.size(&square) <= c.size(&made) {
                     square
                 } else {
                     made
                 }
             }
-            Err(_) => made,
+            None => made,
         },
         None => made,
+    }
+}
+
+// What is new composed with itself, where that fits. Where that is longer than what is new, and it is shorter without what the
+// nearer union has, only the rest of it: a path that leads to and fro leads back to much that is there.
+fn newest_twice<C: Composed>(c: &C, half: &Grown<C::Value>, newest: &C::Value) -> Option<C::Value>
+    requires sound { IsSound (C.own c.now) (C.fits c.now) C.means half.now }
+    requires newest { half.now.newest ≡ Some newest.now }
+    ensures own { IfSome result (λ m. C.own c.now (C.means m)) }
+    ensures fits { IfSome result (λ m. C.fits c.now (C.means m)) }
+    ensures new { let Each = OfEach (C.alike c.now) (C.own c.now) (C.algebra c.now) C.means half.now in
+        Each (λ x k. IfSome result (λ m. IsNewest (C.alike c.now) (C.algebra c.now) x (k + k) (C.means m))) }
+{
+    let Ok(square) = compose(c, newest, newest) else {
+        return None;
+    };
+    if c.size(&square) <= c.size(newest) {
+        return Some(square);
+    }
+    let Ok(rest) = c.beyond(&square, &half.all) else {
+        return Some(square);
+    };
+    if c.size(&rest) < c.size(&square) {
+        Some(rest)
+    } else {
+        Some(square)
     }
 }
