@@ -6,7 +6,7 @@ use Rattle.itpg_graph.specs.WithLabel.{StandsWith}
 use Rattle.itpg_graph.specs.Families.{HasProperty}
 use Rattle.path_ast.specs.Meaning.{IsNodeOf}
 use Rattle.question_hints.specs.declared.hint.Hint.{Hint}
-use Rattle.question_hints.specs.declared.hint.Hint.TheVariants.{NoLabel, NoProperty, NoValue, EdgeInRound}
+use Rattle.question_hints.specs.declared.hint.Hint.TheVariants.{NoLabel, NoProperty, NoValue, EdgeInRound, EndsOnEdge, SelectiveEndLast}
 use Rattle.question_hints.specs.declared.having.Trait.{Trait}
 use Rattle.question_hints.specs.declared.having.Trait.TheVariants.{Property, Value, NodeWith}
 
@@ -24,12 +24,14 @@ NoneHas g wanted = (o : ℕ) → ¬ Has g wanted o
 abbrev pub NoneHasLabel : Graph → Word → Type 0
 NoneHasLabel g label = (o : ℕ) → ¬ StandsWith g label o
 
--- the hint says no more of the graph than is so
+-- the hint says no more of the graph than is so. The last two say nothing of it, but of the form of the path
 abbrev pub IsCertain : Graph → Hint → Type 0
 IsCertain g (NoLabel label) = NoneHasLabel g label
 IsCertain g (NoProperty prop) = NoneHas g (Property prop)
 IsCertain g (NoValue prop value) = (¬ NoneHas g (Property prop)) × NoneHas g (Value prop value)
 IsCertain g (EdgeInRound label) = (¬ NoneHasLabel g label) × NoneHas g (NodeWith label)
+IsCertain g EndsOnEdge = Unit {0}
+IsCertain g SelectiveEndLast = Unit {0}
 
 -- the second list has those of the first that are certain, in their order
 abbrev pub AreCertain : Graph → List Hint → List Hint → Type 0

@@ -1,3 +1,6 @@
 pub mod Same
 pub mod Asked
 pub mod Certain
+pub mod Kinds
+pub mod Forms
+pub mod Texts

@@ -1,10 +1,10 @@
 //! Which hints are certain from a graph.
-ghost use Rattle.std.specs.Prelude.{◌≡◌, ◌↔◌, [], IsTrue, IfOk};
+ghost use Rattle.std.specs.Prelude.{◌≡◌, ◌↔◌, IsTrue, IfOk};
 ghost use Rattle.path_ast.specs.Terms.{path_term};
-ghost use Rattle.question_hints.specs.Asked.{path_hints};
+ghost use Rattle.question_hints.specs.Forms.{possible_hints};
 ghost use Rattle.question_hints.specs.Certain.{NoneHas, NoneHasLabel, IsCertain, AreCertain};
 
-use crate::asked::add_path_hints;
+use crate::forms::possible;
 use crate::having::{Trait, none_has, none_has_label};
 use crate::hint::Hint;
 use itpg_base::Name;
@@ -17,11 +17,10 @@ use std::alloc::{AllocError, Global};
 /// A hint comes exactly if the path asks for what it names and it is certain: the graph lacks it.
 /// `Err` comes only if memory runs out.
 pub fn hints_of(alloc: Global, graph: &Graph, query: &Query) -> Result<Vec<Hint>, AllocError>
-    ensures { IfOk result (λ hints. AreCertain graph.now (path_hints (path_term query.now.path) []) hints.items) }
+    ensures { IfOk result (λ hints. AreCertain graph.now (possible_hints (path_term query.now.path)) hints.items) }
 {
-    let mut asked = Vec::new(alloc);
-    add_path_hints(&mut asked, &query.path)?;
-    certain_of(alloc, graph, &asked)
+    let hints = possible(alloc, &query.path)?;
+    certain_of(alloc, graph, &hints)
 }
 
 // Those of the hints that are certain, in their order.
@@ -46,6 +45,7 @@ fn is_certain(graph: &Graph, hint: &Hint) -> bool
         Hint::NoProperty(prop) => none_has(graph, &Trait::Property(*prop)),
         Hint::NoValue { prop, value } => has_others(graph, *prop, *value),
         Hint::EdgeInRound(label) => is_of_edges(graph, label),
+        Hint::EndsOnEdge | Hint::SelectiveEndLast => true,
     }
 }
 

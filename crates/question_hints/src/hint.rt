@@ -16,6 +16,10 @@ pub enum Hint {
     NoValue { prop: Name, value: Name },
     /// A node is asked for together with this label, and some objects have it, but all are edges.
     EdgeInRound(Name),
+    /// By the kinds of its steps alone, node or edge, the path leads nowhere: as where it ends on an edge and a node is asked for.
+    EndsOnEdge,
+    /// The path can start at every object, but its end is one of some labels.
+    SelectiveEndLast,
 }
 
 impl Hint {

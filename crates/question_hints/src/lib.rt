@@ -6,8 +6,13 @@
 
 mod asked;
 mod certain;
+mod forms;
 mod having;
 mod hint;
+mod kinds;
+mod laws;
+mod texts;
 
 pub use certain::hints_of;
 pub use hint::Hint;
+pub use laws::law_of_kinds;
