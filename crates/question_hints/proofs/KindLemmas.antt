@@ -1,7 +1,7 @@
 -- A path leads only between the kinds that its form allows.
 use Rattle.std.proofs.Common.{◌≡◌, ℕ, List, [], ◌∷◌, ◌⊎◌, inl, inr, Bool, true, false, ◌||◌, ◌&&◌, Option, Some, None, refl, sym, ap, ◌∙◌, subst, true≢false}
 use Rattle.std.specs.Prelude.{not, IsSome, IsTrue}
-use Rattle.itpg_base.specs.Graphs.{Graph, Object, Ends, Good, ObjectIs, Stands}
+use Rattle.itpg_base.specs.Graphs.{Graph, Ends, Good, ObjectIs}
 use Rattle.itpg_base.specs.Points.{Point, Relation, IsAt}
 use Rattle.itpg_base.specs.Walks.{IsWalk}
 use Rattle.itpg_base.proofs.Objects.{there, here, same_some}

@@ -3,4 +3,5 @@ pub mod Asked
 pub mod Certain
 pub mod Kinds
 pub mod Forms
+pub mod Whole
 pub mod Texts

@@ -1,8 +1,8 @@
 //! Which hints are certain from a graph.
 ghost use Rattle.std.specs.Prelude.{◌≡◌, ◌↔◌, IsTrue, IfOk};
 ghost use Rattle.path_ast.specs.Terms.{path_term};
-ghost use Rattle.question_hints.specs.Forms.{possible_hints};
 ghost use Rattle.question_hints.specs.Certain.{NoneHas, NoneHasLabel, IsCertain, AreCertain};
+ghost use Rattle.question_hints.specs.Whole.{AreHints};
 
 use crate::forms::possible;
 use crate::having::{Trait, none_has, none_has_label};
@@ -16,8 +16,9 @@ use std::alloc::{AllocError, Global};
 ///
 /// A hint comes exactly if the path asks for what it names and it is certain: the graph lacks it.
 /// `Err` comes only if memory runs out.
+#[tactic(auto, using(crate::proofs::Whole::hints_whole))]
 pub fn hints_of(alloc: Global, graph: &Graph, query: &Query) -> Result<Vec<Hint>, AllocError>
-    ensures { IfOk result (λ hints. AreCertain graph.now (possible_hints (path_term query.now.path)) hints.items) }
+    ensures { IfOk result (λ hints. AreHints graph.now (path_term query.now.path) hints.items) }
 {
     let hints = possible(alloc, &query.path)?;
     certain_of(alloc, graph, &hints)
