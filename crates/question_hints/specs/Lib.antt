@@ -5,3 +5,4 @@ pub mod Kinds
 pub mod Forms
 pub mod Whole
 pub mod Texts
+pub mod Examples

@@ -15,4 +15,4 @@ mod texts;
 
 pub use certain::hints_of;
 pub use hint::Hint;
-pub use laws::law_of_kinds;
+pub use laws::{hints_of_short_paths, law_of_kinds};
