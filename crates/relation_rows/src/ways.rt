@@ -1,8 +1,9 @@
 //! The ways that begin with a row, or with one of some rows, and go on by a row that departs where that one arrives.
 //!
 //! The rows from one object stand together, from a place that is listed. A few of them are gone through; if there are more, those
-//! that depart in time are searched in a timetable, which has only the rows from such busy objects. Where the ways become many, the
-//! zones of their normal rows stand for them from then on, so that ways that lie within others take no memory for long.
+//! that depart in time are searched in a timetable, which has only the rows from such busy objects, and which is made only if few of
+//! them do. A way that lies within the last one is passed over. Where the ways become many, the zones of their normal rows stand for
+//! them from then on, so that ways that lie within others take no memory for long.
 
 ghost use Rattle.std.specs.Prelude.{◌≡◌, ◌⊎◌, ◌↔◌, ◌<◌, ℤ, length, IsTrue, IfOk, OnOk};
 ghost use Rattle.itpg_base.specs.Points.{Point};
