@@ -1,11 +1,11 @@
 -- Ways that begin with a row, and those that begin with one of some rows.
-use Rattle.std.proofs.Common.{◌≡◌, ◌↔◌, ◌⊎◌, inl, inr, ⊎_elim, ℕ, ◌+◌, ◌<◌, ◌≤◌, ℤ, ◌≤ℤ◌, ◌<ℤ◌, List, [], ◌∷◌, ◌++◌, length, slice_index_or, take, Option, Some, None, refl, sym, ◌∙◌, subst, arith}
+use Rattle.std.proofs.Common.{◌≡◌, ◌↔◌, ◌⊎◌, inl, inr, ⊎_elim, ℕ, zero, suc, ◌+◌, ◌<◌, ◌≤◌, ℤ, ◌-ℤ◌, ◌≤ℤ◌, ◌<ℤ◌, List, [], ◌∷◌, ◌++◌, length, slice_index_or, take, Option, Some, None, false, refl, sym, ◌∙◌, subst, arith, SFits, w64, to_z, of_z, to_z-of_z}
 use Rattle.std.proofs.lemmas.Int.{ints}
 use Rattle.std.proofs.lemmas.List.{take_more, take_all}
 use Rattle.itpg_base.specs.declared.object_number.ObjNo.{ObjNo}
 use Rattle.itpg_base.specs.Points.{Point}
 use Rattle.zone_core.specs.declared.Bounds.{Bounds}
-use Rattle.zone_core.specs.Zone.{Between, Meets, Holds, IsZoneOf}
+use Rattle.zone_core.specs.Zone.{Between, Meets, Holds, IsNear, IsZoneOf}
 use Rattle.zone_compose.specs.Compose.{HasMiddle, AreArrivals}
 use Rattle.itpg_base.specs.Lists.{Among, Ordered}
 use Rattle.band_normal.specs.declared.band.Band.{Band}
@@ -15,10 +15,12 @@ use Rattle.itpg_base.proofs.Lists.{among_append, append_first, append_second, am
 use Rattle.relation_rows.specs.declared.rows.Row.{Row}
 use Rattle.relation_rows.specs.declared.timetable.Leg.{Leg}
 use Rattle.relation_rows.specs.Rows.{InRow, RowsHold, RowBefore}
-use Rattle.relation_rows.specs.Relations.{Item, ItemsHold, HasMiddlePoint}
+use Rattle.relation_rows.specs.Relations.{Item, InItem, ItemsHold, HasMiddlePoint}
 use Rattle.relation_rows.specs.Timetables.{DepartsWithin, HasZone}
-use Rattle.relation_rows.specs.Ways.{ItemThere, GoesOn, GoesOnBy, GoesThrough, IsStill, AreComposed}
+use Rattle.relation_rows.specs.Ways.{ItemThere, GoesBy, GoesOn, GoesOnBy, GoesThrough, IsStill, AreComposed}
 use Rattle.relation_rows.proofs.Pushing.{items_more, rows_more}
+use Rattle.relation_rows.proofs.Arriving.{end_up}
+use Rattle.std.specs.Prelude.{slice_get, int_lt, int_le, IsTrue}
 
 -- an item is pushed where its zone is there
 pub pushed_there : (source target : ObjNo) (old next : List Item) (zone : Bounds) (o : Option Bounds) → o ≡ Some zone → next ≡ old ++ (source, target, zone) ∷ []
@@ -36,6 +38,112 @@ there_holds source target (Some z) x y h = (h.source, h.target, h.pair)
 holds_there : (source target : ObjNo) (o : Option Bounds) (x y : Point) → (source.0 ≡ x.object) → (target.0 ≡ y.object) → Holds o x.moment y.moment → ItemThere source target o x y
 holds_there source target None x y e f h = absurd h
 holds_there source target (Some z) x y e f h = record { source = e; target = f; pair = h }
+
+-- the ways by the zone and then the row are there
+pub pushed_by : (source : ObjNo) (zone : Bounds) (s : Row) (old next : List Item) (way : Option Bounds) → ((t : ℤ) → (u : ℤ) → Holds way t u ↔ GoesThrough zone s.band t u)
+    → ((x y : Point) → ItemsHold next x y ↔ (ItemsHold old x y ⊎ ItemThere source s.target way x y)) → (x y : Point) → ItemsHold next x y ↔ (ItemsHold old x y ⊎ GoesBy source zone s x y)
+pushed_by source zone s old next way of pushed x y = (
+  λ h. ⊎_elim
+      (λ a. inl a)
+      (λ a. let k = there_holds source s.target way x y a in inr (record { source = k.0; target = k.1; pair = (of x.moment y.moment).0 k.2 }))
+      ((pushed x y).0 h),
+  λ h. (pushed x y).1 (⊎_elim
+      (λ a. inl a)
+      (λ (a : GoesBy source zone s x y). inr (holds_there source s.target way x y a.source a.target ((of x.moment y.moment).1 a.pair)))
+      h),
+)
+
+item_at : (items : List Item) (k : ℕ) (i : Item) → slice_get items k ≡ Some i → (x y : Point) → InItem i x y → ItemsHold items x y
+item_at [] zero i e x y h = let none : ⊥ = cc in absurd none
+item_at [] (suc k) i e x y h = let none : ⊥ = cc in absurd none
+item_at (j ∷ js) zero i e x y h = let same : j ≡ i = cc in (i, inl same, h)
+item_at (j ∷ js) (suc k) i e x y h = let w = item_at js k i e x y h in (w.0, inr w.1, w.2)
+
+-- an item of the list has them
+pub had_by : (source : ObjNo) (zone : Bounds) (s : Row) (items : List Item) (k : ℕ) (i : Item) → slice_get items k ≡ Some i → ((x : Point) → (y : Point) → GoesBy source zone s x y → InItem i x y)
+    → (x y : Point) → ItemsHold items x y ↔ (ItemsHold items x y ⊎ GoesBy source zone s x y)
+had_by source zone s items k i e has x y = (λ h. inl h, λ h. ⊎_elim (λ a. a) (λ a. item_at items k i e x y (has x y a)) h)
+
+-- differences of a band's first and last arrival and a zone's departures are in range
+pub soon_fits : (band : Band) (low : ℤ) → IsWellFormed band → low ≡ end_at band.low band.from → (k : Bounds) → IsNear k → SFits w64 (to_z w64 (of_z w64 low) -ℤ to_z w64 (of_z w64 k.b))
+soon_fits band low formed is k near =
+    let span = formed.span in
+    let moment = formed.low band.from (omega (arith, ints)) span in
+    let above = moment.above in
+    let below = moment.below in
+    let first = near.b in
+    let begins = first.above in
+    let ends = first.below in
+    let fits : SFits w64 low = omega (arith, ints, is, above, below) in
+    let bound : SFits w64 k.b = omega (arith, ints, begins, ends) in
+    rw (to_z-of_z fits, to_z-of_z bound) (omega (arith, ints, is, above, below, begins, ends))
+
+pub late_fits : (band : Band) (high : ℤ) → IsWellFormed band → high ≡ end_at band.high band.to → (k : Bounds) → IsNear k → SFits w64 (to_z w64 (of_z w64 high) -ℤ to_z w64 (of_z w64 k.a))
+late_fits band high formed is k near =
+    let span = formed.span in
+    let moment = formed.high band.to span (omega (arith, ints)) in
+    let above = moment.above in
+    let below = moment.below in
+    let first = near.a in
+    let begins = first.above in
+    let ends = first.below in
+    let fits : SFits w64 high = omega (arith, ints, is, above, below) in
+    let bound : SFits w64 k.a = omega (arith, ints, begins, ends) in
+    rw (to_z-of_z fits, to_z-of_z bound) (omega (arith, ints, is, above, below, begins, ends))
+
+pub soon_enough : (band : Band) (low : ℤ) → IsWellFormed band → low ≡ end_at band.low band.from → (k : Bounds) → IsNear k → (z : ℤ) → SFits w64 z
+    → int_lt (to_z w64 (of_z w64 (to_z w64 (of_z w64 low) -ℤ to_z w64 (of_z w64 k.b)))) (to_z w64 (of_z w64 z)) ≡ false → z ≤ℤ (low -ℤ k.b)
+soon_enough band low formed is k near z room test =
+    let whole = to_z-of_z (soon_fits band low formed is k near) in
+    let moment = formed.low band.from (omega (arith, ints)) formed.span in
+    let above = moment.above in
+    let below = moment.below in
+    let begins = near.b.above in
+    let ends = near.b.below in
+    let fits : SFits w64 low = omega (arith, ints, is, above, below) in
+    let bound : SFits w64 k.b = omega (arith, ints, begins, ends) in
+    let one = to_z-of_z fits in
+    let two = to_z-of_z bound in
+    let three = to_z-of_z room in
+    omega (arith, ints, whole, one, two, three, test)
+
+pub late_enough : (band : Band) (high : ℤ) → IsWellFormed band → high ≡ end_at band.high band.to → (k : Bounds) → IsNear k → (z : ℤ) → SFits w64 z
+    → IsTrue (int_le (to_z w64 (of_z w64 (to_z w64 (of_z w64 high) -ℤ to_z w64 (of_z w64 k.a)))) (to_z w64 (of_z w64 z))) → (high -ℤ k.a) ≤ℤ z
+late_enough band high formed is k near z room test =
+    let whole = to_z-of_z (late_fits band high formed is k near) in
+    let moment = formed.high band.to formed.span (omega (arith, ints)) in
+    let above = moment.above in
+    let below = moment.below in
+    let begins = near.a.above in
+    let ends = near.a.below in
+    let fits : SFits w64 high = omega (arith, ints, is, above, below) in
+    let bound : SFits w64 k.a = omega (arith, ints, begins, ends) in
+    let one = to_z-of_z fits in
+    let two = to_z-of_z bound in
+    let three = to_z-of_z room in
+    omega (arith, ints, whole, one, two, three, test)
+
+-- a zone that has all departures of the first zone with all arrivals of the band has each pair that goes through
+pub around : (all first : Bounds) (band : Band) (low high : ℤ) → low ≡ end_at band.low band.from → high ≡ end_at band.high band.to
+    → all.a ≤ℤ first.a → first.b ≤ℤ all.b → all.c ≤ℤ low → high ≤ℤ all.d → all.e ≤ℤ (low -ℤ first.b) → (high -ℤ first.a) ≤ℤ all.f
+    → (t : ℤ) → (u : ℤ) → GoesThrough first band t u → Meets all t u
+around all first band low high is_low is_high begins ends least greatest soon late t u w =
+    let m = w.1 in
+    let i = w.2 in
+    let up = end_up band.low band.from w.0 i.from in
+    let down = end_up band.high w.0 band.to i.to in
+    let after = m.from in
+    let before = m.to in
+    let above = i.low in
+    let below = i.high in
+    record {
+      from = omega (arith, ints, begins, after);
+      to = omega (arith, ints, ends, before);
+      low = omega (arith, ints, is_low, least, up, above);
+      high = omega (arith, ints, is_high, greatest, down, below);
+      least = omega (arith, ints, is_low, soon, up, above, before);
+      most = omega (arith, ints, is_high, late, down, below, after);
+    }
 
 -- a composed zone has the pairs that go through
 pub through : (zone second : Bounds) (band : Band) → ((t u : ℤ) → Meets second t u ↔ InBand band t u) → (way : Option Bounds) → IsZoneOf (HasMiddle zone second) way → (t : ℤ) → (u : ℤ) → Holds way t u ↔ GoesThrough zone band t u
@@ -93,14 +201,28 @@ module _ (row : Row) (zone : Bounds) (is : (t u : ℤ) → Meets zone t u ↔ In
         ((of x.moment y.moment).1 ((h.0).moment, (is x.moment (h.0).moment).1 a.pair, b.pair)),
   )
 
+  -- and by the zone and then the row
+  by_one : (s : Row) → s.source.0 ≡ row.target.0 → (x y : Point) → GoesBy row.source zone s x y ↔ ((m : Point) × InRow row x m × InRow s m y)
+  by_one s same x y = (
+    λ h.
+        let w = h.pair in (
+          record { object = row.target.0; moment = w.0 },
+          record { source = h.source; target = refl; pair = (is x.moment w.0).0 w.1 },
+          record { source = same; target = h.target; pair = w.2 },
+        ),
+    λ h.
+        let a = h.1 in let b = h.2 in
+        record { source = a.source; target = b.target; pair = ((h.0).moment, (is x.moment (h.0).moment).1 a.pair, b.pair) },
+  )
+
   -- one more row
   pub next_more : (items now next : List Item) (here : List Row) (k : ℕ) (d : Row) → k < length here
-      → (slice_index_or here k d).source.0 ≡ row.target.0 → (way : Option Bounds) → ((t : ℤ) → (u : ℤ) → Holds way t u ↔ GoesThrough zone (slice_index_or here k d).band t u)
-      → ((x y : Point) → ItemsHold next x y ↔ (ItemsHold now x y ⊎ ItemThere row.source (slice_index_or here k d).target way x y))
+      → (slice_index_or here k d).source.0 ≡ row.target.0
+      → ((x y : Point) → ItemsHold next x y ↔ (ItemsHold now x y ⊎ GoesBy row.source zone (slice_index_or here k d) x y))
       → ((x y : Point) → ItemsHold now x y ↔ (ItemsHold items x y ⊎ GoesOn row (take k here) x y))
       → (x y : Point) → ItemsHold next x y ↔ (ItemsHold items x y ⊎ GoesOn row (take (k + 1) here) x y)
-  next_more items now next here k d lt same way of pushed old x y =
-      let one = one_way (slice_index_or here k d) same way of x y in (
+  next_more items now next here k d lt same pushed old x y =
+      let one = by_one (slice_index_or here k d) same x y in (
         λ h. ⊎_elim
             (λ a. ⊎_elim
             (λ b. inl b)
@@ -199,11 +321,11 @@ module _ (row : Row) (second here : List Row) (are : (r : Row) → Among here r 
       from_target m i g = let j = g.2 in (g.0, (are g.0).1 (g.1, j.source ∙ sym i.target), g.2)
 
   -- and so are their legs, where there are many
-  pub by_busy : (busy : List Leg) → AreComposed second busy → Ordered RowBefore here → 8 < length here → ((x y : Point) → ItemsHold next x y ↔ (ItemsHold items x y ⊎ GoesOnBy row busy x y))
+  pub by_busy : (busy : List Leg) → AreComposed second busy → Ordered RowBefore here → 8 < length here → 0 < length busy → ((x y : Point) → ItemsHold next x y ↔ (ItemsHold items x y ⊎ GoesOnBy row busy x y))
       → (x y : Point) → ItemsHold next x y ↔ (ItemsHold items x y ⊎ GoesOn row second x y)
-  by_busy busy is order many pushed x y = (
+  by_busy busy is order many some pushed x y = (
     λ h. ⊎_elim (λ a. inl a) (λ (b : GoesOnBy row busy x y). inr (b.0, b.1, is.there b.0 y b.2)) ((pushed x y).0 h),
-    λ h. (pushed x y).1 (⊎_elim (λ a. inl a) (λ (b : GoesOn row second x y). inr (b.0, b.1, is.all row.target.0 here (order, are) many b.0 y (from_target b.0 b.1 b.2))) h),
+    λ h. (pushed x y).1 (⊎_elim (λ a. inl a) (λ (b : GoesOn row second x y). inr (b.0, b.1, is.all row.target.0 here (order, are) many some b.0 y (from_target b.0 b.1 b.2))) h),
   )
     where
       from_target : (m : Point) → InRow row x m → RowsHold second m y → RowsHold here m y

@@ -109,7 +109,7 @@ key_trans o p q r s t (inl a) (inr (e, b)) = inl (omega arith)
 key_trans o p q r s t (inr (e, a)) (inl b) = inl (omega arith)
 key_trans o p q r s t (inr (e, a)) (inr (f, b)) = inr (e ∙ f, omega arith)
 
-coming_down : (o p : ℕ) (r s : Row) → RowBefore r s → comes_before s o p ≡ true → comes_before r o p ≡ true
+pub coming_down : (o p : ℕ) (r s : Row) → RowBefore r s → comes_before s o p ≡ true → comes_before r o p ≡ true
 coming_down o p r s b e =
     let k = comes_is s o p e in
     is_coming r o p (⊎_elim

@@ -27,16 +27,16 @@ more_reached rows k d lt reach next own others so r a = ⊎_elim
 pub all_reached : (rows : List Row) (k : ℕ) (reach : Farthest) → length rows ≤ k → ((r : Row) → Among (take k rows) r → Reaches reach r) → (r : Row) → Among rows r → Reaches reach r
 all_reached rows k reach le so r a = so r (subst (λ (v : List Row). Among v r) (sym (take_all k rows le)) a)
 
-pub no_legs : (rows : List Row) (legs : List Leg) → length rows ≡ 0 → HasLegs rows legs legs
-no_legs [] legs e = ([], sym (append-nil legs), refl, none, λ s a. absurd a)
+pub none_reach : (depth : ℕ) → AreReached depth []
+none_reach zero = tt
+none_reach (suc depth) = λ before behind middle is half. absurd (empty before behind middle is)
   where
     empty : (before behind : List Leg) (middle : Leg) → [] ≡ before ++ middle ∷ behind → ⊥
     empty [] behind middle is = let none : ⊥ = cc in none
     empty (x ∷ xs) behind middle is = let none : ⊥ = cc in none
 
-    none : (depth : ℕ) → AreReached depth []
-    none zero = tt
-    none (suc depth) = λ before behind middle is half. absurd (empty before behind middle is)
+pub no_legs : (rows : List Row) (legs : List Leg) → length rows ≡ 0 → HasLegs rows legs legs
+no_legs [] legs e = ([], sym (append-nil legs), refl, none_reach, λ s a. absurd a)
 no_legs (r ∷ rs) legs e = absurd (omega arith)
 
 -- what stands before, in the middle and behind, of two lists that are one

@@ -15,6 +15,7 @@ use Rattle.relation_rows.specs.Rows.{RowBefore, RowsHold}
 use Rattle.relation_rows.specs.Timetables.{LegsHold, IsTimetable}
 use Rattle.relation_rows.specs.Ways.{AreFrom, HasBusy, AreComposed}
 use Rattle.relation_rows.proofs.Listed.{row_apart}
+use Rattle.relation_rows.proofs.Reaching.{none_reach}
 use Rattle.relation_rows.proofs.Partitions.{among_before, among_behind, among_either, front_among, rest_among, rest_ordered, first_before}
 
 abbrev pub has_source : Row → Row → Bool
@@ -184,5 +185,15 @@ composed_of second busy legs order formed there all table holds = record {
   formed = formed;
   table = table;
   there = λ x y h. let k = (holds x y).0 h in (k.0, there k.0 k.1, k.2);
-  all = λ o group are many x y h. (holds x y).1 (h.0, all o group are many h.0 h.1, h.2);
+  all = λ o group are many some x y h. (holds x y).1 (h.0, all o group are many h.0 h.1, h.2);
 }
+
+-- rows in order, and no timetable
+pub none_composed : (second : List Row) (legs : List Leg) → legs ≡ [] → Ordered RowBefore second → ((r : Row) → Among second r → IsWellFormed r.band) → AreComposed second legs
+none_composed second legs none order formed = subst (λ (v : List Leg). AreComposed second v) (sym none) (record {
+  order = order;
+  formed = formed;
+  table = record { order = tt; reach = none_reach; formed = λ s a. absurd a; zones = λ s a. absurd a };
+  there = λ x y h. absurd (h.1);
+  all = λ o group are many some x y h. absurd (omega arith);
+})

@@ -1,12 +1,16 @@
 -- Rows that stand in two lists, taken out of both.
-use Rattle.std.proofs.Common.{◌≡◌, ◌⊎◌, ◌↔◌, inl, inr, ⊎_elim, List, [], ◌∷◌, ◌++◌, refl, sym, subst, append_assoc}
+use Rattle.std.proofs.Common.{◌≡◌, ◌⊎◌, ◌↔◌, inl, inr, ⊎_elim, ℕ, ◌<◌, ◌-◌, List, [], ◌∷◌, ◌++◌, length, get_or, true, refl, sym, ◌∙◌, subst, arith, append_assoc}
 use Rattle.itpg_base.specs.Points.{Point}
 use Rattle.itpg_base.specs.Lists.{Among, Ordered}
-use Rattle.itpg_base.proofs.Lists.{among_append, append_first, append_second, append_ordered, ordered_first, ordered_second, ordered_across}
+use Rattle.itpg_base.proofs.Lists.{among_append, append_first, append_second, append_ordered, ordered_first, ordered_second, ordered_across, ordered_by_place, place_of}
+use Rattle.itpg_base.proofs.Searches.{at_most}
 use Rattle.relation_rows.specs.declared.rows.Row.{Row}
-use Rattle.relation_rows.specs.Rows.{RowBefore, InRow, RowsHold, IsRelation, RowsHold, NormalRows}
+use Rattle.relation_rows.specs.Rows.{KeyBefore, RowBefore, InRow, RowsHold, IsRelation, NormalRows}
+use Rattle.relation_rows.specs.Searching.{comes_before}
 use Rattle.relation_rows.specs.Relations.{OnlyFirstHolds}
-use Rattle.relation_rows.proofs.Listed.{row_apart}
+use Rattle.relation_rows.proofs.Listed.{row_apart, key_apart}
+use Rattle.relation_rows.proofs.Gathering.{up_to_key}
+use Rattle.relation_rows.proofs.Keys.{comes_is, coming_down}
 
 -- an element more in the middle
 among_middle : {X : Type 0} (xs ys : List X) (b x : X) → Among (xs ++ b ∷ ys) x → (b ≡ x) ⊎ Among (xs ++ ys) x
@@ -88,6 +92,10 @@ striking_both first second kept left cuts right rows others row other e f g is s
       same = λ x y. let k = strike_both first is kept rows cuts others row h.order h.there x y in let m = h.same x y in (λ a. m.0 (k.1 a), λ a. k.0 (m.1 a));
     }
 
+up_to_row : (o p : ℕ) (row r : Row) → KeyBefore o p row.source.0 row.target.0 → RowBefore row r → KeyBefore o p r.source.0 r.target.0
+up_to_row o p row r k (inl b) = up_to_key _ _ _ _ _ _ k (inl b)
+up_to_row o p row r k (inr b) = up_to_key _ _ _ _ _ _ k (inr (b.0, b.1))
+
 moved : (done left rest done' : List Row) (row : Row) → left ≡ row ∷ rest → done' ≡ done ++ row ∷ [] → done ++ left ≡ done' ++ rest
 moved done left rest done' row e f =
     subst (λ (v : List Row). done ++ left ≡ v ++ rest) (sym f) (subst (λ (v : List Row). done ++ left ≡ v) (sym (append_assoc done (row ∷ []) rest)) (subst (λ (v : List Row). done ++ left ≡ done ++ v) e refl))
@@ -113,6 +121,57 @@ striking_right first second kept left cuts right others cuts' other e f s =
       cuts_there = subst (λ (v : List Row). (r : Row) → Among v r → Among second r) all s.cuts_there;
       same = λ x y. subst (λ (v : List Row). OnlyFirstHolds (kept ++ left) v x y ↔ OnlyFirstHolds first second x y) all (s.same x y);
     }
+
+-- a cut that comes by source and target after all rows that were kept, and before the next one, is passed over
+pub striking_past : (first second kept left cuts right rows others : List Row) (row other : Row) → left ≡ row ∷ rows → right ≡ other ∷ others
+    → KeyBefore other.source.0 other.target.0 row.source.0 row.target.0 → ((r : Row) → Among kept r → KeyBefore r.source.0 r.target.0 other.source.0 other.target.0)
+    → AreStriking first second kept left cuts right → AreStriking first second kept left cuts others
+striking_past first second kept left cuts right rows others row other e f behind before s =
+    let P : List Row → Type 0 = λ v. AreStriking first second kept left cuts v in
+    let h = subst P f s in
+    record {
+      order = h.order;
+      cuts_order = without_middle cuts others other h.cuts_order;
+      there = h.there;
+      cuts_there = λ r a. h.cuts_there r (middle_among cuts others other r a);
+      same = λ x y.
+          let two = middle cuts others other x y in
+          let m = h.same x y in (
+            λ a. m.0 (a.0, λ k. ⊎_elim (λ i. none x y a.0 i) (λ j. a.1 j) (two.0 k)),
+            λ a. let b = m.1 a in (b.0, λ k. b.1 (two.1 (inr k))),
+          );
+    }
+  where
+    later : (r : Row) → Among left r → KeyBefore other.source.0 other.target.0 r.source.0 r.target.0
+    later r a = ⊎_elim
+        (λ (g : row ≡ r). subst (λ (v : Row). KeyBefore other.source.0 other.target.0 v.source.0 v.target.0) g behind)
+        (λ i. up_to_row _ _ row r behind ((subst (λ (v : List Row). Ordered RowBefore v) e (ordered_second RowBefore kept left s.order)).0 r i))
+        (subst (λ (v : List Row). Among v r) e a)
+
+    none : (x y : Point) → RowsHold (kept ++ left) x y → InRow other x y → ⊥
+    none x y h i =
+        let j = h.2 in
+        ⊎_elim
+        (λ a. key_apart _ _ _ _ (before h.0 a) (j.source ∙ sym i.source) (j.target ∙ sym i.target))
+        (λ a. key_apart _ _ _ _ (later h.0 a) (i.source ∙ sym j.source) (i.target ∙ sym j.target))
+        (among_append kept left h.0 h.1)
+
+-- what comes before the last row, by source and target, comes after all
+pub all_come : (rows : List Row) → Ordered RowBefore rows → (n : ℕ) (d : Row) (o p : ℕ) → n ≡ length rows → 0 < n → comes_before (get_or rows (n - 1) d) o p ≡ true
+    → (r : Row) → Among rows r → KeyBefore r.source.0 r.target.0 o p
+all_come rows order n d o p is some last r a =
+    let w = place_of rows r a in
+    let within : n - 1 < length rows = omega (arith, is, some) in
+    let same = w.2 d in
+    let place = w.1 in
+    comes_is r o p (elim (at_most (n - 1) w.0) [
+      | inl le ↦ (
+          let at : w.0 ≡ n - 1 = omega (arith, le, place, is, some) in
+          subst (λ (v : Row). comes_before v o p ≡ true) same (subst (λ (k : ℕ). comes_before (get_or rows k d) o p ≡ true) (sym at) last)
+          )
+      | inr gt ↦ subst (λ (v : Row). comes_before v o p ≡ true) same
+          (coming_down o p (get_or rows w.0 d) (get_or rows (n - 1) d) (ordered_by_place RowBefore rows order w.0 (n - 1) d (omega (arith, gt)) within) last)
+    ])
 
 -- what is left of both is kept too
 pub record AreStruck (first second kept cuts : List Row) : Type 0 where

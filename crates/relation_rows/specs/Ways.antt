@@ -27,6 +27,12 @@ IsStill band = (band.low ≡ Moving (pos 0)) × (band.high ≡ Moving (pos 0))
 abbrev pub GoesThrough : Bounds → Band → ℤ → ℤ → Type 0
 GoesThrough zone band t u = (s : ℤ) × Meets zone t s × InBand band s u
 
+-- from the source, by the zone and then the row, to where the row leads
+pub record GoesBy (origin : ObjNo) (zone : Bounds) (next : Row) (x y : Point) : Type 0 where
+  pub source : origin.0 ≡ x.object
+  pub target : next.target.0 ≡ y.object
+  pub pair : GoesThrough zone next.band x.moment y.moment
+
 -- the row leads to a point from which some row of the list does
 abbrev pub GoesOn : Row → List Row → Relation
 GoesOn row second x y = (m : Point) × InRow row x m × RowsHold second m y
@@ -43,13 +49,13 @@ AreFrom rows o group = Ordered RowBefore group × ((r : Row) → Among group r �
 abbrev pub HasBusy : List Row → List Row → Type 0
 HasBusy rows busy = (o : ℕ) (group : List Row) → AreFrom rows o group → 8 < length group → (r : Row) → Among group r → Among busy r
 
--- rows in order, and a timetable of those from busy objects
+-- rows in order, and a timetable of those from busy objects, or an empty one
 pub record AreComposed (second : List Row) (busy : List Leg) : Type 0 where
   pub order : Ordered RowBefore second
   pub formed : (r : Row) → Among second r → IsWellFormed r.band
   pub table : IsTimetable busy
   pub there : (x y : Point) → LegsHold busy x y → RowsHold second x y
-  pub all : (o : ℕ) (group : List Row) → AreFrom second o group → 8 < length group → (x y : Point) → RowsHold group x y → LegsHold busy x y
+  pub all : (o : ℕ) (group : List Row) → AreFrom second o group → 8 < length group → 0 < length busy → (x y : Point) → RowsHold group x y → LegsHold busy x y
 
 -- by the first departure
 abbrev pub DepartsNoLater : Row → Row → Type 0

@@ -23,7 +23,7 @@ use crate::offsets::Offsets;
 use crate::relations::Relation;
 use crate::rows::{RelFault, Row};
 use crate::timetable::{Leg, timetable};
-use crate::ways::{FEW, MANY, with_ways};
+use crate::ways::{FEW, MANY, is_timetable_due, with_ways};
 use itpg_base::count_leading;
 use std::alloc::{AllocError, Global};
 
@@ -190,12 +190,17 @@ fn of_sources(
     Ok(Relation { rows: ways })
 }
 
-// A timetable of the rows from the objects from which there are many.
-fn busy_legs(alloc: Global, second: &Offsets<'_>) -> Result<Vec<Leg>, AllocError>
-    requires { (r : PlainRow) → Among second.now r → IsWellFormed r.band }
+// A timetable of the second rows from the objects from which there are many, if it pays to search for what the first ones go on by.
+fn busy_legs(alloc: Global, first: &[Row], second: &Offsets<'_>) -> Result<Vec<Leg>, AllocError>
+    requires first { (r : PlainRow) → Among first.now r → IsWellFormed r.band }
+    requires second { (r : PlainRow) → Among second.now r → IsWellFormed r.band }
     ensures { IfOk result (λ busy. AreComposed second.now busy.items) }
 {
-    let rows = busy_rows(alloc, second.rows())?;
+    let all = second.rows();
+    if !is_timetable_due(first, second) {
+        return Ok(Vec::new(alloc));
+    }
+    let rows = busy_rows(alloc, all)?;
     let legs = timetable(alloc, &rows)?;
     Ok(legs)
 }
@@ -228,7 +233,7 @@ pub(crate) fn composed(
     if left.is_empty() {
         return Ok(Relation { rows: done });
     }
-    let busy = busy_legs(alloc, second)?;
+    let busy = busy_legs(alloc, left, second)?;
     let mut known = Known::new(alloc);
     while let Some(first) = left.first() {
         let (group, later) = left.split_at(batch_len(left, first));

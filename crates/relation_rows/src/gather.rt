@@ -5,6 +5,7 @@
 //! target needs whose rows pass it.
 
 ghost use Rattle.std.specs.Prelude.{◌≡◌, ◌⊎◌, ◌++◌, ℤ, ◌<◌, ◌≤◌, ◌↔◌, length, map, take, drop, slice_get, Some, IfOk, OnOk, IsTrue};
+ghost use Rattle.std.specs.List.Sorted.{IsPermutation};
 ghost use Rattle.itpg_base.specs.declared.object_number.ObjNo.{ObjNo as PlainObjNo};
 ghost use Rattle.itpg_base.specs.Points.{Point};
 ghost use Rattle.zone_core.specs.Zone.{Meets};
@@ -146,6 +147,14 @@ fn place_of(item: &Item) -> ((ObjNo, ObjNo), (i64, i64))
     ((item.0, item.1), (bounds.a, bounds.c))
 }
 
+/// Puts the items in order.
+pub(crate) fn sort_items(items: &mut Vec<Item>)
+    ensures order { Ordered ItemUpTo items.new.items }
+    ensures same { IsPermutation items.old.items items.new.items }
+{
+    items.sort_unstable_by_key(|item| place_of(item));
+}
+
 /// The relation of the items, in whatever order they stand.
 pub(crate) fn gathered_of(
     known: &mut Known,
@@ -155,7 +164,7 @@ pub(crate) fn gathered_of(
     ensures gives { Gives result (ItemsHold items.items) room }
     ensures counted { IsCounted result room }
 {
-    items.sort_unstable_by_key(|item| place_of(item));
+    sort_items(&mut items);
     gathered(known, &items, room)
 }
 

@@ -1,13 +1,14 @@
 //! Two lists of rows without the rows that stand in both.
 
-ghost use Rattle.std.specs.Prelude.{◌≡◌, ◌↔◌, IfOk};
+ghost use Rattle.std.specs.Prelude.{◌≡◌, ◌↔◌, IfOk, IsTrue};
 ghost use Rattle.itpg_base.specs.Points.{Point};
 ghost use Rattle.itpg_base.specs.Lists.{Among, Ordered};
 ghost use Rattle.relation_rows.specs.declared.rows.Row.{Row as PlainRow};
-ghost use Rattle.relation_rows.specs.Rows.{RowBefore, IsRelation};
+ghost use Rattle.relation_rows.specs.Rows.{KeyBefore, RowBefore, IsRelation};
 ghost use Rattle.relation_rows.specs.Relations.{OnlyFirstHolds};
 
 use crate::rows::Row;
+use crate::search::comes_before_key;
 use band_normal::End;
 use itpg_base::ObjNo;
 use std::alloc::{AllocError, Global};
@@ -20,6 +21,22 @@ fn place_of(row: &Row) -> (ObjNo, ObjNo, i64, i64) {
         End::Moving(difference) => band.from.saturating_add(difference),
     };
     (row.source, row.target, band.from, low)
+}
+
+// Whether the cut comes by source and target after all rows that were kept and before the next one, so that it cuts none.
+fn is_between(kept: &[Row], cut: &Row, next: &Row) -> bool
+    requires { Ordered RowBefore kept.now }
+    ensures next { IsTrue result → KeyBefore cut.now.source.0 cut.now.target.0 next.now.source.0 next.now.target.0 }
+    ensures kept { IsTrue result → (r : PlainRow) → Among kept.now r → KeyBefore r.source.0 r.target.0 cut.now.source.0 cut.now.target.0 }
+{
+    if !comes_before_key(cut, next.source, next.target) {
+        return false;
+    }
+    let count = kept.len();
+    if count == 0 {
+        return true;
+    }
+    comes_before_key(&kept[count - 1], cut.source, cut.target)
 }
 
 /// Both lists without the rows that stand in both. What the first holds and the second doesn't stays the same.
@@ -52,6 +69,8 @@ pub(crate) fn struck(
         } else if place_of(row) < place_of(other) {
             kept.push(*row)?;
             left = rows;
+        } else if is_between(&kept, other, row) {
+            right = others;
         } else {
             cuts.push(*other)?;
             right = others;

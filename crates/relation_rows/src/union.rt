@@ -13,7 +13,7 @@ ghost use Rattle.relation_rows.specs.Answers.{Gives};
 ghost use Rattle.relation_rows.specs.Relations.{EitherHolds};
 ghost use Rattle.relation_rows.specs.Uniting.{KeyUpTo, IsNext, IsPart, EitherHas, HasPushed};
 
-use crate::gather::{push_bands, push_zones};
+use crate::gather::{push_bands, push_zones, sort_items};
 use crate::known::Known;
 use crate::relations::Relation;
 use crate::rows::{RelFault, Row};
@@ -66,6 +66,7 @@ fn learn_both(known: &mut Known, here: &[Row], there: &[Row]) -> Result<(), Allo
     let mut items = Vec::new(known.allocator());
     push_zones(&mut items, here)?;
     push_zones(&mut items, there)?;
+    sort_items(&mut items);
     known.learn(&items)?;
     Ok(())
 }

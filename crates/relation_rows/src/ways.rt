@@ -1,20 +1,22 @@
 //! The ways that begin with a row, or with one of some rows, and go on by a row that departs where that one arrives.
 //!
 //! The rows from one object stand together, from a place that is listed. A few of them are gone through; if there are more, those
-//! that depart in time are searched in a timetable, which has only the rows from such busy objects. Where the ways become many, the
-//! zones of their normal rows stand for them from then on, so that ways that lie within others take no memory for long.
+//! that depart in time are searched in a timetable, which has only the rows from such busy objects, and which is made only if few of
+//! them do. A way that lies within the last one is passed over. Where the ways become many, the zones of their normal rows stand for
+//! them from then on, so that ways that lie within others take no memory for long.
 
-ghost use Rattle.std.specs.Prelude.{◌≡◌, ◌⊎◌, ◌↔◌, ℤ, IsTrue, IfOk, OnOk};
+ghost use Rattle.std.specs.Prelude.{◌≡◌, ◌⊎◌, ◌↔◌, ◌<◌, ℤ, length, IsTrue, IfOk, OnOk};
 ghost use Rattle.itpg_base.specs.Points.{Point};
 ghost use Rattle.zone_core.specs.Zone.{Between, Holds, Meets};
 ghost use Rattle.zone_compose.specs.Compose.{AreArrivals};
 ghost use Rattle.itpg_base.specs.Lists.{Among};
 ghost use Rattle.band_normal.specs.Bands.{IsWellFormed};
 ghost use Rattle.relation_rows.specs.declared.rows.Row.{Row as PlainRow};
-ghost use Rattle.relation_rows.specs.Relations.{ItemsHold, HasMiddlePoint};
+ghost use Rattle.relation_rows.specs.Relations.{InItem, ItemsHold, HasMiddlePoint};
 ghost use Rattle.relation_rows.specs.Timetables.{IsTimetable};
-ghost use Rattle.relation_rows.specs.Ways.{ItemThere, GoesOn, GoesOnBy, GoesThrough, IsStill, AreComposed};
+ghost use Rattle.relation_rows.specs.Ways.{ItemThere, GoesBy, GoesOn, GoesOnBy, GoesThrough, IsStill, AreComposed};
 
+use crate::direct::{first_arrival, last_arrival};
 use crate::gather::{Item, gathered_all, push_zones};
 use crate::offsets::Offsets;
 use crate::rows::Row;
@@ -30,6 +32,12 @@ pub(crate) const MANY: usize = 65_536;
 
 /// So many rows from one object are gone through, and more are searched.
 pub(crate) const FEW: usize = 8;
+
+// So many of the rows from one object are tried, before they are searched.
+const TRIED: usize = 8;
+
+// A leg of a timetable takes as long as passing so many rows.
+const DEAR: usize = 32;
 
 fn push_there(
     items: &mut Vec<Item>,
@@ -84,6 +92,61 @@ fn way_by(zone: &Zone, span: (i64, i64), band: &Band) -> Option<Zone>
     compose(zone, &zone_of(band))
 }
 
+// Whether the zone has each pair of moments that leads by the first zone and then the band. False also where that isn't seen.
+fn is_around(zone: &Zone, first: &Zone, band: &Band) -> bool
+    requires { IsWellFormed band.now }
+    ensures { IsTrue result → (t : ℤ) → (u : ℤ) → GoesThrough first.now band.now t u → Meets zone.now t u }
+{
+    let all = zone.bounds();
+    let departing = first.bounds();
+    if departing.a < all.a || all.b < departing.b {
+        return false;
+    }
+    let low = first_arrival(band);
+    let high = last_arrival(band);
+    if low < all.c || all.d < high {
+        return false;
+    }
+    if low - departing.b < all.e {
+        return false;
+    }
+    high - departing.a <= all.f
+}
+
+// Whether the item has each way from the source by the zone and then the row. False also where that isn't seen.
+fn has_ways(item: &Item, source: ObjNo, zone: &Zone, next: &Row) -> bool
+    requires { IsWellFormed next.now.band }
+    ensures { IsTrue result → (x : Point) → (y : Point) → GoesBy source zone.now next.now x y → InItem item.now x y }
+{
+    if item.0.0 != source.0 || item.1.0 != next.target.0 {
+        return false;
+    }
+    is_around(&item.2, zone, &next.band)
+}
+
+// Adds the ways from the source by the zone and then the row, unless the last item has them.
+fn push_way(
+    items: &mut Vec<Item>,
+    source: ObjNo,
+    zone: &Zone,
+    span: (i64, i64),
+    next: &Row,
+) -> Result<(), AllocError>
+    requires span { AreArrivals zone.now span.0 span.1 }
+    requires next { IsWellFormed next.now.band }
+    ensures { OnOk result ((x : Point) → (y : Point) → ItemsHold items.new.items x y ↔ (ItemsHold items.old.items x y ⊎ GoesBy source zone.now next.now x y)) }
+{
+    let last = items.last().copied();
+    if let Some(last) = last
+        && has_ways(&last, source, zone, next)
+    {
+        return Ok(());
+    }
+    let way = way_by(zone, span, &next.band);
+    push_there(items, source, next.target, way)?;
+    Ok(())
+}
+
 // Adds the ways by the row and one of those from where it arrives.
 fn push_scanned(items: &mut Vec<Item>, row: &Row, here: &[Row]) -> Result<(), AllocError>
     requires row { IsWellFormed row.now.band }
@@ -94,8 +157,7 @@ fn push_scanned(items: &mut Vec<Item>, row: &Row, here: &[Row]) -> Result<(), Al
     let zone = zone_of(&row.band);
     let span = arrivals(&zone);
     for next in here {
-        let way = way_by(&zone, span, &next.band);
-        push_there(items, row.source, next.target, way)?;
+        push_way(items, row.source, &zone, span, next)?;
     }
     Ok(())
 }
@@ -120,6 +182,57 @@ fn push_searched(
     Ok(())
 }
 
+// Whether so many of some of the rows depart while the band arrives that a search for them doesn't pay. It has no clause, since either
+// answer is right.
+fn are_often_met(here: &[Row], band: &Band) -> bool
+    requires { IsWellFormed band.now }
+{
+    let first = first_arrival(band);
+    let last = last_arrival(band);
+    let mut met = 0u32;
+    for i in 0..TRIED {
+        if let Some(row) = here.get((here.len() / TRIED).saturating_mul(i)) {
+            if first <= row.band.to && row.band.from <= last {
+                met = met.saturating_add(1);
+            }
+        }
+    }
+    met > 1
+}
+
+/// Whether a timetable of the second list pays. It has no clause, since either answer is right.
+pub(crate) fn is_timetable_due(rows: &[Row], second: &Offsets<'_>) -> bool
+    requires { (r : PlainRow) → Among rows.now r → IsWellFormed r.band }
+{
+    let most = second.rows().len().saturating_mul(DEAR);
+    let mut passed = 0usize;
+    for row in rows {
+        let others = second.from(row.target);
+        if others.len() > FEW && !are_often_met(others, &row.band) {
+            passed = passed.saturating_add(others.len());
+        }
+        if passed > most {
+            return true;
+        }
+    }
+    false
+}
+
+// Whether the rows that the row goes on by, of these from where it arrives, are searched.
+fn is_searched(here: &[Row], busy: &[Leg], band: &Band) -> bool
+    requires { IsWellFormed band.now }
+    ensures many { IsTrue result → 8 < length here.now }
+    ensures legs { IsTrue result → 0 < length busy.now }
+{
+    if here.len() <= FEW {
+        return false;
+    }
+    if busy.is_empty() {
+        return false;
+    }
+    !are_often_met(here, band)
+}
+
 // Adds the ways that begin with the row.
 fn push_ways(
     items: &mut Vec<Item>,
@@ -133,11 +246,11 @@ fn push_ways(
     ensures { OnOk result ((x : Point) → (y : Point) → ItemsHold items.new.items x y ↔ (ItemsHold items.old.items x y ⊎ GoesOn row.now second.now x y)) }
 {
     let here = second.from(row.target);
-    if here.len() <= FEW {
-        push_scanned(items, row, here)?;
+    if is_searched(here, busy, &row.band) {
+        push_searched(items, found, row, busy)?;
         return Ok(());
     }
-    push_searched(items, found, row, busy)?;
+    push_scanned(items, row, here)?;
     Ok(())
 }
 

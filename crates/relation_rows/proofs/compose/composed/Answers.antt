@@ -51,8 +51,11 @@ returns-then-is_empty c =
     let none : None ≡ slice_get c.loop-first.left.now 0 = subst (λ (v : List Row). None ≡ slice_get v 0) (sym (none_left c.loop-first.left.now c.if-is_empty.ensures)) refl in
     (all_composed c.args.rows.now c.args.second.now c.loop-first.left.now c.loop-first.done.items none c.loop-first.invariant.0, c.loop-first.invariant.1)
 
-pub busy_legs-requires : goal.busy_legs-requires
-busy_legs-requires c = lone_formed c.args.second.now c.requires.second
+pub busy_legs-requires-clause-first : goal.busy_legs-requires-clause-first
+busy_legs-requires-clause-first c = λ r a. (c.requires.rows r ((c.loop-first.invariant.0).there r a)).formed
+
+pub busy_legs-requires-clause-second : goal.busy_legs-requires-clause-second
+busy_legs-requires-clause-second c = lone_formed c.args.second.now c.requires.second
 
 pub of_sources-requires-clause-rows : goal.of_sources-requires-clause-rows
 of_sources-requires-clause-rows c =

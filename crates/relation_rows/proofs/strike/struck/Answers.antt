@@ -1,6 +1,10 @@
-use Rattle.std.proofs.Common.{sym, ◌∙◌}
+use Rattle.std.proofs.Common.{List, sym, ◌∙◌, subst}
+use Rattle.itpg_base.specs.Lists.{Among, Ordered}
+use Rattle.itpg_base.proofs.Lists.{ordered_first}
+use Rattle.relation_rows.specs.declared.rows.Row.{Row}
+use Rattle.relation_rows.specs.Rows.{KeyBefore, RowBefore}
 use Rattle.relation_rows.proofs.Equal.{row_decides}
-use Rattle.relation_rows.proofs.StrikeLemmas.{striking_start, striking_both, striking_left, striking_right, striking_end}
+use Rattle.relation_rows.proofs.StrikeLemmas.{striking_start, striking_both, striking_left, striking_right, striking_past, striking_end}
 use Rattle.relation_rows.proofs.strike.struck.Goals as goal
 
 pub loop-row-init : goal.loop-row-init
@@ -25,3 +29,12 @@ returns c =
     let cuts = c.in_ok-extend_from_slice-2.ensures.items in
     let end = striking_end _ _ _ _ _ _ _ _ kept cuts c.loop-row.invariant in
     record { order = end.order; cuts_order = end.cuts_order; there = end.there; cuts_there = end.cuts_there; same = end.same }
+
+pub loop-row-preserved-then-is_between : goal.loop-row-preserved-then-is_between
+loop-row-preserved-then-is_between c =
+    let same = c.deref.ensures.value in
+    striking_past _ _ _ _ _ _ _ _ _ _ c.in-Some.ensures.cases.0 c.in-Some-split_first.ensures.cases.0 (c.is_between.ensures.next c.if-is_between.true)
+    (subst (λ (v : List Row). (r : Row) → Among v r → KeyBefore r.source.0 r.target.0 c.in-Some-split_first.other.now.source.0 c.in-Some-split_first.other.now.target.0) same (c.is_between.ensures.kept c.if-is_between.true)) c.loop-row.invariant
+
+pub is_between-requires : goal.is_between-requires
+is_between-requires c = subst (λ (v : List Row). Ordered RowBefore v) (sym c.deref.ensures.value) (ordered_first RowBefore _ _ (c.loop-row.invariant).order)

@@ -5,14 +5,14 @@ use Rattle.relation_rows.proofs.ways.push_scanned.Goals as goal
 pub loop-next-init : goal.loop-next-init
 loop-next-init c = none_next c.args.row.now c.args.items.now.items c.args.here.now
 
-pub way_by-way-requires-clause-band : goal.way_by-way-requires-clause-band
-way_by-way-requires-clause-band c = row_formed c.args.here.now c.loop-next.next-index _ c.loop-next-test.true c.requires.here
+pub push_way-requires-clause-next : goal.push_way-requires-clause-next
+push_way-requires-clause-next c = row_formed c.args.here.now c.loop-next.next-index _ c.loop-next-test.true c.requires.here
 
 pub loop-next-preserved : goal.loop-next-preserved
 loop-next-preserved c =
     next_more c.args.row.now c.zone_of-zone.result c.zone_of-zone.ensures _ _ _ c.args.here.now c.loop-next.next-index _ c.loop-next-test.true
     (c.requires.source _ (among_at c.args.here.now c.loop-next.next-index _ c.loop-next-test.true))
-    c.way_by-way.result c.way_by-way.ensures c.in_ok-push_there.ensures c.loop-next.invariant
+    c.in_ok-push_way.ensures c.loop-next.invariant
 
 pub returns : goal.returns
 returns c = all_next c.args.row.now _ _ c.args.here.now c.loop-next.next-index c.loop-next-test.false c.loop-next.invariant
