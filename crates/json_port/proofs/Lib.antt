@@ -6,3 +6,6 @@ pub mod LongLines
 pub mod SomeLine
 pub mod GoodEdits
 pub mod Examples
+pub mod Fronts
+pub mod Members
+pub mod FlatTokens

@@ -1,18 +1,28 @@
 -- Items that are names.
-use Rattle.std.proofs.Common.{◌≡◌, ℕ, ◌<◌, ◌≤◌, ◌+◌, List, [], ◌∷◌, ◌++◌, length, take, get_or, set, Bool, true, false, ◌&&◌, Option, Some, None, is_some, option_map, option_and_then, unwrap_or, Result, Ok, Err, refl, sym, ap, ap₂, ◌∙◌, subst, arith, true≢false}
+use Rattle.std.proofs.Common.{◌≡◌, ℕ, suc, ◌<◌, ◌≤◌, ◌+◌, List, [], ◌∷◌, ◌++◌, length, map, take, get_or, set, Bool, true, false, ◌&&◌, ◌==◌, nat_eq, Bor, Option, Some, None, is_some, option_map, option_and_then, unwrap_or, if◌then◌else◌, Result, Ok, Err, refl, sym, ap, ap₂, ◌∙◌, subst, arith, true≢false}
 use Rattle.std.specs.Prelude.{IsTrue, IsFalse, MatchResult}
 use Rattle.std.specs.Option.{ok_or}
 use Rattle.std.specs.List.{list_all}
-use Rattle.std.proofs.lemmas.List.{take_more_set, take_more, get_or-map, length-map, length-set}
-use Rattle.std.proofs.lemmas.List.Folds.{list_all_at}
+use Rattle.std.proofs.lemmas.Bool.{le-leb}
+use Rattle.std.proofs.lemmas.List.{take_more_set, take_more, take_all, get_or-map, length-map, length-set, length-take}
+use Rattle.std.proofs.lemmas.List.Folds.{list_all_at, list_all-map}
 use Rattle.itpg_base.specs.Words.{Word}
 use Rattle.itpg_base.specs.declared.text_code.TextCode.{TextCode}
 use Rattle.edit_reader.specs.Labels.{set_of}
+use Rattle.edit_reader.specs.Names.{is_word}
+use Rattle.serde_json.specs.Data.{string, array, Members}
+use Rattle.serde_json.specs.Find.{as_array, get_member}
+use Rattle.serde_json.specs.Events.{items_len}
 use Rattle.serde_json.specs.View.{view, items_view}
 use Rattle.serde_json.specs.declared.value.Value.{Value}
-use Rattle.json_port.specs.Parts.{name_of, names_in}
+use Rattle.json_port.specs.declared.names.Names.{Names}
+use Rattle.json_port.specs.declared.member.Part.{Part}
+use Rattle.json_port.specs.declared.member.Member.{Member}
+use Rattle.json_port.specs.Parts.{name_of, only_if, names_in, some_and_few}
 use Rattle.json_port.specs.Faults.{is_short}
-use Rattle.json_port.specs.Calls.{listed_name, listed_names}
+use Rattle.json_port.specs.Calls.{listed_name, listed_names, words}
+use Rattle.json_port.specs.Flats.{listed, texts_data, part_data, member_data}
+use Rattle.json_port.proofs.FlatTokens.{more_texts}
 
 abbrev more : Option Word → Option (List Word) → Option (List Word)
 more name names = option_and_then (λ n. option_map (λ ns. n ∷ ns) names) name
@@ -35,22 +45,101 @@ pub not_all_named : (items : List Value) → list_all (λ item. is_some (name_of
 not_all_named [] e = absurd (true≢false e)
 not_all_named (item ∷ items) e = without (name_of (view item)) (names_in (items_view items)) (list_all (λ i. is_some (name_of (view i))) items) (not_all_named items) e
 
--- an item that is no longer than a name may be stands among items that aren't
-at_place : (p : Value → Bool) (items : List Value) (i : ℕ) (item : Value) (b : Bool) → p item ≡ b → list_all p items ≡ true → i < length items → item ≡ get_or items i item → p item ≡ true
-at_place p items i item true e all lt is = e
-at_place p items i item false e all lt is = absurd (true≢false (sym all ∙ list_all_at p items i item lt (ap p (sym is) ∙ e)))
+-- ---- texts that are names
 
-pub short_at : (items : List Value) (i : ℕ) (item : Value) → list_all (λ v. is_short (listed_name v)) items ≡ true → i < length items → item ≡ get_or items i item → is_short (listed_name item) ≡ true
-short_at items i item all lt is = at_place (λ v. is_short (listed_name v)) items i item (is_short (listed_name item)) refl all lt is
+one_more_word : (w : Word) (ws : List Word) (a b : Bool) → is_word w ≡ a → names_in (texts_data ws) ≡ (if b then Some ws else None) → more (if a then Some w else None) (names_in (texts_data ws)) ≡ (if a && b then Some (w ∷ ws) else None)
+one_more_word w ws true true is ih = ap (more (Some w)) ih
+one_more_word w ws true false is ih = ap (more (Some w)) ih
+one_more_word w ws false b is ih = refl
+
+names_texts : (ws : List Word) → names_in (texts_data ws) ≡ (if list_all is_word ws then Some ws else None)
+names_texts [] = refl
+names_texts (w ∷ ws) = one_more_word w ws (is_word w) (list_all is_word ws) refl (names_texts ws)
+
+texts_len : (ws : List Word) → items_len (texts_data ws) ≡ length ws
+texts_len [] = refl
+texts_len (w ∷ ws) = ap suc (texts_len ws)
+
+texts_few : (ws : List Word) → length ws ≤ 8 → option_and_then names_in (some_and_few (texts_data ws)) ≡ words ws
+texts_few [] h = refl
+texts_few (w ∷ ws) h =
+    let some : 1 ≤ items_len (texts_data (w ∷ ws)) = omega (arith, texts_len (w ∷ ws)) in
+    let few : items_len (texts_data (w ∷ ws)) ≤ 8 = omega (arith, texts_len (w ∷ ws)) in
+    rw (le-leb _ _ some, le-leb _ _ few) (names_texts (w ∷ ws))
+
+pub few_listed : (names : Names) → length (listed names) ≤ 8
+few_listed names = omega (arith, length-map (take names.len names.items) (λ s. s.now), length-take names.len names.items, names.few)
+
+-- the words that a flat object lists are its labels
+pub flat_words : (key : Word) (ms : Members) (names : Names) → Some (array (texts_data (listed names))) ≡ get_member key ms
+    → words (listed names) ≡ option_and_then names_in (option_and_then some_and_few (option_and_then as_array (get_member key ms)))
+flat_words key ms names is =
+    sym (texts_few (listed names) (few_listed names)) ∙ ap (λ o. option_and_then names_in (option_and_then some_and_few (option_and_then as_array o))) is
+
+pub words_same : (ws : List Word) (b : Bool) → b ≡ is_some (words ws) → b ≡ true → Some ws ≡ words ws
+words_same [] b is h = absurd (true≢false (sym h ∙ is))
+words_same (w ∷ ws) b is h = same_at (list_all is_word (w ∷ ws)) (sym is ∙ h)
+  where
+    same_at : (c : Bool) → is_some (if c then Some (w ∷ ws) else None) ≡ true → Some (w ∷ ws) ≡ (if c then Some (w ∷ ws) else None)
+    same_at true e = refl
+    same_at false e = absurd (true≢false (sym e))
+
+pub words_none : (ws : List Word) (b : Bool) → b ≡ is_some (words ws) → b ≡ false → None ≡ words ws
+words_none ws b is h = none_at (words ws) (sym is ∙ h)
+  where
+    none_at : (o : Option (List Word)) → is_some o ≡ false → None ≡ o
+    none_at None e = refl
+    none_at (Some l) e = absurd (true≢false e)
+
+pub words_some : (ws : List Word) (b : Bool) → b ≡ is_some (words ws) → b ≡ true → 0 < length ws
+words_some [] b is h = absurd (true≢false (sym h ∙ is))
+words_some (w ∷ ws) b is h = omega arith
+
+pub tests_words : (ws : List (Bor Word)) (empty : Bool) → empty ≡ (length ws == 0) → empty ≡ false → list_all (λ w. is_word w.now) ws ≡ is_some (words (map (λ w. w.now) ws))
+tests_words [] empty is h = absurd (true≢false (sym is ∙ h))
+tests_words (w ∷ ws) empty is h = sym (tested (list_all is_word (map (λ v. v.now) (w ∷ ws))) (list_all (λ v. is_word v.now) (w ∷ ws)) (list_all-map is_word (λ v. v.now) (w ∷ ws)))
+  where
+    tested : (a b : Bool) → a ≡ b → is_some (if a then Some (map (λ v. v.now) (w ∷ ws)) else None) ≡ b
+    tested true b e = e
+    tested false b e = e
+
+-- the names are short where the words are that they are lent as
+pub short_listed : (names : Names) (ws : List (Bor Word)) → ws ≡ take names.len names.items → list_all (λ w. is_short w.now) ws ≡ list_all is_short (listed names)
+short_listed names ws is = ap (list_all (λ w. is_short w.now)) is ∙ sym (list_all-map is_short (λ w. w.now) (take names.len names.items))
+
+pub names_data : (m : Member) → m.part ≡ Part.Names → array (texts_data (listed m.names)) ≡ member_data m
+names_data m is = sym (ap (λ p. part_data p m.names) is)
+
+-- ---- arrays that fill
+
+-- a word at a place is no longer than a name may be, if none is
+short_at : (ws : List (Bor Word)) (i : ℕ) (d : Bor Word) (b : Bool) → is_short (get_or ws i d).now ≡ b → list_all (λ w. is_short w.now) ws ≡ true → i < length ws → is_short (get_or ws i d).now ≡ true
+short_at ws i d true e all lt = e
+short_at ws i d false e all lt = absurd (true≢false (sym all ∙ list_all_at (λ w. is_short w.now) ws i d lt e))
 
 -- one more name is in the block
-pub one_more : (items : List Value) (names : List Word) (i : ℕ) (item : Value) (name : Word) → i < length items → length items ≤ 8 → item ≡ get_or items i item → name ≡ listed_name item → take i names ≡ take i (listed_names items) → length names ≡ 8
-    → (take (i + 1) (set names i name) ≡ take (i + 1) (listed_names items)) × (length (set names i name) ≡ 8)
-one_more items names i item name lt few is named front block =
-    let here : name ≡ get_or (listed_names items) i [] = named ∙ ap listed_name is ∙ sym (get_or-map listed_name items i item [] lt) in (
-      take_more_set names i name (omega (arith, lt, few, block)) ∙ ap₂ (λ ns n. ns ++ n ∷ []) front here ∙ sym (take_more (listed_names items) i [] (subst (λ n. i < n) (sym (length-map items listed_name)) lt)),
+pub one_more_name : (ws : List (Bor Word)) (names : List Word) (i : ℕ) (d : Bor Word) (name : Word) → (is_short (get_or ws i d).now ≡ true → name ≡ (get_or ws i d).now) → list_all (λ w. is_short w.now) ws ≡ true → i < length ws
+    → length ws ≤ 8 → take i names ≡ take i (map (λ w. w.now) ws) → length names ≡ 8 → (take (i + 1) (set names i name) ≡ take (i + 1) (map (λ w. w.now) ws)) × (length (set names i name) ≡ 8)
+one_more_name ws names i d name named short lt few front block =
+    let here : name ≡ get_or (map (λ w. w.now) ws) i [] = named (short_at ws i d _ refl short lt) ∙ sym (get_or-map (λ w. w.now) ws i d [] lt) in (
+      take_more_set names i name (omega (arith, lt, few, block)) ∙ ap₂ (λ ns n. ns ++ n ∷ []) front here
+          ∙ sym (take_more (map (λ w. w.now) ws) i [] (subst (λ n. i < n) (sym (length-map ws (λ w. w.now))) lt)),
       length-set names i name ∙ block,
     )
+
+-- one more text of an item
+pub one_more_item : (items : List Value) (names : List (Bor Word)) (i : ℕ) (item : Value) (name : Bor Word) → i < length items → length items ≤ 8 → item ≡ get_or items i item → name.now ≡ listed_name item
+    → map (λ s. s.now) (take i names) ≡ take i (listed_names items) → length names ≡ 8
+    → (map (λ s. s.now) (take (i + 1) (set names i name)) ≡ take (i + 1) (listed_names items)) × (length (set names i name) ≡ 8)
+one_more_item items names i item name lt few is named front block =
+    let here : name.now ≡ get_or (listed_names items) i [] = named ∙ ap listed_name is ∙ sym (get_or-map listed_name items i item [] lt) in (
+      more_texts names i name (omega (arith, lt, few, block)) ∙ ap₂ (λ ns n. ns ++ n ∷ []) front here ∙ sym (take_more (listed_names items) i [] (subst (λ n. i < n) (sym (length-map items listed_name)) lt)),
+      length-set names i name ∙ block,
+    )
+
+pub all_items : (items : List Value) (names : List (Bor Word)) (i : ℕ) → map (λ s. s.now) (take i names) ≡ take i (listed_names items) → i ≡ length items → map (λ s. s.now) (take (length items) names) ≡ listed_names items
+all_items items names i front end =
+    subst (λ n. map (λ s. s.now) (take n names) ≡ take n (listed_names items)) end front ∙ take_all (length items) (listed_names items) (omega (arith, length-map items listed_name))
 
 abbrev Made : Type 0
 Made = Result (List Word) TextCode

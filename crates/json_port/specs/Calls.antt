@@ -1,5 +1,5 @@
 -- What the calls inside find: no public clause but those of faults names what stands here.
-use Rattle.std.specs.Prelude.{◌≡◌, ℕ, Bool, List, [], map, unwrap_or, Option, Some, None, Result, Ok, Err}
+use Rattle.std.specs.Prelude.{◌≡◌, ℕ, Bool, List, [], ◌∷◌, if◌then◌else◌, map, unwrap_or, Option, Some, None, Result, Ok, Err}
 use Rattle.std.specs.List.{list_all}
 use Rattle.std.specs.Borrow.{Bor}
 use Rattle.itpg_base.specs.Words.{Word}
@@ -9,6 +9,7 @@ use Rattle.serde_json.specs.View.{view}
 use Rattle.serde_json.specs.declared.value.Value.{Value}
 use Rattle.json_port.specs.declared.line.JsonLine.{JsonLine}
 use Rattle.json_port.specs.declared.line.JsonFault.{JsonFault}
+use Rattle.edit_reader.specs.Names.{is_word}
 use Rattle.json_port.specs.Parts.{name_of}
 use Rattle.json_port.specs.Objects.{Asked, Change, Line}
 use Rattle.json_port.specs.Faults.{is_short, IsTold}
@@ -21,6 +22,11 @@ listed_name item = unwrap_or (name_of (view item)) []
 -- the words that all items are
 abbrev pub listed_names : List Value → List Word
 listed_names items = map listed_name items
+
+-- the texts, if there is one, and each is a word
+abbrev pub words : List Word → Option (List Word)
+words [] = None
+words (w ∷ ws) = if list_all is_word (w ∷ ws) then Some (w ∷ ws) else None
 
 -- none of the texts that are lent is too long for a name
 abbrev pub are_short : List (Bor (List ℕ)) → Bool

@@ -1,20 +1,20 @@
 //! The objects that ask for edits.
 ghost use Rattle.std.specs.Prelude.{◌≡◌};
-ghost use Rattle.serde_json.specs.View.{view};
 ghost use Rattle.json_port.specs.declared.op.Op.{Op as PlainOp};
 ghost use Rattle.json_port.specs.Objects.{asked_as};
 ghost use Rattle.json_port.specs.Calls.{TellsEdit};
+ghost use Rattle.json_port.specs.Forms.{data_of};
 
 use crate::labels::{label_set, labels};
 use crate::limits::{check_limits, check_moments, check_names, named};
-use crate::parts::{name, number, value};
+use crate::object::{Object, number};
+use crate::parts::{name, value};
 use itpg_base::TextCode;
 use itpg_edit::Edit;
-use serde_json::Value;
 
 // `name`, `lo`, `hi`
-pub(crate) fn begin(object: &Value) -> Result<Edit, TextCode>
-    ensures { TellsEdit (asked_as PlainOp.Graph (view object.now)) result }
+pub(crate) fn begin(object: Object<'_>) -> Result<Edit, TextCode>
+    ensures { TellsEdit (asked_as PlainOp.Graph (data_of object.entry)) result }
 {
     let (Some(text), Some(lo), Some(hi)) = (
         name(object, "name"),
@@ -32,8 +32,8 @@ pub(crate) fn begin(object: &Value) -> Result<Edit, TextCode>
 }
 
 // `lo`, `hi`
-pub(crate) fn extend(object: &Value) -> Result<Edit, TextCode>
-    ensures { TellsEdit (asked_as PlainOp.Extend (view object.now)) result }
+pub(crate) fn extend(object: Object<'_>) -> Result<Edit, TextCode>
+    ensures { TellsEdit (asked_as PlainOp.Extend (data_of object.entry)) result }
 {
     let (Some(lo), Some(hi)) = (number(object, "lo"), number(object, "hi")) else {
         return Err(TextCode::Text);
@@ -43,8 +43,8 @@ pub(crate) fn extend(object: &Value) -> Result<Edit, TextCode>
 }
 
 // `id`, `labels`
-pub(crate) fn node(object: &Value) -> Result<Edit, TextCode>
-    ensures { TellsEdit (asked_as PlainOp.Node (view object.now)) result }
+pub(crate) fn node(object: Object<'_>) -> Result<Edit, TextCode>
+    ensures { TellsEdit (asked_as PlainOp.Node (data_of object.entry)) result }
 {
     let (Some(id), Some(listed)) = (name(object, "id"), labels(object, "labels")) else {
         return Err(TextCode::Text);
@@ -52,13 +52,13 @@ pub(crate) fn node(object: &Value) -> Result<Edit, TextCode>
     check_names(&[id])?;
     Ok(Edit::AddNode {
         id: named(id),
-        labels: label_set(listed)?,
+        labels: label_set(&listed)?,
     })
 }
 
 // `id`, `labels`, `source`, `target`
-pub(crate) fn edge(object: &Value) -> Result<Edit, TextCode>
-    ensures { TellsEdit (asked_as PlainOp.Edge (view object.now)) result }
+pub(crate) fn edge(object: Object<'_>) -> Result<Edit, TextCode>
+    ensures { TellsEdit (asked_as PlainOp.Edge (data_of object.entry)) result }
 {
     let (Some(id), Some(listed), Some(source), Some(target)) = (
         name(object, "id"),
@@ -71,15 +71,15 @@ pub(crate) fn edge(object: &Value) -> Result<Edit, TextCode>
     check_names(&[id, source, target])?;
     Ok(Edit::AddEdge {
         id: named(id),
-        labels: label_set(listed)?,
+        labels: label_set(&listed)?,
         source: named(source),
         target: named(target),
     })
 }
 
 // `id`, `from`, `to`
-pub(crate) fn live(object: &Value) -> Result<Edit, TextCode>
-    ensures { TellsEdit (asked_as PlainOp.Live (view object.now)) result }
+pub(crate) fn live(object: Object<'_>) -> Result<Edit, TextCode>
+    ensures { TellsEdit (asked_as PlainOp.Live (data_of object.entry)) result }
 {
     let (Some(id), Some(from), Some(to)) = (
         name(object, "id"),
@@ -97,8 +97,8 @@ pub(crate) fn live(object: &Value) -> Result<Edit, TextCode>
 }
 
 // `id`, `from`, `to`
-pub(crate) fn gone(object: &Value) -> Result<Edit, TextCode>
-    ensures { TellsEdit (asked_as PlainOp.Gone (view object.now)) result }
+pub(crate) fn gone(object: Object<'_>) -> Result<Edit, TextCode>
+    ensures { TellsEdit (asked_as PlainOp.Gone (data_of object.entry)) result }
 {
     let (Some(id), Some(from), Some(to)) = (
         name(object, "id"),
@@ -116,8 +116,8 @@ pub(crate) fn gone(object: &Value) -> Result<Edit, TextCode>
 }
 
 // `id`, `prop`, `value`, `from`, `to`
-pub(crate) fn put(object: &Value) -> Result<Edit, TextCode>
-    ensures { TellsEdit (asked_as PlainOp.Set (view object.now)) result }
+pub(crate) fn put(object: Object<'_>) -> Result<Edit, TextCode>
+    ensures { TellsEdit (asked_as PlainOp.Set (data_of object.entry)) result }
 {
     let (Some(id), Some(prop), Some(text), Some(from), Some(to)) = (
         name(object, "id"),
@@ -139,8 +139,8 @@ pub(crate) fn put(object: &Value) -> Result<Edit, TextCode>
 }
 
 // `id`, `prop`, `from`, `to`
-pub(crate) fn clear(object: &Value) -> Result<Edit, TextCode>
-    ensures { TellsEdit (asked_as PlainOp.Unset (view object.now)) result }
+pub(crate) fn clear(object: Object<'_>) -> Result<Edit, TextCode>
+    ensures { TellsEdit (asked_as PlainOp.Unset (data_of object.entry)) result }
 {
     let (Some(id), Some(prop), Some(from), Some(to)) = (
         name(object, "id"),
@@ -160,8 +160,8 @@ pub(crate) fn clear(object: &Value) -> Result<Edit, TextCode>
 }
 
 // `id`
-pub(crate) fn remove(object: &Value) -> Result<Edit, TextCode>
-    ensures { TellsEdit (asked_as PlainOp.Drop (view object.now)) result }
+pub(crate) fn remove(object: Object<'_>) -> Result<Edit, TextCode>
+    ensures { TellsEdit (asked_as PlainOp.Drop (data_of object.entry)) result }
 {
     let Some(id) = name(object, "id") else {
         return Err(TextCode::Text);

@@ -6,12 +6,18 @@
 #![tactic(auto)]
 
 mod edits;
+mod flat;
 mod labels;
 mod laws;
+mod lexemes;
 mod limits;
 mod line;
+mod member;
+mod names;
+mod object;
 mod op;
 mod parts;
+mod quick;
 mod reading;
 
 pub use laws::{

@@ -7,7 +7,7 @@ ghost use Rattle.json_port.specs.Calls as calls;
 use itpg_base::{MAX_MOMENT, MAX_NAME, Name, TextCode};
 
 // That both numbers are moments and no text is too long for a name.
-pub(crate) fn check_limits(from: i64, to: i64, names: &[&str]) -> Result<(), TextCode>
+pub(crate) fn check_limits(from: i64, to: i64, names: &[&[u8]]) -> Result<(), TextCode>
     ensures { MatchResult result (λ _. AreMoments from to × IsTrue (calls.are_short names.now))
         (λ code. ((code ≡ TextCode.Number) × (¬ AreMoments from to))
         ⊎ ((code ≡ TextCode.Name) × (AreMoments from to × IsFalse (calls.are_short names.now)))) }
@@ -35,7 +35,7 @@ fn is_moment(number: i64) -> bool
 }
 
 // That no text is too long for a name.
-pub(crate) fn check_names(names: &[&str]) -> Result<(), TextCode>
+pub(crate) fn check_names(names: &[&[u8]]) -> Result<(), TextCode>
     ensures { MatchResult result (λ _. IsTrue (calls.are_short names.now))
         (λ code. (code ≡ TextCode.Name) × IsFalse (calls.are_short names.now)) }
 {
@@ -46,16 +46,17 @@ pub(crate) fn check_names(names: &[&str]) -> Result<(), TextCode>
     }
 }
 
-fn are_short(names: &[&str]) -> bool
+// Whether no text is too long for a name.
+pub(crate) fn are_short(names: &[&[u8]]) -> bool
     ensures { result ≡ calls.are_short names.now }
 {
     names.iter().all(|name| name.len() <= MAX_NAME)
 }
 
 // The name that a text is which isn't too long.
-pub(crate) fn named(text: &str) -> Name
+pub(crate) fn named(text: &[u8]) -> Name
     requires { length text.now ≤ MAX_NAME }
     ensures { result ≡ text.now }
 {
-    Name::new(text.as_bytes()).unwrap_or_default()
+    Name::new(text).unwrap_or_default()
 }

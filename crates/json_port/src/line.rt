@@ -13,22 +13,22 @@ use thiserror::Error;
 /// It may have any bytes that JSON can write, and any length that fits the line around it. A contract sees it as its bytes.
 #[derive(Drop)]
 pub struct JsonText {
-    text: String,
+    text: Vec<u8>,
 }
 
 impl Model for JsonText {
-    ghost use Rattle.std.specs.Prelude.{ℕ, List, string_bytes};
+    ghost use Rattle.std.specs.Prelude.{ℕ, List};
 
     ghost Value = { List ℕ };
 
-    ghost view = { λ t. string_bytes t.text };
+    ghost view = { λ t. t.text.items };
 }
 
 impl JsonText {
-    ghost use Rattle.std.specs.Prelude.{◌≡◌, string_bytes};
+    ghost use Rattle.std.specs.Prelude.{◌≡◌};
 
-    pub(crate) fn new(text: String) -> JsonText
-        ensures { result ≡ string_bytes text }
+    pub(crate) fn new(text: Vec<u8>) -> JsonText
+        ensures { result ≡ text.items }
     {
         JsonText { text }
     }
@@ -37,7 +37,7 @@ impl JsonText {
     pub fn bytes(&self) -> &[u8]
         ensures { result.now ≡ self.now }
     {
-        self.text.as_bytes()
+        &self.text
     }
 }
 

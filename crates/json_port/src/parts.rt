@@ -4,68 +4,29 @@ ghost use Rattle.std.specs.Char.{is_ascii_alphabetic};
 ghost use Rattle.std.specs.List.{list_all};
 ghost use Rattle.script_lex.specs.Bytes as bytes;
 ghost use Rattle.edit_reader.specs.Names as names;
-ghost use Rattle.serde_json.specs.View.{view};
+ghost use Rattle.json_port.specs.Forms.{data_of};
 ghost use Rattle.json_port.specs.Parts as parts;
 
-use serde_json::Value;
-
-// How many members the object has.
-pub(crate) fn count(object: &Value) -> usize
-    ensures { result ≡ parts.count_of (view object.now) }
-{
-    match object.as_object() {
-        Some(members) => members.len(),
-        None => 0,
-    }
-}
-
-// The text under a name.
-pub(crate) fn text<'v>(object: &'v Value, key: &str) -> Option<&'v str>
-    ensures { option_map (λ s. s.now) result ≡ parts.text_at key.now (view object.entry.now) }
-{
-    object.get(key)?.as_str()
-}
+use crate::object::{Object, text};
 
 // The word under a name.
-pub(crate) fn name<'v>(object: &'v Value, key: &str) -> Option<&'v str>
-    ensures { option_map (λ s. s.now) result ≡ parts.name_at key.now (view object.entry.now) }
+pub(crate) fn name<'v>(object: Object<'v>, key: &str) -> Option<&'v [u8]>
+    ensures { option_map (λ s. s.now) result ≡ parts.name_at key.now (data_of object.entry) }
 {
-    name_of(object.get(key)?)
-}
-
-// The word that a value is.
-pub(crate) fn name_of(value: &Value) -> Option<&str>
-    ensures { option_map (λ s. s.now) result ≡ parts.name_of (view value.entry.now) }
-{
-    let text = value.as_str()?;
-    if is_word(text.as_bytes()) {
-        Some(text)
-    } else {
-        None
-    }
+    let text = text(object, key)?;
+    if is_word(text) { Some(text) } else { None }
 }
 
 // The text under a name, which may stand between quotes.
-pub(crate) fn value<'v>(object: &'v Value, key: &str) -> Option<&'v str>
-    ensures { option_map (λ s. s.now) result ≡ parts.value_at key.now (view object.entry.now) }
+pub(crate) fn value<'v>(object: Object<'v>, key: &str) -> Option<&'v [u8]>
+    ensures { option_map (λ s. s.now) result ≡ parts.value_at key.now (data_of object.entry) }
 {
     let text = text(object, key)?;
-    if is_quotable(text.as_bytes()) {
-        Some(text)
-    } else {
-        None
-    }
-}
-
-// The whole number under a name.
-pub(crate) fn number(object: &Value, key: &str) -> Option<i64>
-    ensures { result ≡ parts.number_at key.now (view object.now) }
-{
-    object.get(key)?.as_i64()
+    if is_quotable(text) { Some(text) } else { None }
 }
 
 // Whether the bytes are those of one word token.
-fn is_word(text: &[u8]) -> bool
+pub(crate) fn is_word(text: &[u8]) -> bool
     ensures { result ≡ names.is_word text.now }
 {
     begins_with_letter(text) && are_word_bytes(text)

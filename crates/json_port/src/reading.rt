@@ -13,11 +13,13 @@ ghost use Rattle.json_port.specs.Faults.{Tells};
 ghost use Rattle.json_port.specs.Lines.{JsonOf, IsAnswer, asked_by, value_in};
 ghost use Rattle.json_port.specs.Calls.{IsRefusal};
 ghost use Rattle.json_port.specs.Calls as calls;
+ghost use Rattle.json_port.specs.Forms.{data_of};
 
 use crate::edits::{begin, clear, edge, extend, gone, live, node, put, remove};
 use crate::line::{JsonFault, JsonLine, JsonText};
+use crate::object::{Object, count, text};
 use crate::op::Op;
-use crate::parts::{count, text};
+use crate::quick::read_flat;
 use edit_reader::{MAX_LINE, without_end};
 use itpg_base::TextCode;
 use itpg_edit::Edit;
@@ -76,8 +78,11 @@ fn is_blank(line: &[u8]) -> bool
 fn read_text(alloc: Global, line: &[u8]) -> Result<JsonLine, JsonFault>
     ensures { IsAnswer (Tells (asked_by line.now)) result }
 {
-    let object = read_value(alloc, line)?;
-    read_object(alloc, &object)
+    if let Some(flat) = read_flat(line) {
+        return read_object(alloc, Object::Flat(&flat));
+    }
+    let value = read_value(alloc, line)?;
+    read_object(alloc, Object::Value(&value))
 }
 
 // The value of a line.
@@ -95,8 +100,8 @@ fn read_value(alloc: Global, line: &[u8]) -> Result<Value, JsonFault>
 
 // What an object asks for.
 #[tactic(auto, using(crate::proofs::Values::answers_edit))]
-fn read_object(alloc: Global, object: &Value) -> Result<JsonLine, JsonFault>
-    ensures { IsAnswer (Tells (asked (view object.now))) result }
+fn read_object(alloc: Global, object: Object<'_>) -> Result<JsonLine, JsonFault>
+    ensures { IsAnswer (Tells (asked (data_of object.entry))) result }
 {
     match op_in(object) {
         Some(Op::Graph) => line_of(begin(object)),
@@ -114,10 +119,10 @@ fn read_object(alloc: Global, object: &Value) -> Result<JsonLine, JsonFault>
 }
 
 // The kind that an object names, if it has as many members as the kind.
-fn op_in(object: &Value) -> Option<Op>
-    ensures { result ≡ objects.op_in (view object.now) }
+fn op_in(object: Object<'_>) -> Option<Op>
+    ensures { result ≡ objects.op_in (data_of object.entry) }
 {
-    let op = Op::of(text(object, "op")?.as_bytes())?;
+    let op = Op::of(text(object, "op")?)?;
     if count(object) == op.count() {
         Some(op)
     } else {
@@ -133,12 +138,12 @@ fn line_of(edit: Result<Edit, TextCode>) -> Result<JsonLine, JsonFault>
 }
 
 // The plain line of a `text` object: `line`.
-fn read_plain(alloc: Global, object: &Value) -> Result<JsonLine, JsonFault>
-    ensures { IsAnswer (Tells (asked_as PlainOp.Text (view object.now))) result }
+fn read_plain(alloc: Global, object: Object<'_>) -> Result<JsonLine, JsonFault>
+    ensures { IsAnswer (Tells (asked_as PlainOp.Text (data_of object.entry))) result }
 {
     let Some(line) = text(object, "line") else {
         return Err(JsonFault::Bad(TextCode::Text));
     };
-    let text = String::from_str(alloc, line)?;
+    let text = Vec::from_slice(alloc, line)?;
     Ok(JsonLine::Text(JsonText::new(text)))
 }

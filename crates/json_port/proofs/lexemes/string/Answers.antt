@@ -1,0 +1,8 @@
+use Rattle.std.proofs.Common.{arith}
+use Rattle.json_port.proofs.Fronts.{string_first}
+use Rattle.json_port.proofs.lexemes.string.Goals as goal
+
+pub returns-then-last-eq34 : goal.returns-then-last-eq34
+returns-then-last-eq34 c =
+    string_first c.args.text.now c.after_blanks.result.now c.in_ok-first.inside.now c.split_at.result.0.now c.split_at.result.1.now c.in_ok-last.rest.now c.in_ok-first.first.now c.in_ok-last.last.now c.plain_len.result
+    c.after_blanks.ensures c.in_ok-first.ensures.cases.0 c.if-first-ne34.false c.plain_len.ensures.value c.split_at.ensures.front c.split_at.ensures.by_index.0 c.in_ok-last.ensures.cases.0 c.if-last-eq34.true
