@@ -56,8 +56,8 @@ pub fn relation(
     relation_on(alloc, &Part::whole(graph), plans, no, max_rows)
 }
 
-/// The same on a part of a graph.
-pub(crate) fn relation_on(
+/// The same on a part of a graph: the relation of the node there, as if all else had been dropped. The errors are those of `relation`.
+pub fn relation_on(
     alloc: Global,
     graph: &Part<'_>,
     plans: &mut Plans,

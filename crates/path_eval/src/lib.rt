@@ -22,7 +22,7 @@ mod step;
 mod within_both;
 
 pub use answering::answer;
-pub use evaluation::relation;
+pub use evaluation::{relation, relation_on};
 pub use laws::{
     law_of_cuts, law_of_members, law_of_near_rows, law_of_picked_objects, law_of_times,
 };

@@ -1,0 +1,4 @@
+mod Telling
+mod Widest
+mod Appended
+mod Firsts
