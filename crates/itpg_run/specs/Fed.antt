@@ -4,8 +4,9 @@ use Rattle.std.specs.declared.option.Option.{Option}
 use Rattle.std.specs.Io.KnownBytes.{Appends}
 use Rattle.itpg_base.specs.Outside.{AppendsSome}
 use Rattle.itpg_base.specs.declared.outside.Sink.{Ghosts as SinkGhosts}
-use Rattle.itpg_session.specs.Machine.{Standing, opening}
-use Rattle.itpg_session.specs.Steps.{Sees, StandsAs}
+use Rattle.itpg_session.specs.Lines.{LineIs}
+use Rattle.itpg_session.specs.Machine.{Standing, Turn, opening, Replies}
+use Rattle.itpg_session.specs.Steps.{Sees, StandsAs, Stepped, StepsWithin}
 use Rattle.itpg_session.specs.declared.reply.Seen.{Seen}
 use Rattle.itpg_run.specs.Out.{Mode, mode_at, Output, LineOut, Runs}
 use Rattle.itpg_run.specs.Split.{NoEnd, NoEnds, joined}
@@ -20,6 +21,10 @@ use Rattle.itpg_run.specs.declared.Status.TheVariants.{Done, DoneRefused, Usage,
 -- how the reader runs its script
 abbrev pub mode_of : Reader → Mode
 mode_of r = mode_at r.form r.session.limit
+
+-- a turn that the session may have on what is kept of the line
+abbrev pub TurnsOn : Reader → Turn → Type 0
+TurnsOn r = Replies r.session.limit r.session.machine (LineIs r.form r.line.items)
 
 -- an output that each line may have of which the reader has the front that is kept
 abbrev pub RepliesTo : Reader → Output → Type 0
@@ -104,6 +109,14 @@ Ends TooLong mode start now bytes = ⊥
 
 -- the same of a sink, named by the ghost value of its type: before the call, and after it
 module _ {K : Type 0} (sink : SinkGhosts K) (before now : K) where
+  -- the session took a turn on what is kept of the line
+  abbrev pub StepsTo : Reader → Standing → Seen → Type 0
+  StepsTo old session seen = Stepped sink before now old.form (TurnsOn old) old.number old.session session seen
+
+  -- or a front part of its reply was written
+  abbrev pub StepsWithinTo : Reader → Type 0
+  StepsWithinTo old = StepsWithin sink before now old.form (TurnsOn old) old.number old.session
+
   abbrev pub AnswersLineTo : Reader → Standing → Seen → Type 0
   AnswersLineTo old session seen = AnswersLine (sink.held before) (sink.held now) old session seen
 

@@ -7,9 +7,8 @@ ghost use Rattle.std.specs.Prelude.{◌≡◌, ◌+◌, ◌-◌, ◌^◌, ◌≤
 ghost use Rattle.std.specs.Prelude.{take, length, false, true, IfOk, OnOk, OnErr, IfErr, IsErrOf, ℕ, List};
 ghost use Rattle.std.specs.declared.option.Option.{Option};
 ghost use Rattle.itpg_base.specs.Sinks.{GetsNothing, HasFailed};
-ghost use Rattle.itpg_session.specs.Lines.{LineIs};
-ghost use Rattle.itpg_session.specs.Machine.{opening, Replies};
-ghost use Rattle.itpg_session.specs.Steps.{StandsAs, Stepped, StepsWithin};
+ghost use Rattle.itpg_session.specs.Machine.{opening};
+ghost use Rattle.itpg_session.specs.Steps.{StandsAs};
 
 use crate::Status;
 use itpg_base::{Limits, Sink};
@@ -53,19 +52,19 @@ impl Reader {
 }
 
 impl Reader {
-    ghost use Rattle.itpg_run.specs.Fed.{AnswersLineTo, AnswersWithinTo, EndsLineTo, EndsLastTo, EndsWithinTo, Feeds, FeedsTo, FinishesTo, StopsTo, StopsWholeTo, StopsWithinTo};
+    ghost use Rattle.itpg_run.specs.Fed.{AnswersLineTo, AnswersWithinTo, EndsLineTo, EndsLastTo, EndsWithinTo, Feeds, FeedsTo, FinishesTo, StepsTo, StepsWithinTo, StopsTo, StopsWholeTo, StopsWithinTo};
     ghost use Rattle.itpg_run.specs.Split.{NoEnd};
 
     // Has the session take what is kept of the line.
     fn step<K: Sink>(&mut self, out: &mut K) -> Result<Seen, StepFault>
-        ensures stepped { IfOk result (λ seen. Stepped K.Sink out.old out.new self.old.form (Replies self.old.session.limit self.old.session.machine (LineIs self.old.form self.old.line.items)) self.old.number self.old.session self.new.session seen) }
+        ensures stepped { IfOk result (λ seen. StepsTo K.Sink out.old out.new self.old self.new.session seen) }
         ensures form { self.new.form ≡ self.old.form }
         ensures line { self.new.line.items ≡ self.old.line.items }
         ensures number { self.new.number ≡ self.old.number }
         ensures failing { self.new.failing ≡ self.old.failing }
         ensures memory { IsErrOf result StepFault.Memory → GetsNothing K.Sink out.old out.new }
         ensures write { IsErrOf result StepFault.Write → HasFailed K.Sink out.old out.new }
-        ensures some { IsErrOf result StepFault.Write → StepsWithin K.Sink out.old out.new self.old.form (Replies self.old.session.limit self.old.session.machine (LineIs self.old.form self.old.line.items)) self.old.number self.old.session }
+        ensures some { IsErrOf result StepFault.Write → StepsWithinTo K.Sink out.old out.new self.old }
         ensures later { K.faults out.old ≤ K.faults out.new }
     {
         match self.form {
