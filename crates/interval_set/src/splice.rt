@@ -72,6 +72,10 @@ fn replace_run<T: Copy>(
     let gone = last - first;
     let added = pieces.len();
     if gone < added {
+        if items.is_empty() {
+            // Most lists never get a second item.
+            items.reserve_exact(added)?;
+        }
         items.extend_from_slice(&pieces[gone..])?;
     }
     items.copy_within(last..len, first + added);

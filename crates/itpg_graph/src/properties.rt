@@ -127,6 +127,10 @@ impl Properties {
         prove!(s.from() <= s.to());
         let mut values = ValuedSet::new(*self.list.allocator());
         values.put(s, value)?;
+        if self.list.is_empty() {
+            // Most objects never get a second property.
+            self.list.reserve_exact(1)?;
+        }
         self.list.insert(place, Property { name, values })?;
         Ok(())
     }
