@@ -213,12 +213,12 @@ remove_incident g id object is at =
 pub unbroken : (g : Graph) (edit : Edit) (change : Change) → IsAsked g edit change → Fits g change → Unbroken g edit
 unbroken g edit (Begin name horizon) asked fits = subst (Unbroken g) (sym asked.0) ((λ some. not_both g.begun some asked.1), ((λ lt. let le = asked.2 in omega (arith, ints)), tt))
 unbroken g edit (Widen horizon) asked fits = subst (Unbroken g) (sym asked.0) (not_both g.begun asked.1.begun, ((λ lt. let le = asked.1.ordered in omega (arith, ints)), ((λ l. l.outside (asked.1.whole l.moment l.within)), tt)))
-unbroken g edit (AddNode id labels) asked fits = subst (Unbroken g) (sym asked.0) (not_both g.begun asked.1.begun, (not_taken g id asked.1, ((λ many. omega arith), tt)))
-unbroken g edit (AddEdge id labels source target) asked fits = subst (Unbroken g) (sym asked.2) (edge_unbroken g id asked.3 labels.now asked.0 asked.1 source target asked.4 asked.5 fits.0 fits.1 fits.2)
+unbroken g edit (AddNode id labels) asked fits = subst (Unbroken g) (sym asked.0) (not_both g.begun asked.1.begun, (not_taken g id.now asked.1, ((λ many. omega arith), tt)))
+unbroken g edit (AddEdge id labels source target) asked fits = subst (Unbroken g) (sym asked.2) (edge_unbroken g id.now asked.3 labels.now asked.0 asked.1 source target asked.4 asked.5 fits.0 fits.1 fits.2)
 unbroken g edit (Live site) asked fits = subst (Unbroken g) (sym asked.1) (live_unbroken g asked.0 site asked.2 fits.0 fits.1)
 unbroken g edit (Gone site) asked fits = subst (Unbroken g) (sym asked.1) (gone_unbroken g asked.0 site asked.2 fits.0 fits.1)
-unbroken g edit (Put site prop value) asked fits = subst (Unbroken g) (sym asked.1) (put_unbroken g asked.0 site asked.2 prop value fits.0 fits.1 fits.2)
-unbroken g edit (Clear site prop) asked fits = subst (Unbroken g) (sym asked.1) (clear_unbroken g asked.0 site asked.2 prop fits)
+unbroken g edit (Put site prop value) asked fits = subst (Unbroken g) (sym asked.1) (put_unbroken g asked.0 site asked.2 prop.now value.now fits.0 fits.1 fits.2)
+unbroken g edit (Clear site prop) asked fits = subst (Unbroken g) (sym asked.1) (clear_unbroken g asked.0 site asked.2 prop.now fits)
 unbroken g edit (Remove object) asked fits =
     let is = asked.2 in
     subst (Unbroken g) (sym asked.1)

@@ -43,15 +43,15 @@ pub record IsSite (g : Graph) (id : Word) (site : Site) : Type 0 where
 
 -- the change is the one that the edit asks for: all that the edit names is there
 abbrev pub IsAsked : Graph → Edit → Change → Type 0
-IsAsked g edit (Begin name horizon) = (edit ≡ edits.Begin name horizon.from horizon.to) × IsNone g.begun × IsSpan horizon
+IsAsked g edit (Begin name horizon) = (edit ≡ edits.Begin name.now horizon.from horizon.to) × IsNone g.begun × IsSpan horizon
 IsAsked g edit (Widen horizon) = (edit ≡ edits.Extend horizon.from horizon.to) × IsWider g horizon
-IsAsked g edit (AddNode id labels) = (edit ≡ edits.AddNode id labels.now) × IsNew g id
+IsAsked g edit (AddNode id labels) = (edit ≡ edits.AddNode id.now labels.now) × IsNew g id.now
 IsAsked g edit (AddEdge id labels source target) =
-    (s : Word) × (t : Word) × (edit ≡ edits.AddEdge id labels.now s t) × IsNew g id × IsNamed g s source × IsNamed g t target
+    (s : Word) × (t : Word) × (edit ≡ edits.AddEdge id.now labels.now s t) × IsNew g id.now × IsNamed g s source × IsNamed g t target
 IsAsked g edit (Live site) = (id : Word) × (edit ≡ edits.Live id site.span.from site.span.to) × IsSite g id site
 IsAsked g edit (Gone site) = (id : Word) × (edit ≡ edits.Gone id site.span.from site.span.to) × IsSite g id site
-IsAsked g edit (Put site prop value) = (id : Word) × (edit ≡ edits.Put id prop value site.span.from site.span.to) × IsSite g id site
-IsAsked g edit (Clear site prop) = (id : Word) × (edit ≡ edits.Clear id prop site.span.from site.span.to) × IsSite g id site
+IsAsked g edit (Put site prop value) = (id : Word) × (edit ≡ edits.Put id prop.now value.now site.span.from site.span.to) × IsSite g id site
+IsAsked g edit (Clear site prop) = (id : Word) × (edit ≡ edits.Clear id prop.now site.span.from site.span.to) × IsSite g id site
 IsAsked g edit (Remove object) = (id : Word) × (edit ≡ edits.Remove id) × IsNamed g id object
 
 -- the object stands, and the span lies in the horizon
@@ -64,8 +64,8 @@ pub record IsPlaced (g : Graph) (site : Site) : Type 0 where
 abbrev pub IsFound : Graph → Change → Type 0
 IsFound g (Begin name horizon) = IsNone g.begun
 IsFound g (Widen horizon) = IsWider g horizon
-IsFound g (AddNode id labels) = IsNew g id
-IsFound g (AddEdge id labels source target) = IsNew g id × Stands g source.0 × Stands g target.0
+IsFound g (AddNode id labels) = IsNew g id.now
+IsFound g (AddEdge id labels source target) = IsNew g id.now × Stands g source.0 × Stands g target.0
 IsFound g (Live site) = IsPlaced g site
 IsFound g (Gone site) = IsPlaced g site
 IsFound g (Put site prop value) = IsPlaced g site
@@ -80,8 +80,8 @@ Fits g (AddNode id labels) = length g.objects < MAX_OBJECTS
 Fits g (AddEdge id labels source target) = IsNode g source.0 × IsNode g target.0 × (length g.objects < MAX_OBJECTS)
 Fits g (Live site) = EndsExist g site.object.0 site.span × FitFamily g site.object.0 site.span
 Fits g (Gone site) = IsFree g site.object.0 site.span × FitCut g site.object.0 site.span
-Fits g (Put site prop value) = IsThere g site.object.0 site.span × FitPut g site.object.0 prop value site.span × HasPlace g site.object.0 prop
-Fits g (Clear site prop) = FitClear g site.object.0 prop site.span
+Fits g (Put site prop value) = IsThere g site.object.0 site.span × FitPut g site.object.0 prop.now value.now site.span × HasPlace g site.object.0 prop.now
+Fits g (Clear site prop) = FitClear g site.object.0 prop.now site.span
 Fits g (Remove object) = (e : ℕ) → HasEnd g e object.0 → ⊥
 
 -- the horizon that a graph gets has moments for ends
@@ -92,14 +92,14 @@ BeginsInMoments change = Unit {0}
 
 -- the graph that differs as the change says, and in nothing else
 abbrev pub Leaves : Graph → Change → Graph → Type 0
-Leaves g (Begin name horizon) new = new ≡ begun_as g name horizon
+Leaves g (Begin name horizon) new = new ≡ begun_as g name.now horizon
 Leaves g (Widen horizon) new = new ≡ widened g horizon
-Leaves g (AddNode id labels) new = new ≡ with_node g id labels.now
-Leaves g (AddEdge id labels source target) new = new ≡ with_edge g id labels.now source.0 target.0
+Leaves g (AddNode id labels) new = new ≡ with_node g id.now labels.now
+Leaves g (AddEdge id labels source target) new = new ≡ with_edge g id.now labels.now source.0 target.0
 Leaves g (Live site) new = JoinsLive g site.object.0 site.span new
 Leaves g (Gone site) new = CutsLive g site.object.0 site.span new
-Leaves g (Put site prop value) new = PutsValue g site.object.0 prop value site.span new
-Leaves g (Clear site prop) new = ClearsValue g site.object.0 prop site.span new
+Leaves g (Put site prop value) new = PutsValue g site.object.0 prop.now value.now site.span new
+Leaves g (Clear site prop) new = ClearsValue g site.object.0 prop.now site.span new
 Leaves g (Remove object) new = new ≡ without g object.0
 
 -- what the change touches on the graph before it
@@ -110,8 +110,8 @@ Touches g (AddNode id labels) touch = touch ≡ touched.Shape labels.now
 Touches g (AddEdge id labels source target) touch = touch ≡ touched.Shape labels.now
 Touches g (Live site) touch = ObjectIs g site.object.0 (λ x. touch ≡ touched.Live x.labels)
 Touches g (Gone site) touch = ObjectIs g site.object.0 (λ x. touch ≡ touched.Gone x.labels)
-Touches g (Put site prop value) touch = ObjectIs g site.object.0 (λ x. touch ≡ touched.Value x.labels prop)
-Touches g (Clear site prop) touch = ObjectIs g site.object.0 (λ x. touch ≡ touched.Value x.labels prop)
+Touches g (Put site prop value) touch = ObjectIs g site.object.0 (λ x. touch ≡ touched.Value x.labels prop.now)
+Touches g (Clear site prop) touch = ObjectIs g site.object.0 (λ x. touch ≡ touched.Value x.labels prop.now)
 Touches g (Remove object) touch = ObjectIs g object.0 (λ x. touch ≡ touched.Shape x.labels)
 
 -- to make the change takes memory

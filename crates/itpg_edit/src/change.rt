@@ -26,25 +26,25 @@ impl Site {
     }
 }
 
-/// One change of a graph: an edit with objects in place of names, and spans in place of moments. Sets of labels, which are large, stay
-/// in the edit.
+/// One change of a graph: an edit with objects in place of names, and spans in place of moments. The names that it still has and sets of
+/// labels, which are large, stay in the edit.
 #[derive(Clone, Copy)]
 pub(crate) enum Change<'a> {
     /// Begins the graph.
     Begin {
-        name: Name,
+        name: &'a Name,
         horizon: Span,
     },
     /// Widens the horizon to this one.
     Widen(Span),
     /// Declares a node.
     AddNode {
-        id: Name,
+        id: &'a Name,
         labels: &'a LabelSet,
     },
     /// Declares an edge.
     AddEdge {
-        id: Name,
+        id: &'a Name,
         labels: &'a LabelSet,
         source: ObjNo,
         target: ObjNo,
@@ -56,13 +56,13 @@ pub(crate) enum Change<'a> {
     /// Gives the property the value in the span.
     Put {
         site: Site,
-        prop: Name,
-        value: Name,
+        prop: &'a Name,
+        value: &'a Name,
     },
     /// Takes the property's values in the span away.
     Clear {
         site: Site,
-        prop: Name,
+        prop: &'a Name,
     },
     /// Drops the object.
     Remove(ObjNo),
@@ -82,7 +82,7 @@ impl<'a> Change<'a> {
             Change::Gone(site) => Touch::Gone(graph.labels(site.object)),
             Change::Put { site, prop, .. } | Change::Clear { site, prop } => Touch::Value {
                 labels: graph.labels(site.object),
-                prop,
+                prop: *prop,
             },
             Change::Remove(object) => Touch::Shape(graph.labels(object)),
         }

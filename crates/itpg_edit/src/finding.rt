@@ -24,15 +24,12 @@ pub(crate) fn find<'a>(graph: &Graph, edit: &'a Edit) -> Result<Change<'a>, Rule
                 return Err(RuleCode::Again);
             }
             let horizon = Span::new(*lo, *hi).ok_or(RuleCode::Backwards)?;
-            Ok(Change::Begin {
-                name: *name,
-                horizon,
-            })
+            Ok(Change::Begin { name, horizon })
         }
         Edit::Extend { lo, hi } => Ok(Change::Widen(wider(graph, *lo, *hi)?)),
         Edit::AddNode { id, labels } => {
             check_new(graph, id)?;
-            Ok(Change::AddNode { id: *id, labels })
+            Ok(Change::AddNode { id, labels })
         }
         Edit::AddEdge {
             id,
@@ -44,7 +41,7 @@ pub(crate) fn find<'a>(graph: &Graph, edit: &'a Edit) -> Result<Change<'a>, Rule
             let source = named(graph, source)?;
             let target = named(graph, target)?;
             Ok(Change::AddEdge {
-                id: *id,
+                id,
                 labels,
                 source,
                 target,
@@ -60,15 +57,11 @@ pub(crate) fn find<'a>(graph: &Graph, edit: &'a Edit) -> Result<Change<'a>, Rule
             to,
         } => {
             let site = site_of(graph, id, *from, *to)?;
-            Ok(Change::Put {
-                site,
-                prop: *prop,
-                value: *value,
-            })
+            Ok(Change::Put { site, prop, value })
         }
         Edit::Clear { id, prop, from, to } => {
             let site = site_of(graph, id, *from, *to)?;
-            Ok(Change::Clear { site, prop: *prop })
+            Ok(Change::Clear { site, prop })
         }
         Edit::Remove { id } => Ok(Change::Remove(named(graph, id)?)),
     }

@@ -74,7 +74,7 @@ fn make(graph: &mut Graph, change: &Change<'_>) -> Result<(), AllocError>
 {
     match *change {
         Change::Begin { name, horizon } => {
-            graph.begin(name, horizon);
+            graph.begin(*name, horizon);
             Ok(())
         }
         Change::Widen(horizon) => {
@@ -82,7 +82,7 @@ fn make(graph: &mut Graph, change: &Change<'_>) -> Result<(), AllocError>
             Ok(())
         }
         Change::AddNode { id, labels } => {
-            graph.add_node(id, *labels)?;
+            graph.add_node(*id, *labels)?;
             Ok(())
         }
         Change::AddEdge {
@@ -91,15 +91,15 @@ fn make(graph: &mut Graph, change: &Change<'_>) -> Result<(), AllocError>
             source,
             target,
         } => {
-            graph.add_edge(id, *labels, source, target)?;
+            graph.add_edge(*id, *labels, source, target)?;
             Ok(())
         }
         Change::Live(site) => graph.join_live(site.object, site.span),
         Change::Gone(site) => graph.cut_live(site.object, site.span),
         Change::Put { site, prop, value } => {
-            graph.put_value(site.object, prop, value, site.span)
+            graph.put_value(site.object, *prop, *value, site.span)
         }
-        Change::Clear { site, prop } => graph.clear_value(site.object, prop, site.span),
+        Change::Clear { site, prop } => graph.clear_value(site.object, *prop, site.span),
         Change::Remove(object) => {
             graph.remove(object);
             Ok(())

@@ -25,7 +25,7 @@ pub returns-in_err-refuse_if-in-Put-clause-broken : goal.returns-in_err-refuse_i
 returns-in_err-refuse_if-in-Put-clause-broken c =
     let told = c.in_err-refuse_if-in-Put.ensures.broken in
     let broken : (edit : Edit) → IsAsked c.args.graph.now edit c.args.change.now → Broken c.args.graph.now edit c.in_err-refuse_if-in-Put.field-0.0 =
-    refused c.args.graph.now _ _ _ Absent c.in-Put.is told.0 (λ edit asked. subst (λ e. Broken c.args.graph.now e Absent) (sym asked.1) (put_absent c.args.graph.now asked.0 c.in-Put.site asked.2 c.in-Put.prop c.in-Put.value (c.is_absent.ensures.missing told.1))) in
+    refused c.args.graph.now _ _ _ Absent c.in-Put.is told.0 (λ edit asked. subst (λ e. Broken c.args.graph.now e Absent) (sym asked.1) (put_absent c.args.graph.now asked.0 c.in-Put.site asked.2 c.in-Put.prop.now c.in-Put.value.now (c.is_absent.ensures.missing told.1))) in
     search rules
 
 pub returns-in_err-refuse_if-in-AddEdge-clause-broken : goal.returns-in_err-refuse_if-in-AddEdge-clause-broken
@@ -34,7 +34,7 @@ returns-in_err-refuse_if-in-AddEdge-clause-broken c =
     let e = c.in-AddEdge in
     let broken : (edit : Edit) → IsAsked c.args.graph.now edit c.args.change.now → Broken c.args.graph.now edit c.in_err-refuse_if-in-AddEdge.field-0.0 =
     refused c.args.graph.now _ _ _ Kind e.is told.0 (λ edit asked. subst (λ e. Broken c.args.graph.now e Kind) (sym asked.2)
-    (edge_kind c.args.graph.now e.id asked.3 e.labels.now asked.0 asked.1 e.source e.target asked.4 asked.5 (c.joins_edge.ensures.edge told.1))) in
+    (edge_kind c.args.graph.now e.id.now asked.3 e.labels.now asked.0 asked.1 e.source e.target asked.4 asked.5 (c.joins_edge.ensures.edge told.1))) in
     search rules
 
 pub returns-in_ok-refuse_if-in-AddEdge-clause-broken : goal.returns-in_ok-refuse_if-in-AddEdge-clause-broken
@@ -42,17 +42,17 @@ returns-in_ok-refuse_if-in-AddEdge-clause-broken c =
     let e = c.in-AddEdge in
     let nodes = c.joins_edge.ensures.nodes c.in_ok-refuse_if-in-AddEdge.ensures.kept in
     last c.args.graph.now c.args.change.now _ Full c.check_room-in-AddEdge.result e.is c.check_room-in-AddEdge.ensures.full
-    (λ told edit asked. subst (λ e. Broken c.args.graph.now e Full) (sym asked.2) (edge_full c.args.graph.now e.id asked.3 e.labels.now asked.0 asked.1 e.source e.target asked.4 asked.5 nodes.0 nodes.1 told))
+    (λ told edit asked. subst (λ e. Broken c.args.graph.now e Full) (sym asked.2) (edge_full c.args.graph.now e.id.now asked.3 e.labels.now asked.0 asked.1 e.source e.target asked.4 asked.5 nodes.0 nodes.1 told))
 
 pub returns-in-AddNode-clause-broken : goal.returns-in-AddNode-clause-broken
 returns-in-AddNode-clause-broken c =
     last c.args.graph.now c.args.change.now _ Full c.check_room.result c.in-AddNode.is c.check_room.ensures.full
-    (λ told edit asked. node_full c.args.graph.now c.in-AddNode.id asked.1 c.in-AddNode.labels.now edit asked.0 told)
+    (λ told edit asked. node_full c.args.graph.now c.in-AddNode.id.now asked.1 c.in-AddNode.labels.now edit asked.0 told)
 
 pub returns-in-Clear-clause-broken : goal.returns-in-Clear-clause-broken
 returns-in-Clear-clause-broken c =
     last c.args.graph.now c.args.change.now _ Full c.refuse_if-in-Clear.result c.in-Clear.is c.refuse_if-in-Clear.ensures.broken
-    (λ told edit asked. subst (λ e. Broken c.args.graph.now e Full) (sym asked.1) (clear_full c.args.graph.now asked.0 c.in-Clear.site asked.2 c.in-Clear.prop (c.clears_too_many.ensures.many told)))
+    (λ told edit asked. subst (λ e. Broken c.args.graph.now e Full) (sym asked.1) (clear_full c.args.graph.now asked.0 c.in-Clear.site asked.2 c.in-Clear.prop.now (c.clears_too_many.ensures.many told)))
 
 pub returns-in-Remove-clause-broken : goal.returns-in-Remove-clause-broken
 returns-in-Remove-clause-broken c =
@@ -77,4 +77,4 @@ returns-in_ok-refuse_if-in-Gone-clause-broken c =
 pub returns-in_ok-refuse_if-in-Put-clause-broken : goal.returns-in_ok-refuse_if-in-Put-clause-broken
 returns-in_ok-refuse_if-in-Put-clause-broken c =
     last c.args.graph.now c.args.change.now _ Full c.refuse_if-in-Put-2.result c.in-Put.is c.refuse_if-in-Put-2.ensures.broken
-    (λ told edit asked. subst (λ e. Broken c.args.graph.now e Full) (sym asked.1) (put_full c.args.graph.now asked.0 c.in-Put.site asked.2 c.in-Put.prop c.in-Put.value (c.is_absent.ensures.there c.in_ok-refuse_if-in-Put.ensures.kept) (c.puts_too_many.ensures.many told)))
+    (λ told edit asked. subst (λ e. Broken c.args.graph.now e Full) (sym asked.1) (put_full c.args.graph.now asked.0 c.in-Put.site asked.2 c.in-Put.prop.now c.in-Put.value.now (c.is_absent.ensures.there c.in_ok-refuse_if-in-Put.ensures.kept) (c.puts_too_many.ensures.many told)))
