@@ -1,23 +1,24 @@
 -- The lexemes at the front of a text: a blank is none, an operator is one, and so is a string with no escapes or a whole number.
-use Rattle.std.proofs.Common.{◌≡◌, ◌||◌, ℕ, ℤ, pos, neg_ℤ, w64, zero, suc, ◌+◌, ◌^◌, ◌<◌, ◌≤◌, List, [], ◌∷◌, ◌++◌, length, take, drop, get_or, Option, Some, None, Bool, true, false, cond, ◌==◌, ◌⊎◌, inl, inr, decimal, refl, sym, ap, ap₂, ◌∙◌, subst, arith, append_assoc, Result, Ok, Err}
-use Rattle.std.proofs.lemmas.Bool.{or_cases, eqb-true, eqb-false, ltb-false, or_parts, not-true, ne_eqb}
+use Rattle.std.proofs.Common.{◌≡◌, ◌||◌, ℕ, ℤ, pos, neg_ℤ, w64, zero, suc, ◌+◌, ◌^◌, ◌<◌, List, [], ◌∷◌, ◌++◌, length, take, drop, get_or, Bool, true, false, cond, ◌==◌, ◌⊎◌, inl, inr, decimal, refl, sym, ap, ap₂, ◌∙◌, subst, arith}
+use Rattle.std.proofs.lemmas.Bool.{and_parts, and_from, le-leb, leb-true, or_cases, eqb-true, eqb-false, ltb-false, or_parts, not-true}
 use Rattle.std.proofs.lemmas.List.{drop_more}
 use Rattle.std.proofs.lemmas.Fmt.{decimal-digits_value}
-use Rattle.std.proofs.lemmas.Str.Parse.{numerals_by_value, tells_digits}
-use Rattle.std.specs.List.{prefix_len}
+use Rattle.std.proofs.lemmas.Str.Parse.{numerals_by_value, IsDigitsTest}
+use Rattle.std.specs.List.{prefix_len, list_all}
+use Rattle.std.specs.Char.{is_ascii_digit}
+use Rattle.std.specs.Prelude.{leb}
 use mir.Val.{to_z, of_z, SFits}
 use lib.IntN.{◌-ℤ◌}
 use lib.Signed.{mag}
 use Rattle.std.proofs.lemmas.Int.{to_z_pos, to_z-of_z, ints}
 use Rattle.std.specs.Fmt.{signed_decimal}
-use Rattle.std.specs.Str.Parse.{AllDigits, IsNumeral, digits_value, ParsesUnsigned, without_leading_plus}
-use Rattle.std.specs.Result.{result_ok}
-use Rattle.json.specs.Ascii as ascii
+use Rattle.std.specs.Str.Parse.{digits_value}
 use Rattle.json.specs.Token.{string, number}
 use Rattle.json.specs.Word.{is_operator, is_space, ends_word}
 use Rattle.json.specs.Lex.{lex, between, token, operator_lexeme, string_token}
 use Rattle.json.specs.Run.{is_plain}
-use Rattle.json.specs.Print.{escape, escape_byte}
+use Rattle.json_port.specs.Flats.{is_plain_ascii}
+use Rattle.json.specs.Print.{escape}
 use Rattle.json.proofs.Printed.Strings.{escape_byte_plain, content-escape, lex-escape}
 use Rattle.json.proofs.Printed.Numbers.{lex-number}
 use Rattle.json.proofs.Printed.Decimals.{IsNumber-signed_decimal}
@@ -41,7 +42,7 @@ return_passed : IsPassed 13
 unfolding lex
 return_passed xs = refl
 
-last_is : (P : ℕ → Type 0) (x c : ℕ) (b : Bool) → (b ≡ true → P x) → P c → (b || (x == c)) ≡ true → P x
+pub last_is : (P : ℕ → Type 0) (x c : ℕ) (b : Bool) → (b ≡ true → P x) → P c → (b || (x == c)) ≡ true → P x
 last_is P x c b before here h = go (or_cases b (x == c) h)
   where
     go : (b ≡ true) ⊎ ((x == c) ≡ true) → P x
@@ -94,20 +95,20 @@ operator_first text behind rest x byte blanks is same h =
 
 -- ---- strings
 
-unescaped_byte : (p : Bool) (x n : ℕ) (xs : List ℕ) → is_plain x ≡ p → escape (take n xs) ≡ take n xs → escape (take (cond p (suc n) 0) (x ∷ xs)) ≡ take (cond p (suc n) 0) (x ∷ xs)
+unescaped_byte : (p : Bool) (x n : ℕ) (xs : List ℕ) → is_plain_ascii x ≡ p → escape (take n xs) ≡ take n xs → escape (take (cond p (suc n) 0) (x ∷ xs)) ≡ take (cond p (suc n) 0) (x ∷ xs)
 unescaped_byte false x n xs e ih = refl
 unescaped_byte true x n xs e ih =
-    let none = or_parts ((x == 34) || (x == 92)) _ (not-true _ e) in
+    let none = or_parts ((x == 34) || (x == 92)) _ (not-true _ (and_parts (is_plain x) _ e).0) in
     let tests = or_parts (x == 34) _ none.0 in
     ap₂ (λ a b. a ++ b) (escape_byte_plain x (eqb-false x 34 tests.0) (eqb-false x 92 tests.1) (ltb-false x 32 none.1)) ih
 
 -- plain bytes stand for themselves
-unescaped : (xs : List ℕ) → escape (take (prefix_len is_plain xs) xs) ≡ take (prefix_len is_plain xs) xs
+unescaped : (xs : List ℕ) → escape (take (prefix_len is_plain_ascii xs) xs) ≡ take (prefix_len is_plain_ascii xs) xs
 unescaped [] = refl
 unescaped (x ∷ xs) =
-    let next : suc (prefix_len is_plain xs) ≡ 1 + prefix_len is_plain xs = omega arith in
-    subst (λ n. escape (take (cond (is_plain x) n 0) (x ∷ xs)) ≡ take (cond (is_plain x) n 0) (x ∷ xs)) next
-    (unescaped_byte (is_plain x) x (prefix_len is_plain xs) xs refl (unescaped xs))
+    let next : suc (prefix_len is_plain_ascii xs) ≡ 1 + prefix_len is_plain_ascii xs = omega arith in
+    subst (λ n. escape (take (cond (is_plain_ascii x) n 0) (x ∷ xs)) ≡ take (cond (is_plain_ascii x) n 0) (x ∷ xs)) next
+    (unescaped_byte (is_plain_ascii x) x (prefix_len is_plain_ascii xs) xs refl (unescaped xs))
 
 quoted_text : (s rest : List ℕ) → escape s ≡ s → lex between (34 ∷ s ++ 34 ∷ rest) ≡ token (string s) ∷ lex between rest
 unfolding lex
@@ -115,7 +116,7 @@ quoted_text s rest e =
     ap (λ t. lex between (34 ∷ t ++ 34 ∷ rest)) (sym e) ∙ ap₂ (λ o l. token (string_token o) ∷ l) (content-escape s rest) (lex-escape s rest)
 
 pub string_first : (text behind inside front back rest : List ℕ) (first last n : ℕ) → lex between behind ≡ lex between text → behind ≡ first ∷ inside → first ≡ 34
-    → n ≡ prefix_len is_plain inside → front ≡ take n inside → inside ≡ front ++ back → back ≡ last ∷ rest → last ≡ 34 → lex between text ≡ token (string front) ∷ lex between rest
+    → n ≡ prefix_len is_plain_ascii inside → front ≡ take n inside → inside ≡ front ++ back → back ≡ last ∷ rest → last ≡ 34 → lex between text ≡ token (string front) ∷ lex between rest
 string_first text behind inside front back rest first last n blanks is opens count taken whole ends closes =
     let plain : escape front ≡ front = subst (λ t. escape t ≡ t) (sym (taken ∙ ap (λ m. take m inside) count)) (unescaped inside) in
     let shape : behind ≡ 34 ∷ front ++ 34 ∷ rest = is ∙ ap₂ (λ x t. x ∷ t) opens (whole ∙ ap (λ t. front ++ t) (ends ∙ ap (λ x. x ∷ rest) closes)) in
@@ -123,27 +124,21 @@ string_first text behind inside front back rest first last n blanks is opens cou
 
 -- ---- numbers
 
-unsigned_text : (ds : List ℕ) → (get_or ds 0 0 ≡ 43 → ⊥) → without_leading_plus ds ≡ ds
-unsigned_text ds h = rw (ne_eqb (get_or ds 0 0) 43 h)
+-- each byte is a digit
+abbrev AreDigits : List ℕ → Type 0
+AreDigits ds = list_all is_ascii_digit ds ≡ true
+
+tells_tested : IsDigitsTest AreDigits
+tells_tested = record {
+  empty = refl;
+  parts = λ c cs e. let k = and_parts (is_ascii_digit c) (list_all is_ascii_digit cs) e in let m = and_parts (leb 48 c) (leb c 57) k.0 in ((leb-true 48 c m.0, leb-true c 57 m.1), k.1);
+  more = λ c cs k e. and_from (is_ascii_digit c) (list_all is_ascii_digit cs) (and_from (leb 48 c) (leb c 57) (le-leb 48 c k.0) (le-leb c 57 k.1)) e;
+}
 
 -- digits with no needless zero are the decimal text of their number
-decimal_text : (ds : List ℕ) (n : ℕ) → (IsNumeral 10 ds × (digits_value 10 ds < 2 ^ 64)) × (n ≡ digits_value 10 ds) → 0 < length ds → (get_or ds 0 0 ≡ 48 → length ds ≡ 1) → ds ≡ decimal n
-decimal_text ds n h some alone =
-    sym (decimal-digits_value (numerals_by_value (AllDigits 10) tells_digits) ds h.0.0.1 some alone h.0.1) ∙ ap decimal (sym h.1)
-
-same_some : {m n : ℕ} → (let o : Option ℕ = Some n in o) ≡ Some m → m ≡ n
-same_some e = cc
-
-no_some : {n : ℕ} → (let o : Option ℕ = Some n in o) ≡ None → ⊥
-no_some e = cc
-
-pub size_text : {E : Type 0} (text ds rest : List ℕ) (n : ℕ) (r : Result ℕ E) → ParsesUnsigned 64 10 ds r → Some n ≡ result_ok r → (get_or ds 0 0 ≡ 43 → ⊥) → 0 < length ds → (get_or ds 0 0 ≡ 48 → length ds ≡ 1)
-    → text ≡ ds ++ rest → text ≡ decimal n ++ rest
-size_text text ds rest n (Ok m) parses is unsigned some alone whole =
-    let plain = unsigned_text ds unsigned in
-    let read : (IsNumeral 10 ds × (digits_value 10 ds < 2 ^ 64)) × (m ≡ digits_value 10 ds) = subst (λ t. (IsNumeral 10 t × (digits_value 10 t < 2 ^ 64)) × (m ≡ digits_value 10 t)) plain parses in
-    whole ∙ ap (λ t. t ++ rest) (decimal_text ds m read some alone ∙ ap decimal (same_some is))
-size_text text ds rest n (Err e) parses is unsigned some alone whole = absurd (no_some is)
+pub size_text : (text ds rest : List ℕ) (n : ℕ) → n ≡ digits_value 10 ds → list_all is_ascii_digit ds ≡ true → n < 2 ^ 64 → 0 < length ds → (get_or ds 0 0 ≡ 48 → length ds ≡ 1) → text ≡ ds ++ rest → text ≡ decimal n ++ rest
+size_text text ds rest n is all fits some alone whole =
+    whole ∙ ap (λ t. t ++ rest) (sym (decimal-digits_value (numerals_by_value AreDigits tells_tested) ds all some alone (subst (λ m. m < 2 ^ 64) is fits)) ∙ ap decimal (sym is))
 
 number_text : (z : ℤ) (rest : List ℕ) → mag z < 2 ^ 63 → ends_word rest ≡ true → lex between (signed_decimal z ++ rest) ≡ token (number (signed_decimal z)) ∷ lex between rest
 number_text z rest h ended = lex-number (signed_decimal z) rest (IsNumber-signed_decimal z h) ended

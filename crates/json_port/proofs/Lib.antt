@@ -1,4 +1,5 @@
 pub mod Counts
+pub mod Ops
 pub mod Listings
 pub mod Values
 pub mod OneLine
@@ -7,5 +8,6 @@ pub mod SomeLine
 pub mod GoodEdits
 pub mod Examples
 pub mod Fronts
+pub mod Ascii
 pub mod Members
 pub mod FlatTokens

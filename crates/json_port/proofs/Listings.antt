@@ -1,16 +1,16 @@
 -- Items that are names.
-use Rattle.std.proofs.Common.{◌≡◌, ℕ, suc, ◌<◌, ◌≤◌, ◌+◌, List, [], ◌∷◌, ◌++◌, length, map, take, get_or, set, Bool, true, false, ◌&&◌, ◌==◌, nat_eq, Bor, Option, Some, None, is_some, option_map, option_and_then, unwrap_or, if◌then◌else◌, Result, Ok, Err, refl, sym, ap, ap₂, ◌∙◌, subst, arith, true≢false}
+use Rattle.std.proofs.Common.{◌≡◌, ℕ, suc, ◌<◌, ◌≤◌, ◌+◌, List, [], ◌∷◌, ◌++◌, length, map, take, get_or, set, Bool, true, false, ◌&&◌, ◌==◌, Bor, Option, Some, None, is_some, option_map, option_and_then, unwrap_or, if◌then◌else◌, Result, Ok, Err, refl, sym, ap, ap₂, ◌∙◌, subst, arith, true≢false}
 use Rattle.std.specs.Prelude.{IsTrue, IsFalse, MatchResult}
 use Rattle.std.specs.Option.{ok_or}
 use Rattle.std.specs.List.{list_all}
-use Rattle.std.proofs.lemmas.Bool.{le-leb}
+use Rattle.std.proofs.lemmas.Bool.{le-leb, and_parts}
 use Rattle.std.proofs.lemmas.List.{take_more_set, take_more, take_all, get_or-map, length-map, length-set, length-take}
 use Rattle.std.proofs.lemmas.List.Folds.{list_all_at, list_all-map}
 use Rattle.itpg_base.specs.Words.{Word}
 use Rattle.itpg_base.specs.declared.text_code.TextCode.{TextCode}
 use Rattle.edit_reader.specs.Labels.{set_of}
 use Rattle.edit_reader.specs.Names.{is_word}
-use Rattle.serde_json.specs.Data.{string, array, Members}
+use Rattle.serde_json.specs.Data.{array, Members}
 use Rattle.serde_json.specs.Find.{as_array, get_member}
 use Rattle.serde_json.specs.Events.{items_len}
 use Rattle.serde_json.specs.View.{view, items_view}
@@ -18,7 +18,7 @@ use Rattle.serde_json.specs.declared.value.Value.{Value}
 use Rattle.json_port.specs.declared.names.Names.{Names}
 use Rattle.json_port.specs.declared.member.Part.{Part}
 use Rattle.json_port.specs.declared.member.Member.{Member}
-use Rattle.json_port.specs.Parts.{name_of, only_if, names_in, some_and_few}
+use Rattle.json_port.specs.Parts.{name_of, names_in, some_and_few}
 use Rattle.json_port.specs.Faults.{is_short}
 use Rattle.json_port.specs.Calls.{listed_name, listed_names, words}
 use Rattle.json_port.specs.Flats.{listed, texts_data, part_data, member_data}
@@ -107,8 +107,16 @@ tests_words (w ∷ ws) empty is h = sym (tested (list_all is_word (map (λ v. v.
 pub short_listed : (names : Names) (ws : List (Bor Word)) → ws ≡ take names.len names.items → list_all (λ w. is_short w.now) ws ≡ list_all is_short (listed names)
 short_listed names ws is = ap (list_all (λ w. is_short w.now)) is ∙ sym (list_all-map is_short (λ w. w.now) (take names.len names.items))
 
-pub names_data : (m : Member) → m.part ≡ Part.Names → array (texts_data (listed m.names)) ≡ member_data m
-names_data m is = sym (ap (λ p. part_data p m.names) is)
+-- one word is its own set
+pub one_label : (names : Names) (ws : List (Bor Word)) (label : Bor Word) (name : Word) → ws ≡ take names.len names.items → ws ≡ label ∷ [] → list_all (λ w. is_short w.now) ws ≡ true → (is_short label.now ≡ true → name ≡ label.now)
+    → (list_all is_short (listed names) ≡ true) × (name ∷ [] ≡ set_of (listed names))
+one_label names ws label name is one short named =
+    let only : listed names ≡ label.now ∷ [] = ap (map (λ s. s.now)) (sym is ∙ one) in
+    let fits = and_parts (is_short label.now) true (ap (list_all (λ w. is_short w.now)) (sym one) ∙ short) in
+    (sym (short_listed names ws is) ∙ short, ap (λ n. n ∷ []) (named fits.0) ∙ ap set_of (sym only))
+
+pub names_data : (names : List Word) (m : Member) → m.part ≡ Part.Names → array (texts_data names) ≡ member_data names m
+names_data names m is = sym (ap (part_data names) is)
 
 -- ---- arrays that fill
 

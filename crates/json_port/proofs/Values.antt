@@ -1,15 +1,10 @@
 -- The value of a line, and what an object asks for.
-use Rattle.std.proofs.Common.{◌≡◌, ℕ, List, Bool, true, false, Option, Some, None, Result, Ok, Err, refl, if◌then◌else◌}
+use Rattle.std.proofs.Common.{◌≡◌, ℕ, List, Bool, true, false, Some, None, refl, if◌then◌else◌}
 use Rattle.std.specs.Str.{IsUtf8, is_utf8}
 use Rattle.std.proofs.lemmas.Str.{IsUtf8-from_is_utf8, is_utf8-from_IsUtf8}
-use Rattle.itpg_base.specs.declared.text_code.TextCode.{TextCode}
-use Rattle.itpg_edit.specs.declared.edit.Edit.{Edit}
 use Rattle.serde_json.specs.Data.{Data}
 use Rattle.serde_json.specs.Read.{read}
-use Rattle.json_port.specs.Objects.{Asked, Change, Line}
-use Rattle.json_port.specs.Faults.{Tells}
-use Rattle.json_port.specs.Lines.{value_in, IsAnswer}
-use Rattle.json_port.specs.Calls.{line_of, TellsEdit}
+use Rattle.json_port.specs.Lines.{value_in}
 
 pub value_read : (line : List ℕ) (d : Data) → IsUtf8 line → read line ≡ Some d → value_in line ≡ Some d
 value_read line d utf8 e = rw (is_utf8-from_IsUtf8 line utf8) e
@@ -20,12 +15,3 @@ refused_at line false is h = refl
 
 pub value_refused : (line : List ℕ) → (IsUtf8 line → read line ≡ None) → value_in line ≡ None
 value_refused line h = refused_at line (is_utf8 line) refl h
-
--- what an edit is told as is what its line is told as
-pub answers_edit : (a : Option Asked) (edit : Result Edit TextCode) → TellsEdit a edit → IsAnswer (Tells a) (line_of edit)
-answers_edit None (Ok edit) h = absurd (cc)
-answers_edit None (Err code) h = cc
-answers_edit (Some (Line text)) (Ok edit) h = absurd h
-answers_edit (Some (Line text)) (Err code) h = absurd h
-answers_edit (Some (Change asked)) (Ok edit) h = h
-answers_edit (Some (Change asked)) (Err code) h = h

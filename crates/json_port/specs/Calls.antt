@@ -1,18 +1,15 @@
 -- What the calls inside find: no public clause but those of faults names what stands here.
-use Rattle.std.specs.Prelude.{◌≡◌, ℕ, Bool, List, [], ◌∷◌, if◌then◌else◌, map, unwrap_or, Option, Some, None, Result, Ok, Err}
+use Rattle.std.specs.Prelude.{◌≡◌, ℕ, Bool, List, [], ◌∷◌, if◌then◌else◌, map, unwrap_or, Option, Some, None}
 use Rattle.std.specs.List.{list_all}
 use Rattle.std.specs.Borrow.{Bor}
 use Rattle.itpg_base.specs.Words.{Word}
 use Rattle.itpg_base.specs.declared.text_code.TextCode.{TextCode}
-use Rattle.itpg_edit.specs.declared.edit.Edit.{Edit}
 use Rattle.serde_json.specs.View.{view}
 use Rattle.serde_json.specs.declared.value.Value.{Value}
-use Rattle.json_port.specs.declared.line.JsonLine.{JsonLine}
 use Rattle.json_port.specs.declared.line.JsonFault.{JsonFault}
 use Rattle.edit_reader.specs.Names.{is_word}
 use Rattle.json_port.specs.Parts.{name_of}
-use Rattle.json_port.specs.Objects.{Asked, Change, Line}
-use Rattle.json_port.specs.Faults.{is_short, IsTold}
+use Rattle.json_port.specs.Faults.{is_short}
 use Rattle.json_port.specs.Lines.{value_in}
 
 -- the word that an item is, or no byte
@@ -31,17 +28,6 @@ words (w ∷ ws) = if list_all is_word (w ∷ ws) then Some (w ∷ ws) else None
 -- none of the texts that are lent is too long for a name
 abbrev pub are_short : List (Bor (List ℕ)) → Bool
 are_short names = list_all (λ name. is_short name.now) names
-
--- what is told of an edit alone if this is asked for
-abbrev pub TellsEdit : Option Asked → Result Edit TextCode → Type 0
-TellsEdit None result = result ≡ Err TextCode.Text
-TellsEdit (Some (Line text)) result = ⊥
-TellsEdit (Some (Change asked)) result = IsTold asked result
-
--- an edit, or its fault, as what a line is
-abbrev pub line_of : Result Edit TextCode → Result JsonLine JsonFault
-line_of (Ok edit) = Ok (JsonLine.Edit edit)
-line_of (Err code) = Err (JsonFault.Bad code)
 
 -- the fault is that the line has no value, or that memory ran out
 abbrev pub IsRefusal : List ℕ → JsonFault → Type 0

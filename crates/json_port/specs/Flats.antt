@@ -1,15 +1,17 @@
 -- Flat objects: the data that one is, and the lexemes by which it is written.
-use Rattle.std.specs.Prelude.{ℕ, ◌<◌, ◌^◌, ⊤, List, [], ◌∷◌, ◌++◌, map, take, reverse}
+use Rattle.std.specs.Prelude.{◌≡◌, ℕ, ◌<◌, ◌^◌, ⊤, ◌⊎◌, Bool, ◌&&◌, nat_lt, List, [], ◌∷◌, ◌++◌, map, take, reverse}
 use lib.Signed.{mag}
-use Rattle.std.specs.Borrow.{Bor}
+use Rattle.std.specs.List.{list_all}
 use Rattle.std.specs.Fmt.{signed_decimal}
 use Rattle.json.specs.Token as tokens
+use Rattle.json.specs.Run.{is_plain}
 use Rattle.json.specs.Lex.{Lexeme, token, comma, colon}
-use Rattle.serde_json.specs.Data.{Data, number, string, array, object, Items, no_items, item, Members, no_members, put}
+use Rattle.serde_json.specs.Data.{Data, number, string, array, Items, no_items, item, Members, no_members, put}
 use Rattle.serde_json.specs.Find.{of_integer}
 use Rattle.json_port.specs.declared.names.Names.{Names}
 use Rattle.json_port.specs.declared.member.Part.{Part}
 use Rattle.json_port.specs.declared.member.Member.{Member}
+use Rattle.json_port.specs.Keys.{key_word}
 
 -- the texts that are listed
 abbrev pub listed : Names → List (List ℕ)
@@ -20,23 +22,23 @@ abbrev pub texts_data : List (List ℕ) → Items
 texts_data [] = no_items
 texts_data (s ∷ ss) = item (string s) (texts_data ss)
 
--- the data under the name of a member
-abbrev pub part_data : Part → Names → Data
-part_data (Part.Text s) names = string s.now
-part_data (Part.Number n) names = number (of_integer n)
-part_data Part.Names names = array (texts_data (listed names))
+-- the data of a part, if these texts are listed
+abbrev pub part_data : List (List ℕ) → Part → Data
+part_data names (Part.Text s) = string s.now
+part_data names (Part.Number n) = number (of_integer n)
+part_data names Part.Names = array (texts_data names)
 
-abbrev pub member_data : Member → Data
-member_data m = part_data m.part m.names
+abbrev pub member_data : List (List ℕ) → Member → Data
+member_data names m = part_data names m.part
 
 -- members, the last one first: a later one replaces an earlier one of its name
-abbrev pub latest : List Member → Members
-latest [] = no_members
-latest (m ∷ ms) = put m.key.now (member_data m) (latest ms)
+abbrev pub latest : List (List ℕ) → List Member → Members
+latest names [] = no_members
+latest names (m ∷ ms) = put (key_word m.key) (member_data names m) (latest names ms)
 
 -- the members in their order
-abbrev pub members_of : List Member → Members
-members_of ms = latest (reverse ms)
+abbrev pub members_of : List (List ℕ) → List Member → Members
+members_of names ms = latest names (reverse ms)
 
 -- lists of lexemes with commas between
 abbrev pub between_commas : List (List Lexeme) → List Lexeme
@@ -55,21 +57,18 @@ abbrev pub names_lexemes : List (List ℕ) → List Lexeme
 names_lexemes names = enclosed (token tokens.begin_array) (token tokens.end_array) text_lexemes names
 
 -- how a part is written
-abbrev pub part_lexemes : Part → Names → List Lexeme
-part_lexemes (Part.Text s) names = text_lexemes s.now
-part_lexemes (Part.Number n) names = token (tokens.number (signed_decimal n)) ∷ []
-part_lexemes Part.Names names = names_lexemes (listed names)
-
-abbrev pub value_lexemes : Member → List Lexeme
-value_lexemes m = part_lexemes m.part m.names
+abbrev pub part_lexemes : List (List ℕ) → Part → List Lexeme
+part_lexemes names (Part.Text s) = text_lexemes s.now
+part_lexemes names (Part.Number n) = token (tokens.number (signed_decimal n)) ∷ []
+part_lexemes names Part.Names = names_lexemes names
 
 -- how a member is written
-abbrev pub member_lexemes : Member → List Lexeme
-member_lexemes m = token (tokens.string m.key.now) ∷ colon ∷ value_lexemes m
+abbrev pub member_lexemes : List (List ℕ) → Member → List Lexeme
+member_lexemes names m = token (tokens.string (key_word m.key)) ∷ colon ∷ part_lexemes names m.part
 
 -- how an object is written
-abbrev pub object_lexemes : List Member → List Lexeme
-object_lexemes ms = enclosed (token tokens.begin_object) (token tokens.end_object) member_lexemes ms
+abbrev pub object_lexemes : List (List ℕ) → List Member → List Lexeme
+object_lexemes names ms = enclosed (token tokens.begin_object) (token tokens.end_object) (member_lexemes names) ms
 
 -- the number of a part has less than 63 bits
 abbrev pub IsSized : Part → Type 0
@@ -80,3 +79,25 @@ IsSized Part.Names = ⊤
 abbrev pub AreSized : List Member → Type 0
 AreSized [] = ⊤
 AreSized (m ∷ ms) = IsSized m.part × AreSized ms
+
+-- the part is no list
+abbrev pub IsScalar : Part → Type 0
+IsScalar (Part.Text s) = ⊤
+IsScalar (Part.Number n) = ⊤
+IsScalar Part.Names = ⊥
+
+abbrev pub AreScalars : List Member → Type 0
+AreScalars [] = ⊤
+AreScalars (m ∷ ms) = IsScalar m.part × AreScalars ms
+
+-- a part is no list and no texts are listed by it, or it is the first that lists some
+abbrev pub IsListedOnce : Names → Names → Part → Type 0
+IsListedOnce before after part = ((after ≡ before) × IsScalar part) ⊎ ((before.len ≡ 0) × (0 < after.len))
+
+-- each byte is of ASCII
+abbrev pub are_ascii : List ℕ → Bool
+are_ascii text = list_all (λ byte. nat_lt byte 128) text
+
+-- the byte is of ASCII and stands for itself in a string
+abbrev pub is_plain_ascii : ℕ → Bool
+is_plain_ascii byte = is_plain byte && nat_lt byte 128

@@ -3,6 +3,7 @@ pub mod Objects
 pub mod Faults
 pub mod Lines
 pub mod Calls
+pub mod Keys
 pub mod Flats
 pub mod FlatObjects
 pub mod Forms

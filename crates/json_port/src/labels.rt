@@ -10,11 +10,13 @@ ghost use Rattle.json_port.specs.Parts.{labels_at};
 ghost use Rattle.json_port.specs.Faults.{is_short};
 ghost use Rattle.json_port.specs.Flats.{listed};
 ghost use Rattle.json_port.specs.FlatObjects.{flat_data};
+ghost use Rattle.json_port.specs.Keys.{key_word};
 ghost use Rattle.json_port.specs.Forms.{data_of};
 ghost use Rattle.json_port.specs.Calls as calls;
 ghost use Rattle.json_port.specs.Calls.{listed_name, listed_names};
 
 use crate::flat::Flat;
+use crate::key::Key;
 use crate::limits::are_short;
 use crate::member::{Member, Part, find};
 use crate::names::Names;
@@ -24,8 +26,8 @@ use itpg_base::{LabelSet, MAX_LABELS, Name, TextCode};
 use serde_json::Value;
 
 // The words under a name, if as many are listed as an object may have labels.
-pub(crate) fn labels<'v>(object: Object<'v>, key: &str) -> Option<Names<'v>>
-    ensures value { option_map listed result ≡ labels_at key.now (data_of object.entry) }
+pub(crate) fn labels<'v>(object: Object<'v>, key: Key) -> Option<Names<'v>>
+    ensures value { option_map listed result ≡ labels_at (key_word key) (data_of object.entry) }
     ensures some { IfSome result (λ names. 0 < length (listed names)) }
 {
     match object {
@@ -34,13 +36,13 @@ pub(crate) fn labels<'v>(object: Object<'v>, key: &str) -> Option<Names<'v>>
     }
 }
 
-fn flat_labels<'v>(flat: &'v Flat<'v>, key: &str) -> Option<Names<'v>>
-    ensures value { option_map listed result ≡ labels_at key.now (flat_data flat.entry.now) }
+fn flat_labels<'v>(flat: &'v Flat<'v>, key: Key) -> Option<Names<'v>>
+    ensures value { option_map listed result ≡ labels_at (key_word key) (flat_data flat.entry.now) }
     ensures some { IfSome result (λ names. 0 < length (listed names)) }
 {
-    let member = find(flat.as_slice(), key.as_bytes())?;
+    let member = find(flat.as_slice(), key)?;
     match member.part {
-        Part::Names => words(&member.names),
+        Part::Names => words(&flat.names),
         _ => None,
     }
 }
@@ -69,8 +71,8 @@ fn are_all_words(words: &[&[u8]]) -> bool
     words.iter().all(|word| is_word(word))
 }
 
-fn value_labels<'v>(value: &'v Value, key: &str) -> Option<Names<'v>>
-    ensures value { option_map listed result ≡ labels_at key.now (view value.entry.now) }
+fn value_labels<'v>(value: &'v Value, key: Key) -> Option<Names<'v>>
+    ensures value { option_map listed result ≡ labels_at (key_word key) (view value.entry.now) }
     ensures some { IfSome result (λ names. 0 < length (listed names)) }
 {
     let items = few_items(value, key)?;
@@ -82,12 +84,12 @@ fn value_labels<'v>(value: &'v Value, key: &str) -> Option<Names<'v>>
 }
 
 // The items under a name, if there are as many as an object may have labels.
-fn few_items<'v>(object: &'v Value, key: &str) -> Option<&'v [Value]>
+fn few_items<'v>(object: &'v Value, key: Key) -> Option<&'v [Value]>
     ensures value { option_map (λ items. items_view items.now) result
-        ≡ option_and_then parts.some_and_few (option_and_then as_array (get key.now (view object.entry.now))) }
+        ≡ option_and_then parts.some_and_few (option_and_then as_array (get (key_word key) (view object.entry.now))) }
     ensures few { IfSome result (λ items. (0 < length items.now) × (length items.now ≤ MAX_LABELS)) }
 {
-    let items = object.get(key)?.as_array()?;
+    let items = object.get(key.word())?.as_array()?;
     if is_few(items) { Some(items) } else { None }
 }
 
@@ -156,6 +158,9 @@ pub(crate) fn label_set(names: &Names<'_>) -> Result<LabelSet, TextCode>
     let words = names.as_slice();
     if !are_short(words) {
         return Err(TextCode::Name);
+    }
+    if let [word] = words {
+        return Ok(LabelSet::one(short_name(word)));
     }
     let block = names_of(words);
     LabelSet::new(&block[..words.len()]).ok_or(TextCode::Name)

@@ -7,6 +7,7 @@
 
 mod edits;
 mod flat;
+mod key;
 mod labels;
 mod laws;
 mod lexemes;

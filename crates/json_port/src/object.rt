@@ -3,9 +3,11 @@ ghost use Rattle.std.specs.Prelude.{◌≡◌, option_map};
 ghost use Rattle.json_port.specs.Parts as parts;
 ghost use Rattle.serde_json.specs.View.{view};
 ghost use Rattle.json_port.specs.FlatObjects.{flat_data};
+ghost use Rattle.json_port.specs.Keys.{key_word};
 ghost use Rattle.json_port.specs.Forms.{data_of};
 
 use crate::flat::Flat;
+use crate::key::Key;
 use crate::member::{Part, find};
 use serde_json::Value;
 
@@ -37,38 +39,38 @@ fn members_of(value: &Value) -> usize
 }
 
 // The text under a name.
-pub(crate) fn text<'v>(object: Object<'v>, key: &str) -> Option<&'v [u8]>
-    ensures { option_map (λ s. s.now) result ≡ parts.text_at key.now (data_of object.entry) }
+pub(crate) fn text<'v>(object: Object<'v>, key: Key) -> Option<&'v [u8]>
+    ensures { option_map (λ s. s.now) result ≡ parts.text_at (key_word key) (data_of object.entry) }
 {
     match object {
         Object::Flat(flat) => flat_text(flat, key),
-        Object::Value(value) => Some(value.get(key)?.as_str()?.as_bytes()),
+        Object::Value(value) => Some(value.get(key.word())?.as_str()?.as_bytes()),
     }
 }
 
-fn flat_text<'v>(flat: &'v Flat<'v>, key: &str) -> Option<&'v [u8]>
-    ensures { option_map (λ s. s.now) result ≡ parts.text_at key.now (flat_data flat.entry.now) }
+fn flat_text<'v>(flat: &'v Flat<'v>, key: Key) -> Option<&'v [u8]>
+    ensures { option_map (λ s. s.now) result ≡ parts.text_at (key_word key) (flat_data flat.entry.now) }
 {
-    match find(flat.as_slice(), key.as_bytes())?.part {
+    match find(flat.as_slice(), key)?.part {
         Part::Text(text) => Some(text),
         _ => None,
     }
 }
 
 // The whole number under a name.
-pub(crate) fn number(object: Object<'_>, key: &str) -> Option<i64>
-    ensures { result ≡ parts.number_at key.now (data_of object.entry) }
+pub(crate) fn number(object: Object<'_>, key: Key) -> Option<i64>
+    ensures { result ≡ parts.number_at (key_word key) (data_of object.entry) }
 {
     match object {
         Object::Flat(flat) => flat_number(flat, key),
-        Object::Value(value) => value.get(key)?.as_i64(),
+        Object::Value(value) => value.get(key.word())?.as_i64(),
     }
 }
 
-fn flat_number(flat: &Flat<'_>, key: &str) -> Option<i64>
-    ensures { result ≡ parts.number_at key.now (flat_data flat.now) }
+fn flat_number(flat: &Flat<'_>, key: Key) -> Option<i64>
+    ensures { result ≡ parts.number_at (key_word key) (flat_data flat.now) }
 {
-    match find(flat.as_slice(), key.as_bytes())?.part {
+    match find(flat.as_slice(), key)?.part {
         Part::Number(number) => Some(number),
         _ => None,
     }

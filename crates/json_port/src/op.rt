@@ -1,5 +1,5 @@
 //! The kinds of objects.
-ghost use Rattle.std.specs.Prelude.{◌≡◌};
+ghost use Rattle.std.specs.Prelude.{◌≡◌, IfSome};
 ghost use Rattle.json_port.specs.Objects.{op_word, op_of, op_count};
 
 // What an object asks for, as its member `op` says it.
@@ -36,7 +36,26 @@ impl Op {
     pub(crate) fn of(word: &[u8]) -> Option<Op>
         ensures { result ≡ op_of word.now }
     {
-        OPS.iter().copied().find(|op| op.word() == word)
+        match Op::likely(word) {
+            Some(op) => Some(op),
+            None => OPS.iter().copied().find(|op| op.word() == word),
+        }
+    }
+
+    // The kind that has this word, if it is one of the frequent ones.
+    fn likely(word: &[u8]) -> Option<Op>
+        ensures { IfSome result (λ op. op_word op ≡ word.now) }
+    {
+        match word {
+            [b'l', b'i', b'v', b'e'] => Some(Op::Live),
+            [b's', b'e', b't'] => Some(Op::Set),
+            [b'n', b'o', b'd', b'e'] => Some(Op::Node),
+            [b'e', b'd', b'g', b'e'] => Some(Op::Edge),
+            [b'g', b'o', b'n', b'e'] => Some(Op::Gone),
+            [b'u', b'n', b's', b'e', b't'] => Some(Op::Unset),
+            [b'd', b'r', b'o', b'p'] => Some(Op::Drop),
+            _ => None,
+        }
     }
 
     fn word(self) -> &'static [u8]

@@ -4,22 +4,24 @@ ghost use Rattle.std.specs.Char.{is_ascii_alphabetic};
 ghost use Rattle.std.specs.List.{list_all};
 ghost use Rattle.script_lex.specs.Bytes as bytes;
 ghost use Rattle.edit_reader.specs.Names as names;
+ghost use Rattle.json_port.specs.Keys.{key_word};
 ghost use Rattle.json_port.specs.Forms.{data_of};
 ghost use Rattle.json_port.specs.Parts as parts;
 
+use crate::key::Key;
 use crate::object::{Object, text};
 
 // The word under a name.
-pub(crate) fn name<'v>(object: Object<'v>, key: &str) -> Option<&'v [u8]>
-    ensures { option_map (λ s. s.now) result ≡ parts.name_at key.now (data_of object.entry) }
+pub(crate) fn name<'v>(object: Object<'v>, key: Key) -> Option<&'v [u8]>
+    ensures { option_map (λ s. s.now) result ≡ parts.name_at (key_word key) (data_of object.entry) }
 {
     let text = text(object, key)?;
     if is_word(text) { Some(text) } else { None }
 }
 
 // The text under a name, which may stand between quotes.
-pub(crate) fn value<'v>(object: Object<'v>, key: &str) -> Option<&'v [u8]>
-    ensures { option_map (λ s. s.now) result ≡ parts.value_at key.now (data_of object.entry) }
+pub(crate) fn value<'v>(object: Object<'v>, key: Key) -> Option<&'v [u8]>
+    ensures { option_map (λ s. s.now) result ≡ parts.value_at (key_word key) (data_of object.entry) }
 {
     let text = text(object, key)?;
     if is_quotable(text) { Some(text) } else { None }

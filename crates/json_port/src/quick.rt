@@ -1,13 +1,13 @@
 //! Reading a flat object from its line.
-ghost use Rattle.std.specs.Prelude.{◌≡◌, ◌≤◌, ◌++◌, Some, is_some, IfSome, IsUtf8, length};
+ghost use Rattle.std.specs.Prelude.{◌≡◌, ◌≤◌, ◌<◌, ◌++◌, Some, IfSome, IsUtf8, length};
 ghost use Rattle.json.specs.Lex.{lex, between, token};
 ghost use Rattle.serde_json.specs.Read.{read};
-ghost use Rattle.serde_json.specs.Find.{get_member};
 ghost use Rattle.serde_json.specs.Events.{members_len};
 ghost use Rattle.json_port.specs.FlatObjects.{flat_data, flat_members};
-ghost use Rattle.json_port.specs.Flats.{members_of, listed, member_lexemes, value_lexemes, names_lexemes, object_lexemes, IsSized, AreSized};
+ghost use Rattle.json_port.specs.Flats.{members_of, listed, part_lexemes, member_lexemes, names_lexemes, object_lexemes, IsSized, AreSized, IsListedOnce, are_ascii};
 
 use crate::flat::{Flat, MAX_MEMBERS};
+use crate::key::Key;
 use crate::lexemes::{after_blanks, after_byte, number, string};
 use crate::member::{Member, Part, find};
 use crate::names::Names;
@@ -18,9 +18,6 @@ pub(crate) fn read_flat(line: &[u8]) -> Option<Flat<'_>>
     ensures utf8 { IfSome result (λ flat. IsUtf8 line.entry.now) }
     ensures value { IfSome result (λ flat. read line.entry.now ≡ Some (flat_data flat)) }
 {
-    if !line.is_ascii() {
-        return None;
-    }
     let (flat, rest) = object(line)?;
     if after_blanks(rest).is_empty() {
         Some(flat)
@@ -31,17 +28,19 @@ pub(crate) fn read_flat(line: &[u8]) -> Option<Flat<'_>>
 
 fn object(line: &[u8]) -> Option<(Flat<'_>, &[u8])>
     ensures sized { IfSome result (λ p. AreSized (flat_members p.0)) }
-    ensures lexemes { IfSome result (λ p. lex between line.entry.now ≡ object_lexemes (flat_members p.0) ++ lex between p.1.now) }
+    ensures lexemes { IfSome result (λ p. lex between line.entry.now
+        ≡ object_lexemes (listed p.0.names) (flat_members p.0) ++ lex between p.1.now) }
+    ensures ascii { IfSome result (λ p. are_ascii line.entry.now ≡ are_ascii p.1.now) }
 {
     let mut rest = after_byte(line, b'{')?;
+    let mut names = Names::none();
     let mut members = [Member {
-        key: b"",
+        key: Key::Op,
         part: Part::Number(0),
-        names: Names::none(),
     }; MAX_MEMBERS];
     for i in 0..MAX_MEMBERS {
-        let (member, behind) = member(rest)?;
-        if is_there(&members[..i], member.key) {
+        let (member, behind) = member(rest, &mut names)?;
+        if find(&members[..i], member.key).is_some() {
             return None;
         }
         members[i] = member;
@@ -50,6 +49,7 @@ fn object(line: &[u8]) -> Option<(Flat<'_>, &[u8])>
                 Flat {
                     members,
                     len: i + 1,
+                    names,
                 },
                 end,
             ));
@@ -59,49 +59,52 @@ fn object(line: &[u8]) -> Option<(Flat<'_>, &[u8])>
     None
 }
 
-fn is_there(members: &[Member<'_>], key: &[u8]) -> bool
-    ensures { result ≡ is_some (get_member key.now (members_of members.now)) }
+// A member. Texts that it lists are written into `names`, if there are none yet.
+fn member<'a>(text: &'a [u8], names: &mut Names<'a>) -> Option<(Member<'a>, &'a [u8])>
+    ensures sized { IfSome result (λ p. IsSized p.0.part) }
+    ensures lexemes { IfSome result (λ p. lex between text.entry.now ≡ member_lexemes (listed names.new) p.0 ++ lex between p.1.now) }
+    ensures ascii { IfSome result (λ p. are_ascii text.entry.now ≡ are_ascii p.1.now) }
+    ensures once { IfSome result (λ p. IsListedOnce names.old names.new p.0.part) }
 {
-    find(members, key).is_some()
+    let (word, behind) = string(text)?;
+    let key = Key::of(word)?;
+    let (part, rest) = part(after_byte(behind, b':')?, names)?;
+    Some((Member { key, part }, rest))
 }
 
-fn member(text: &[u8]) -> Option<(Member<'_>, &[u8])>
-    ensures sized { IfSome result (λ p. IsSized p.0.part) }
-    ensures lexemes { IfSome result (λ p. lex between text.entry.now ≡ member_lexemes p.0 ++ lex between p.1.now) }
-{
-    let (key, behind) = string(text)?;
-    value(key, after_byte(behind, b':')?)
-}
-
-// The member with this name, and the value that comes first.
-fn value<'a>(key: &'a [u8], text: &'a [u8]) -> Option<(Member<'a>, &'a [u8])>
-    ensures key { IfSome result (λ p. p.0.key.now ≡ key.entry.now) }
-    ensures sized { IfSome result (λ p. IsSized p.0.part) }
-    ensures lexemes { IfSome result (λ p. lex between text.entry.now ≡ value_lexemes p.0 ++ lex between p.1.now) }
+// The value that comes first.
+fn part<'a>(text: &'a [u8], names: &mut Names<'a>) -> Option<(Part<'a>, &'a [u8])>
+    ensures sized { IfSome result (λ p. IsSized p.0) }
+    ensures lexemes { IfSome result (λ p. lex between text.entry.now ≡ part_lexemes (listed names.new) p.0 ++ lex between p.1.now) }
+    ensures ascii { IfSome result (λ p. are_ascii text.entry.now ≡ are_ascii p.1.now) }
+    ensures once { IfSome result (λ p. IsListedOnce names.old names.new p.0) }
 {
     let text = after_blanks(text);
-    let mut names = Names::none();
-    let (part, rest) = match text.first()? {
+    match text.first()? {
         b'"' => {
             let (content, rest) = string(text)?;
-            (Part::Text(content), rest)
+            Some((Part::Text(content), rest))
         }
         b'[' => {
+            if names.len > 0 {
+                return None;
+            }
             let (listed, rest) = list(text)?;
-            names = listed;
-            (Part::Names, rest)
+            *names = listed;
+            Some((Part::Names, rest))
         }
         _ => {
             let (n, rest) = number(text)?;
-            (Part::Number(n), rest)
+            Some((Part::Number(n), rest))
         }
-    };
-    Some((Member { key, part, names }, rest))
+    }
 }
 
 // The texts that come first in brackets: one at least.
 fn list(text: &[u8]) -> Option<(Names<'_>, &[u8])>
-    ensures { IfSome result (λ p. lex between text.entry.now ≡ names_lexemes (listed p.0) ++ lex between p.1.now) }
+    ensures lexemes { IfSome result (λ p. lex between text.entry.now ≡ names_lexemes (listed p.0) ++ lex between p.1.now) }
+    ensures ascii { IfSome result (λ p. are_ascii text.entry.now ≡ are_ascii p.1.now) }
+    ensures some { IfSome result (λ p. 0 < p.0.len) }
 {
     let mut rest = after_byte(text, b'[')?;
     let empty: &[u8] = b"";

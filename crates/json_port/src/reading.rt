@@ -12,17 +12,16 @@ ghost use Rattle.json_port.specs.Objects as objects;
 ghost use Rattle.json_port.specs.Faults.{Tells};
 ghost use Rattle.json_port.specs.Lines.{JsonOf, IsAnswer, asked_by, value_in};
 ghost use Rattle.json_port.specs.Calls.{IsRefusal};
-ghost use Rattle.json_port.specs.Calls as calls;
 ghost use Rattle.json_port.specs.Forms.{data_of};
 
 use crate::edits::{begin, clear, edge, extend, gone, live, node, put, remove};
+use crate::key::Key;
 use crate::line::{JsonFault, JsonLine, JsonText};
 use crate::object::{Object, count, text};
 use crate::op::Op;
 use crate::quick::read_flat;
 use edit_reader::{MAX_LINE, without_end};
 use itpg_base::TextCode;
-use itpg_edit::Edit;
 use serde_json::Value;
 use std::alloc::Global;
 
@@ -75,6 +74,7 @@ fn is_blank(line: &[u8]) -> bool
 }
 
 // What a line of JSON asks for.
+#[inline(never)]
 fn read_text(alloc: Global, line: &[u8]) -> Result<JsonLine, JsonFault>
     ensures { IsAnswer (Tells (asked_by line.now)) result }
 {
@@ -99,20 +99,19 @@ fn read_value(alloc: Global, line: &[u8]) -> Result<Value, JsonFault>
 }
 
 // What an object asks for.
-#[tactic(auto, using(crate::proofs::Values::answers_edit))]
 fn read_object(alloc: Global, object: Object<'_>) -> Result<JsonLine, JsonFault>
     ensures { IsAnswer (Tells (asked (data_of object.entry))) result }
 {
     match op_in(object) {
-        Some(Op::Graph) => line_of(begin(object)),
-        Some(Op::Extend) => line_of(extend(object)),
-        Some(Op::Node) => line_of(node(object)),
-        Some(Op::Edge) => line_of(edge(object)),
-        Some(Op::Live) => line_of(live(object)),
-        Some(Op::Gone) => line_of(gone(object)),
-        Some(Op::Set) => line_of(put(object)),
-        Some(Op::Unset) => line_of(clear(object)),
-        Some(Op::Drop) => line_of(remove(object)),
+        Some(Op::Graph) => begin(object),
+        Some(Op::Extend) => extend(object),
+        Some(Op::Node) => node(object),
+        Some(Op::Edge) => edge(object),
+        Some(Op::Live) => live(object),
+        Some(Op::Gone) => gone(object),
+        Some(Op::Set) => put(object),
+        Some(Op::Unset) => clear(object),
+        Some(Op::Drop) => remove(object),
         Some(Op::Text) => read_plain(alloc, object),
         None => Err(JsonFault::Bad(TextCode::Text)),
     }
@@ -122,7 +121,7 @@ fn read_object(alloc: Global, object: Object<'_>) -> Result<JsonLine, JsonFault>
 fn op_in(object: Object<'_>) -> Option<Op>
     ensures { result ≡ objects.op_in (data_of object.entry) }
 {
-    let op = Op::of(text(object, "op")?)?;
+    let op = Op::of(text(object, Key::Op)?)?;
     if count(object) == op.count() {
         Some(op)
     } else {
@@ -130,18 +129,11 @@ fn op_in(object: Object<'_>) -> Option<Op>
     }
 }
 
-// An edit, or its fault, as what a line is.
-fn line_of(edit: Result<Edit, TextCode>) -> Result<JsonLine, JsonFault>
-    ensures { result ≡ calls.line_of edit }
-{
-    Ok(JsonLine::Edit(edit?))
-}
-
 // The plain line of a `text` object: `line`.
 fn read_plain(alloc: Global, object: Object<'_>) -> Result<JsonLine, JsonFault>
     ensures { IsAnswer (Tells (asked_as PlainOp.Text (data_of object.entry))) result }
 {
-    let Some(line) = text(object, "line") else {
+    let Some(line) = text(object, Key::Line) else {
         return Err(JsonFault::Bad(TextCode::Text));
     };
     let text = Vec::from_slice(alloc, line)?;

@@ -1,4 +1,4 @@
-use Rattle.json_port.proofs.Listings.{one_more_item, all_items}
+use Rattle.json_port.proofs.Listings.{one_more_item}
 use Rattle.json_port.proofs.labels.names_in.Goals as goal
 
 pub loop-i-preserved : goal.loop-i-preserved

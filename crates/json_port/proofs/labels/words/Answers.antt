@@ -1,4 +1,4 @@
-use Rattle.std.proofs.Common.{map, ap, is_some, sym, ◌∙◌}
+use Rattle.std.proofs.Common.{map, ap, is_some, ◌∙◌}
 use Rattle.json_port.specs.Calls.{words}
 use Rattle.json_port.specs.Flats.{listed}
 use Rattle.json_port.proofs.Listings.{words_same, words_none, words_some}

@@ -1,10 +1,7 @@
-use Rattle.std.proofs.Common.{◌≡◌, ◌+◌, ◌-◌, ◌≤◌, length, drop}
+use Rattle.std.proofs.Common.{◌≡◌, ◌+◌, drop}
 use Rattle.std.specs.List.{prefix_len}
-use Rattle.json.specs.Run.{is_plain}
+use Rattle.json_port.specs.Flats.{is_plain_ascii}
 use Rattle.json_port.proofs.lexemes.plain_len.Given as goal
 
-abbrev pub invariant-loop-i : goal.invariant-loop-i
-invariant-loop-i l = (prefix_len is_plain l.text ≡ l.i + prefix_len is_plain (drop l.i l.text)) × (l.i ≤ length l.text)
-
-abbrev pub decreases-loop-i : goal.decreases-loop-i
-decreases-loop-i l = length l.text - l.i
+abbrev pub invariant-loop-byte : goal.invariant-loop-byte
+invariant-loop-byte l = (prefix_len is_plain_ascii l.text ≡ l.byte-index + prefix_len is_plain_ascii (drop l.byte-index l.text)) × (l.len ≡ l.byte-index)
