@@ -1,0 +1,5 @@
+mod RelaxedLemmas
+mod LimitLemmas
+mod LimitLaw
+mod RowLemmas
+mod NewTable

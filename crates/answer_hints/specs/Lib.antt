@@ -1,0 +1,5 @@
+pub mod Relaxed
+pub mod Examples
+pub mod RuledOut
+pub mod Limits
+pub mod Texts
