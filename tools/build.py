@@ -1,7 +1,8 @@
 #!/usr/bin/env python3
-"""Builds the program, which proves every crate below it, and shows on standard error how far it is.
+"""Builds a program, which proves every crate below it, and shows on standard error how far it is.
 
-On a terminal one line rewrites itself; elsewhere each crate has a line. What was proved before an interrupt is kept.
+The program is the one that its only word names, as `itpg_explain`, and else `itpg`. On a terminal one line rewrites itself;
+elsewhere each crate has a line. What was proved before an interrupt is kept.
 """
 import os
 import pathlib
@@ -11,12 +12,14 @@ import sys
 import time
 
 TOP = pathlib.Path(__file__).resolve().parent.parent
-CRATE = TOP / "crates" / "itpg"
+PROGRAM = sys.argv[1] if len(sys.argv) > 1 else "itpg"
+NAME = PROGRAM.replace("_", "-")
+CRATE = TOP / "crates" / PROGRAM
 LOG = CRATE / "out" / "build.log"
 BEGUN = re.compile(rb"^rt: chose --jobs \d+ for (\w+)", re.M)
 # Before a crate has ended here: its seconds pass this much faster than the clock, since two processes share them.
 FIRST_PACE = 1.5
-UNPROVED = "for an answer within two minutes, unproved: ITPG_UNPROVED=1 ./itpg < SCRIPT"
+UNPROVED = f"for an answer within two minutes, unproved: ITPG_UNPROVED=1 ./{NAME} < SCRIPT"
 
 
 def libraries():
@@ -35,7 +38,7 @@ def libraries():
         if name not in found:
             found.append(name)
 
-    add("itpg")
+    add(PROGRAM)
     return found
 
 
@@ -76,12 +79,12 @@ class Progress:
         whole = self.sum_of(self.seconds)
         pace, done = self.pace(), self.sum_of(self.done)
         if self.current is None:
-            return f"itpg: reading the sources; then some {minutes((whole - done) / pace)} of proofs"
+            return f"{NAME}: reading the sources; then some {minutes((whole - done) / pace)} of proofs"
         part = min((time.monotonic() - self.since) * pace, 0.95 * self.seconds[self.current])
         left = (whole - done - part) / pace
         number = len(self.done) + 1
         share = int(100 * (done + part) / whole)
-        return f"itpg: proving {self.current}, crate {number} of {len(self.seconds)}; {share}% done, about {minutes(left)} left"
+        return f"{NAME}: proving {self.current}, crate {number} of {len(self.seconds)}; {share}% done, about {minutes(left)} left"
 
 
 def minutes(seconds):
@@ -112,8 +115,8 @@ def show(progress, build):
 def main():
     LOG.parent.mkdir(exist_ok=True)
     names = libraries()
-    print(f"itpg: building the program, which proves its {len(names)} crates; the log is {os.path.relpath(LOG)}", file=sys.stderr)
-    print(f"itpg: {UNPROVED}", file=sys.stderr, flush=True)
+    print(f"{NAME}: building the program, which proves its {len(names)} crates; the log is {os.path.relpath(LOG)}", file=sys.stderr)
+    print(f"{NAME}: {UNPROVED}", file=sys.stderr, flush=True)
     progress, start = Progress(seconds_of(names)), time.monotonic()
     if not sys.stderr.isatty():
         print(progress.line(), file=sys.stderr, flush=True)
@@ -122,17 +125,17 @@ def main():
             build = subprocess.Popen(["rt", "run"], cwd=CRATE, stdin=subprocess.DEVNULL, stdout=log, stderr=log)
             status = show(progress, build)
     except FileNotFoundError:
-        print("itpg: the command rt isn't there; README says where it comes from", file=sys.stderr)
+        print(f"{NAME}: the command rt isn't there; README says where it comes from", file=sys.stderr)
         return 70
     except KeyboardInterrupt:
-        print("\nitpg: stopped; the next call goes on from here", file=sys.stderr)
+        print(f"\n{NAME}: stopped; the next call goes on from here", file=sys.stderr)
         return 70
     if status:
         print(LOG.read_text(errors="replace")[-2000:], file=sys.stderr)
-        print("itpg: the build failed", file=sys.stderr)
+        print(f"{NAME}: the build failed", file=sys.stderr)
         return 70
-    os.utime(CRATE / "out" / "itpg")
-    print(f"itpg: built in {minutes(time.monotonic() - start)}", file=sys.stderr)
+    os.utime(CRATE / "out" / PROGRAM)
+    print(f"{NAME}: built in {minutes(time.monotonic() - start)}", file=sys.stderr)
     return 0
 
 

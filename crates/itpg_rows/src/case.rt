@@ -83,7 +83,7 @@ impl Case {
         match &self.way {
             Way::Served(plain) => {
                 for word in plain {
-                    if word.as_str().starts_with("--trial") || word.as_str().starts_with("--json") {
+                    if !is_plain(word.as_str()) {
                         return Ok(None);
                     }
                     words.push(word.clone()?)?;
@@ -96,6 +96,14 @@ impl Case {
         }
         words.push(String::from_str(alloc, "--json")?)?;
         Ok(Some(words))
+    }
+
+    /// The words, where they ask for plain lines; `None` for a trial, for lines of JSON, and where there is a limit of its own.
+    pub fn plain_words(&self) -> Option<&[String]> {
+        match &self.way {
+            Way::Served(words) if words.iter().all(|word| is_plain(word.as_str())) => Some(words),
+            Way::Served(_) | Way::Stepped(_) => None,
+        }
     }
 
     /// Runs the script, and says how the run differed from what it must be, if it did.
@@ -136,6 +144,11 @@ fn differing_line(xs: &[u8], ys: &[u8]) -> usize {
         }
     }
     line
+}
+
+// Whether a word asks neither for a trial nor for lines of JSON.
+fn is_plain(word: &str) -> bool {
+    !word.starts_with("--trial") && !word.starts_with("--json")
 }
 
 fn way_of(words: Vec<String>, limits: Option<Limits>) -> Way {

@@ -1,0 +1,5 @@
+pub mod Words
+pub mod Texts
+pub mod Ends
+pub mod Stops
+pub mod Pumping
