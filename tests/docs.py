@@ -1,7 +1,7 @@
 #!/usr/bin/env python3
 """Runs what the pages show and compares it, line by line, with what the built program writes.
 
-    tests/docs.py [PROGRAM]     PROGRAM is crates/itpg/out/itpg unless it is given
+    tests/docs.py [PROGRAM [EXPLAIN]]     they are crates/itpg/out/itpg and crates/itpg_explain/out/itpg_explain unless they are given
 
 It proves nothing and builds nothing. It prints what differs and `N shown, M differ`, and its exit status is 1 if M is above 0.
 
@@ -23,6 +23,9 @@ Compared are each `examples/NAME.itpg` and `NAME.jsonl` with its `NAME.out`, and
   the page's script is that line, and its reply is that code. If words follow the code, the line begins with it. A cell that ends in
   a file .itpg beside that script says that some reply of that file is the code.
 
+- A block whose first line is one of itpg-explain's (`hint ..`, `member 2 ..`) has lines, one after another, of what it writes of some
+  script of the page, without blanks at their heads and with `M ms` for milliseconds.
+
 Anything else, such as `line N wide` with N for a number, is not compared.
 """
 import difflib
@@ -40,6 +43,7 @@ COMMANDS = {*EDITS, *ASKS, "watch", "show", "unwatch", "tick", "open", "close", 
 REPLY = re.compile(r"(line \d+ (rows \d+|counts \d+|wide|bad \w+|refused \w+)|tick (?!NAME\b)\w+ (gained \d+ lost \d+|wide)|ask \d (rows|wide)\b.*"
                    r'|\{"(line":\d|tick":"(?!NAME")).*)$')
 OBJECT = '{"op":'  # how a line of JSON begins
+EXPLAINED = re.compile(r"(explain \d+|path|member \d+|wide member \d+|means|hint) \S")
 CODE = re.compile(r"(bad|refused) [a-z]+$")
 CODES_IN_A_ROW = re.compile(r"`[^`]+`(?:, `[^`]+`)*")
 SPAN = re.compile(r"`([^`]+)`")
@@ -60,6 +64,10 @@ class Program:
             ran = subprocess.run([self.path, *words], input=script, stdout=subprocess.PIPE, stderr=subprocess.PIPE, timeout=SECONDS)
             self.known[key] = ran.stdout.decode("ascii", "replace").splitlines()
         return self.known[key]
+
+    def explained(self, words, script):
+        """What itpg-explain writes, without blanks at the heads of lines and with `M ms` for milliseconds."""
+        return [re.sub(r"\d+\.\d{3} ms", "M ms", line.lstrip()) for line in self.output(words, script)]
 
 
 class Report:
@@ -171,8 +179,10 @@ def pieces_of(text):
 
 
 class Page:
-    def __init__(self, path, program, report):
-        self.path, self.program, self.report = path, program, report
+    def __init__(self, path, program, explain, report):
+        self.path, self.program, self.explain, self.report = path, program, explain, report
+        self.explained = []     # blocks of what itpg-explain writes
+        self.run = []           # the scripts that were run, each with its words
         self.script = None      # the path of the page's script
         self.words = []         # the words that it is run with
         self.asked = None       # the question directly above
@@ -200,9 +210,12 @@ class Page:
                 self.read_commands(where, lines)
             elif replies:
                 self.read_replies(where, lines)
+            elif kind == "block" and EXPLAINED.match(lines[0]):
+                self.explained.append((where, lines))
             else:
                 self.read_block(where, lines)
         self.end_own()
+        self.compare_explained()
 
     # What the page's script is
 
@@ -216,7 +229,18 @@ class Page:
         return [line.rstrip("\r") for line in self.script.read_bytes().decode("ascii", "replace").split("\n")]
 
     def output(self):
-        return self.program.output(self.words, self.script.read_bytes())
+        return self.output_of(self.words, self.script.read_bytes())
+
+    def output_of(self, words, script):
+        if (words, script) not in self.run:
+            self.run.append((words, script))
+        return self.program.output(words, script)
+
+    def compare_explained(self):
+        """Compares each block of explained lines with what is written of the script of which it has most lines."""
+        for where, shown in self.explained:
+            written = [self.explain.explained(words, script) for words, script in self.run]
+            self.report.compare(where, shown, max(written, key=lambda lines: len({*lines} & {*shown}), default=[]), part=True)
 
     # The pieces of a page
 
@@ -274,7 +298,7 @@ class Page:
         if self.own:
             _, words, script = self.own
             self.own = None
-            self.report.compare(where, lines, self.program.output(words, "".join(f"{line}\n" for line in script).encode()))
+            self.report.compare(where, lines, self.output_of(words, "".join(f"{line}\n" for line in script).encode()))
         elif not self.script:
             self.report.fail(where, "shows replies, and names no script above them")
         else:
@@ -339,14 +363,17 @@ def examples(program, report):
 
 
 def main():
-    path = pathlib.Path(sys.argv[1] if len(sys.argv) > 1 else TOP / "crates/itpg/out/itpg").resolve()
-    if len(sys.argv) > 2 or not path.is_file():
-        print(f"{path} is no file: build it first with ./itpg, or name the program" if len(sys.argv) <= 2 else __doc__, file=sys.stderr)
+    built = [TOP / "crates/itpg/out/itpg", TOP / "crates/itpg_explain/out/itpg_explain"]
+    paths = [pathlib.Path(path).resolve() for path in [*sys.argv[1:], *built[len(sys.argv) - 1:]]]
+    missing = [path for path in paths if not path.is_file()]
+    if len(paths) > 2 or missing:
+        print(f"{missing[0]} is no file: build it first, or name the program" if len(paths) == 2 else __doc__, file=sys.stderr)
         return 2
-    program, report = Program(path), Report()
+    program, explain = map(Program, paths)
+    report = Report()
     examples(program, report)
     for page in [TOP / "README.md", *sorted((TOP / "examples").glob("*.md")), *sorted((TOP / "docs").glob("*.md"))]:
-        Page(page, program, report).read()
+        Page(page, program, explain, report).read()
     print(f"{report.shown} shown, {report.differ} differ")
     return 1 if report.differ else 0
 
