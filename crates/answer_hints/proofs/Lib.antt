@@ -1,5 +1,3 @@
 mod RelaxedLemmas
-mod LimitLemmas
-mod LimitLaw
 mod RowLemmas
 mod NewTable

@@ -1,7 +1,7 @@
 //! Hints on a question that need answers.
 //!
-//! Stands on `path_eval`, by which questions are worked out, and on `member_counts`, whose counts say how many rows one needs. It
-//! promises that a hint that is given is certain from the graph, and that it is given whenever what it needs fits the limit.
+//! Stands on `path_eval`, by which questions are worked out. It promises that a hint that is given is certain from the graph, and that it
+//! is given whenever what it needs fits the limit.
 #![tactic(auto)]
 
 mod hint;
@@ -12,8 +12,8 @@ mod rows;
 mod ruled_out;
 
 pub use hint::AnswerHint;
-pub use laws::{law_of_needed_rows, relaxed_short_paths};
-pub use limit::{limit_that_does, rows_needed};
+pub use laws::relaxed_short_paths;
+pub use limit::limit_that_does;
 pub use relaxed::without_existence;
 pub use rows::fits_within;
 pub use ruled_out::existence_rules_out;

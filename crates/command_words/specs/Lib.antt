@@ -1,3 +1,4 @@
 pub mod Sentence
 pub mod Numbers
 pub mod OptionsOf
+pub mod Codes

@@ -2,8 +2,8 @@
 use Rattle.std.specs.Prelude.{ℕ, List, length, Some, ◌≡◌, ◌<◌}
 use Rattle.std.specs.declared.option.Option.{Option}
 use Rattle.itpg_run.specs.Served.{longest}
-use Rattle.itpg_run.specs.declared.Status.{Status}
-use Rattle.itpg_run.specs.declared.Status.TheVariants.{Done, DoneRefused, Usage, ReadFault, WriteFault, Memory, TooLong}
+use Rattle.command_words.specs.declared.status.Status.{Status}
+use Rattle.command_words.specs.declared.status.Status.TheVariants.{Done, DoneRefused, Usage, ReadFault, WriteFault, Memory, TooLong}
 
 -- a run that read its source to the end ends so
 abbrev pub EndsLines : Status → Type 0

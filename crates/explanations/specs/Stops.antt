@@ -1,6 +1,6 @@
 -- Why a chunk wasn't taken whole, as a status.
-use Rattle.itpg_run.specs.declared.Status.{Status}
-use Rattle.itpg_run.specs.declared.Status.TheVariants as status
+use Rattle.command_words.specs.declared.status.Status.{Status}
+use Rattle.command_words.specs.declared.status.Status.TheVariants as status
 use Rattle.explanations.specs.declared.run.Stop.{Stop}
 use Rattle.explanations.specs.declared.run.Stop.TheVariants as stop
 

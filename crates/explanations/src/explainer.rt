@@ -5,10 +5,10 @@ ghost use Rattle.itpg_base.specs.Sinks.{HasFailed};
 use crate::advice::meaning;
 use crate::head::Head;
 use crate::said::said;
+use command_words::Status;
 use itpg_base::{Failed, Limits, Sink};
-use itpg_run::Status;
 use itpg_session::{Seen, Session, StepFault};
-use member_counts::Clock;
+use question_costs::Clock;
 use question_costs::Explained;
 use std::alloc::{AllocError, Global};
 

@@ -4,10 +4,10 @@ ghost use Rattle.itpg_base.specs.Sinks.{HasFailed};
 ghost use Rattle.explanations.specs.Ends.{EndsLines};
 
 use crate::explainer::Explainer;
+use command_words::Status;
 use itpg_base::{Limits, Sink};
-use itpg_run::Status;
 use itpg_session::StepFault;
-use member_counts::Clock;
+use question_costs::Clock;
 use memchr::memchr;
 use std::alloc::{AllocError, Global};
 

@@ -10,7 +10,7 @@ use edit_reader::{Line, read_line, room};
 use itpg_base::{Name, ObjNo};
 use itpg_graph::{Graph, Part};
 use match_parser::{QueryFault, law_of_read_queries, read_query};
-use member_counts::Clock;
+use question_costs::Clock;
 use path_ast::Query;
 use question_costs::{Explained, Site};
 use source_rows::{near_objects, steps};

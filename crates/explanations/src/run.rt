@@ -8,10 +8,10 @@ ghost use Rattle.explanations.specs.Ends.{EndsLines, EndsRun, StopsLines, IsTooL
 
 use crate::lines::Lines;
 use crate::words::{HELP_TEXT, asks_for_help, limits_of};
+use command_words::Status;
 use itpg_base::{Failed, Limits, Sink, Source};
-use itpg_run::Status;
 use itpg_session::StepFault;
-use member_counts::Clock;
+use question_costs::Clock;
 use std::alloc::Global;
 
 // How many bytes a script may have.

@@ -3,9 +3,8 @@ ghost use Rattle.std.specs.Prelude.{◌≡◌, ◌⊎◌, ℕ, map, string_bytes
 ghost use Rattle.std.specs.List.{list_any};
 ghost use Rattle.explanations.specs.Words.{AskForLimit, is_help as is_help_word};
 
-use command_words::{WordsFault, law_of_one_reading, read_words};
+use command_words::{Status, WordsFault, law_of_one_reading, read_words};
 use itpg_base::Limits;
-use itpg_run::Status;
 use std::alloc::Global;
 
 const HELP: &str = "--help";

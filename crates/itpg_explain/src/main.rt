@@ -1,10 +1,10 @@
 //! Reads a script on standard input, and writes on standard output what its questions cost.
 #![tactic(auto)]
 
+use command_words::Status;
 use explanations::explain;
 use itpg_base::{StdSink, StdSource};
-use itpg_run::Status;
-use member_counts::Clock;
+use question_costs::Clock;
 use std::process::ExitCode;
 use std::time::Instant;
 use std::{env, io};

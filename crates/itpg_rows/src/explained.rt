@@ -12,7 +12,7 @@ use edit_reader::{Line, read_line, room};
 use explanations::explain;
 use itpg_base::{Failed, MemSource, Sink};
 use match_parser::read_query;
-use member_counts::Clock;
+use question_costs::Clock;
 use std::alloc::{AllocError, Global};
 
 // How many bytes a source gives at a call.

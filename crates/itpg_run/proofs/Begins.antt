@@ -12,8 +12,8 @@ use Rattle.itpg_run.specs.Served.{is_json, longest, Served, WritesAs, WritesWith
 use Rattle.itpg_run.specs.Tried.{Tried}
 use Rattle.trial_script.specs.Script.{script}
 use Rattle.itpg_run.specs.Summary.{Tells, nothing}
-use Rattle.itpg_run.specs.declared.Status.{Status}
-use Rattle.itpg_run.specs.declared.Status.TheVariants.{Done, DoneRefused, Usage, ReadFault, WriteFault, Memory, TooLong}
+use Rattle.command_words.specs.declared.status.Status.{Status}
+use Rattle.command_words.specs.declared.status.Status.TheVariants.{Done, DoneRefused, Usage, ReadFault, WriteFault, Memory, TooLong}
 use Rattle.itpg_run.proofs.MachineLaws.{Laws}
 use Rattle.itpg_run.proofs.Running.{runs-part, one_run}
 use Rattle.itpg_run.proofs.Output.{lines_front}

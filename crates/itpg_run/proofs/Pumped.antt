@@ -13,8 +13,8 @@ use Rattle.itpg_run.specs.Pumped.{Pumped, Pumping, status_of}
 use Rattle.itpg_run.specs.declared.reader.Reader.{Reader}
 use Rattle.itpg_run.specs.declared.reader.Stop.{Stop}
 use Rattle.itpg_run.specs.declared.reader.Stop.TheVariants as stop
-use Rattle.itpg_run.specs.declared.Status.{Status}
-use Rattle.itpg_run.specs.declared.Status.TheVariants.{Done, DoneRefused, Usage, ReadFault, WriteFault, Memory, TooLong}
+use Rattle.command_words.specs.declared.status.Status.{Status}
+use Rattle.command_words.specs.declared.status.Status.TheVariants.{Done, DoneRefused, Usage, ReadFault, WriteFault, Memory, TooLong}
 use Rattle.itpg_run.proofs.Kept.{take_past, take_nothing}
 use Rattle.itpg_run.proofs.Fed.{fed_out_whole}
 

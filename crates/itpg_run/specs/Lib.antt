@@ -12,7 +12,6 @@ pub mod Pumped
 pub mod OutputLaws
 pub mod Still
 pub mod StillLaws
-pub mod Codes
 pub mod ScriptEdits
 pub mod ScriptQueries
 pub mod ScriptGraph

@@ -10,8 +10,8 @@ use Rattle.itpg_run.specs.Fed.{Fed}
 use Rattle.itpg_run.specs.declared.reader.Reader.{Reader}
 use Rattle.itpg_run.specs.declared.reader.Stop.{Stop}
 use Rattle.itpg_run.specs.declared.reader.Stop.TheVariants as stop
-use Rattle.itpg_run.specs.declared.Status.{Status}
-use Rattle.itpg_run.specs.declared.Status.TheVariants as status
+use Rattle.command_words.specs.declared.status.Status.{Status}
+use Rattle.command_words.specs.declared.status.Status.TheVariants as status
 
 -- the input was read to its end
 pub record Pumped (mode : Mode) (before left start now : Option (List ℕ)) (r : Reader) : Type 0 where

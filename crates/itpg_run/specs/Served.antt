@@ -11,8 +11,8 @@ use Rattle.row_printer.specs.declared.form.Form.{Form}
 use Rattle.itpg_session.specs.Machine.{opening}
 use Rattle.itpg_run.specs.Lines.{lines, whole}
 use Rattle.itpg_run.specs.Out.{Mode, Output, Runs, IsOut}
-use Rattle.itpg_run.specs.declared.Status.{Status}
-use Rattle.itpg_run.specs.declared.Status.TheVariants.{Done, DoneRefused, Usage, ReadFault, WriteFault, Memory, TooLong}
+use Rattle.command_words.specs.declared.status.Status.{Status}
+use Rattle.command_words.specs.declared.status.Status.TheVariants.{Done, DoneRefused, Usage, ReadFault, WriteFault, Memory, TooLong}
 
 -- how many bytes a script may have
 abbrev pub longest : ℕ

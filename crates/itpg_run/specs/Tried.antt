@@ -5,8 +5,8 @@ use Rattle.std.specs.Io.KnownBytes.{Consumes}
 use Rattle.itpg_base.specs.declared.outside.Source.{Ghosts as SourceGhosts}
 use Rattle.itpg_base.specs.declared.outside.Sink.{Ghosts as SinkGhosts}
 use Rattle.itpg_run.specs.Summary.{TellsAll, TellsWhole, TellsSome}
-use Rattle.itpg_run.specs.declared.Status.{Status}
-use Rattle.itpg_run.specs.declared.Status.TheVariants.{Done, DoneRefused, Usage, ReadFault, WriteFault, Memory, TooLong}
+use Rattle.command_words.specs.declared.status.Status.{Status}
+use Rattle.command_words.specs.declared.status.Status.TheVariants.{Done, DoneRefused, Usage, ReadFault, WriteFault, Memory, TooLong}
 
 -- what was written of the summary at this status
 abbrev pub WritesSummary : Status → ℕ → ℕ → Option (List ℕ) → Option (List ℕ) → Type 0

@@ -1,8 +1,7 @@
 //! Lines out of bytes.
 //!
 //! A `Reader` has the session, the form of its lines, the front of the line that is being read, its number, and whether a reply failed
-//! so far. It takes
-//! bytes as they come, has the session answer each line at its end, and touches no source.
+//! so far. It takes bytes as they come, has the session answer each line at its end, and touches no source.
 ghost use Rattle.std.specs.Prelude.{◌≡◌, ◌+◌, ◌-◌, ◌^◌, ◌≤◌, ◌<◌, [], ◌∷◌, ◌++◌, ◌||◌};
 ghost use Rattle.std.specs.Prelude.{take, length, false, true, IfOk, OnOk, OnErr, IfErr, IsErrOf, ℕ, List};
 ghost use Rattle.std.specs.declared.option.Option.{Option};
@@ -52,7 +51,8 @@ impl Reader {
 }
 
 impl Reader {
-    ghost use Rattle.itpg_run.specs.Fed.{AnswersLineTo, AnswersWithinTo, EndsLineTo, EndsLastTo, EndsWithinTo, Feeds, FeedsTo, FinishesTo, StepsTo, StepsWithinTo, StopsTo, StopsWholeTo, StopsWithinTo};
+    ghost use Rattle.itpg_run.specs.Fed.{AnswersLineTo, AnswersWithinTo, EndsLineTo, EndsLastTo, EndsWithinTo, Feeds, FeedsTo, FinishesTo};
+    ghost use Rattle.itpg_run.specs.Fed.{StepsTo, StepsWithinTo, StopsTo, StopsWholeTo, StopsWithinTo};
     ghost use Rattle.itpg_run.specs.Split.{NoEnd};
 
     // Has the session take what is kept of the line.

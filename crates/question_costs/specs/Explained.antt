@@ -6,8 +6,8 @@ use Rattle.path_ast.specs.Terms.{PathTerm}
 use Rattle.label_scope.specs.declared.scope.Scope.TheVariants.{All}
 use Rattle.path_text.specs.Texts.{text_of}
 use Rattle.plan_cache.specs.Nodes.{IsNodeOf, narrowed_member}
-use Rattle.member_counts.specs.declared.count.Count.TheVariants.{Over}
-use Rattle.member_counts.specs.Counts.{AreTold, HaveChildren, counts_of}
+use Rattle.question_costs.specs.declared.count.Count.TheVariants.{Over}
+use Rattle.question_costs.specs.Counts.{AreTold, HaveChildren, counts_of}
 use Rattle.question_hints.specs.declared.hint.Hint.{Hint}
 use Rattle.question_hints.specs.Whole.{AreHints}
 use Rattle.question_costs.specs.Texts.{line_text, wide_text, hints_text}

@@ -1,3 +1,5 @@
+pub mod Counts
+pub mod Needed
 pub mod Texts
 pub mod Trees
 pub mod Explained

@@ -5,8 +5,8 @@ use Rattle.path_ast.specs.Terms.{PathTerm}
 use Rattle.label_scope.specs.declared.scope.Scope.{Scope}
 use Rattle.path_text.specs.Texts.{text_of}
 use Rattle.path_text.specs.ScopeTexts.{text_of_scope}
-use Rattle.member_counts.specs.declared.count.Count.{Count}
-use Rattle.member_counts.specs.declared.count.Count.TheVariants.{Rows, Over, Unknown}
+use Rattle.question_costs.specs.declared.count.Count.{Count}
+use Rattle.question_costs.specs.declared.count.Count.TheVariants.{Rows, Over, Unknown}
 use Rattle.question_hints.specs.declared.hint.Hint.{Hint}
 use Rattle.question_hints.specs.Texts.{text_of_hint}
 

@@ -3,7 +3,7 @@ use Rattle.std.specs.Prelude.{ℕ, ◌+◌, ◌*◌, Bool, false, List, [], ◌+
 use Rattle.path_ast.specs.Terms.{PathTerm, OfTest, Forward, Backward, Next, Previous, Sequence, Choice, Repetition, TestTerm, IsNode, IsEdge, HasLabel, HasValue, IsBelow, DoesExist, Condition, Conjunction, Disjunction, Negation}
 use Rattle.plan_cache.specs.Nodes.{PlanNode}
 use Rattle.plan_cache.specs.Refilled.{numbers_of}
-use Rattle.member_counts.specs.declared.count.MemberCount.{MemberCount}
+use Rattle.question_costs.specs.declared.count.MemberCount.{MemberCount}
 use Rattle.question_costs.specs.declared.tree.Tree.{Tree}
 use Rattle.question_costs.specs.Texts.{Told, told_text}
 

@@ -10,7 +10,7 @@ use crate::kept::are_kept;
 use crate::text::add_line;
 use crate::tree::{Tree, add_wide};
 use itpg_graph::{Graph, Part};
-use member_counts::{Clock, Counted, count_members};
+use question_costs::{Clock, Counted, count_members};
 use path_ast::Query;
 use path_text::path_text;
 use plan_cache::Plans;

@@ -7,7 +7,7 @@ ghost use Rattle.question_costs.specs.Texts.{cost_text, count_text, scopes_text,
 
 use crate::text::{add, add_millis, add_named, add_number};
 use label_scope::Scope;
-use member_counts::Count;
+use question_costs::Count;
 use path_ast::Path;
 use path_text::{path_text, scope_text};
 use std::alloc::{AllocError, Global};

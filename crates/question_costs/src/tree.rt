@@ -8,7 +8,7 @@ ghost use Rattle.question_costs.specs.Trees.{shown_of, tree_text, parts_text, co
 
 use crate::text::{add, add_indent, add_named};
 use crate::told::Told;
-use member_counts::Counted;
+use question_costs::Counted;
 use path_ast::{Path, Test};
 use plan_cache::PlanNo;
 use std::alloc::{AllocError, Global};

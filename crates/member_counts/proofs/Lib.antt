@@ -1,4 +1,0 @@
-mod Telling
-mod Widest
-mod Appended
-mod Firsts

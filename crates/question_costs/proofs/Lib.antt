@@ -1,0 +1,6 @@
+mod Telling
+mod Widest
+mod Appended
+mod Firsts
+mod NeededLemmas
+mod NeededLaw
