@@ -28,9 +28,9 @@ before q place = record { endless = place.endless; existing = begins_existing q 
 abbrev pub within : Option ℕ → Place → Place
 within m place = record { endless = place.endless || is_none m; existing = false }
 
--- the place of the path of a condition
-abbrev pub in_condition : Bool → Place
-in_condition endless = record { endless = endless; existing = false }
+-- the place of a whole path, or of that of a condition: nothing follows
+abbrev pub unfollowed : Bool → Place
+unfollowed endless = record { endless = endless; existing = false }
 
 -- the path at this place, or a test, has an N or P somewhere that stands within a repetition without an upper end and isn't
 -- followed by the test {EXISTS}
@@ -52,14 +52,14 @@ abbrev mutual
   test_passes (HasValue prop value) endless = false
   test_passes (IsBelow k) endless = false
   test_passes DoesExist endless = false
-  test_passes (Condition p) endless = path_passes p (in_condition endless)
+  test_passes (Condition p) endless = path_passes p (unfollowed endless)
   test_passes (Conjunction c d) endless = test_passes c endless || test_passes d endless
   test_passes (Disjunction c d) endless = test_passes c endless || test_passes d endless
   test_passes (Negation c) endless = test_passes c endless
 
 -- the path can go through moments at which nothing exists, with no bound on how many
 abbrev pub passes_freely : PathTerm → Bool
-passes_freely p = path_passes p (in_condition false)
+passes_freely p = path_passes p (unfollowed false)
 
 -- of the moments that are so, these are the first and the last
 pub record AreFirstAndLast (P : ℤ → Type 0) (lives : Lives) : Type 0 where
@@ -73,7 +73,7 @@ abbrev pub AreLivesOf : (ℤ → Type 0) → Option Lives → Type 0
 AreLivesOf P None = (t : ℤ) → ¬ P t
 AreLivesOf P (Some lives) = AreFirstAndLast P lives
 
--- where the moments are so by one or the other
+-- the first and the last of the moments that are so by one or the other
 abbrev pub joined_lives : Option Lives → Option Lives → Option Lives
 joined_lives None b = b
 joined_lives (Some a) None = Some a

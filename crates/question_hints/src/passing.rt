@@ -1,7 +1,7 @@
 //! Whether a path passes time freely, by its form.
 ghost use Rattle.std.specs.Prelude.{◌≡◌};
 ghost use Rattle.path_ast.specs.Terms.{path_term, test_term, OfTest};
-ghost use Rattle.question_hints.specs.Horizons.{begins_existing, before, within, in_condition, path_passes, test_passes, passes_freely};
+ghost use Rattle.question_hints.specs.Horizons.{begins_existing, before, within, unfollowed, path_passes, test_passes, passes_freely};
 
 use path_ast::{Leaf, Path, Test};
 
@@ -19,7 +19,7 @@ pub(crate) struct Place {
 pub(crate) fn is_free(path: &Path) -> bool
     ensures { result ≡ passes_freely (path_term path.now) }
 {
-    passes(path, condition_place(false))
+    passes(path, place_unfollowed(false))
 }
 
 #[cycle(passing)]
@@ -42,7 +42,7 @@ fn passes_in_test(test: &Test, endless: bool) -> bool
 {
     match test {
         Test::Leaf(_) => false,
-        Test::Cond(path) => passes(path, condition_place(endless)),
+        Test::Cond(path) => passes(path, place_unfollowed(endless)),
         Test::And(a, b) | Test::Or(a, b) => {
             passes_in_test(a, endless) || passes_in_test(b, endless)
         }
@@ -68,8 +68,8 @@ fn place_within(most: Option<u64>, place: Place) -> Place
     }
 }
 
-fn condition_place(endless: bool) -> Place
-    ensures { result ≡ in_condition endless }
+fn place_unfollowed(endless: bool) -> Place
+    ensures { result ≡ unfollowed endless }
 {
     Place {
         endless,
