@@ -1,4 +1,5 @@
 pub mod Lists
 pub mod Kept
 pub mod KindLemmas
+pub mod LivesLemmas
 pub mod Whole

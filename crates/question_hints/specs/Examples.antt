@@ -1,8 +1,9 @@
 -- Paths with the hints that they can give, written out by hand: each rule has one.
-use Rattle.std.specs.Prelude.{◌≡◌, ℕ, List, [], ◌∷◌, Some, None, codes}
-use Rattle.path_ast.specs.Terms.{PathTerm, OfTest, Forward, Backward, Previous, Sequence, Choice, Repetition, TestTerm, IsNode, IsEdge, HasLabel, HasValue, DoesExist, Condition, Conjunction, Disjunction, Negation}
+use Rattle.std.specs.Prelude.{◌≡◌, ℕ, true, false, List, [], ◌∷◌, Some, None, codes}
+use Rattle.path_ast.specs.Terms.{PathTerm, OfTest, Forward, Backward, Next, Previous, Sequence, Choice, Repetition, TestTerm, IsNode, IsEdge, HasLabel, HasValue, DoesExist, Condition, Conjunction, Disjunction, Negation}
 use Rattle.question_hints.specs.declared.hint.Hint.TheVariants.{NoLabel, NoProperty, NoValue, EdgeInRound, EndsOnEdge, SelectiveEndLast}
 use Rattle.question_hints.specs.Forms.{possible_hints}
+use Rattle.question_hints.specs.Horizons.{passes_freely}
 
 -- a node that exists, and one with a label
 abbrev pub a_node : TestTerm
@@ -49,3 +50,36 @@ pub record ArePossible : Type 0 where
   pub kind : possible_hints of_no_kind ≡ EndsOnEdge ∷ []
   pub twice : possible_hints twice_asked ≡ NoLabel (codes "a") ∷ []
   pub either : possible_hints on_either_way ≡ NoLabel (codes "b") ∷ []
+
+-- the path to where the object exists, as `NEXT` is that of `N`
+abbrev pub existing : PathTerm → PathTerm
+existing p = Sequence p (OfTest DoesExist)
+
+-- `p[0,_]`, which is also written `p*`
+abbrev pub endless : PathTerm → PathTerm
+endless p = Repetition p 0 None
+
+-- some paths pass time freely, and others don't
+pub record ArePassing : Type 0 where
+  -- `N*`, `P[3,_]`
+  pub next : passes_freely (endless Next) ≡ true
+  pub previous : passes_freely (Repetition Previous 3 None) ≡ true
+  -- `NEXT*`, `(F/N/{EXISTS})*`, `((N + P)/{EXISTS}/F)*`
+  pub stepping : passes_freely (endless (existing Next)) ≡ false
+  pub behind : passes_freely (endless (existing (Sequence Forward Next))) ≡ false
+  pub either : passes_freely (endless (Sequence (existing (Choice Next Previous)) Forward)) ≡ false
+  -- `(F/N)[0,_]`, `(N/F/{EXISTS})*`, `(N/{NODE})*`, `N*/{EXISTS}`
+  pub body : passes_freely (endless (Sequence Forward Next)) ≡ true
+  pub first : passes_freely (endless (existing (Sequence Next Forward))) ≡ true
+  pub node : passes_freely (endless (Sequence Next (OfTest IsNode))) ≡ true
+  pub last : passes_freely (existing (endless Next)) ≡ true
+  -- `N[0,9]`, `N/F*`, and `(N[0,9]/F)*`, which has no end for all that
+  pub bounded : passes_freely (Repetition Next 0 (Some 9)) ≡ false
+  pub beside : passes_freely (Sequence Next (endless Forward)) ≡ false
+  pub within : passes_freely (endless (Sequence (Repetition Next 0 (Some 9)) Forward)) ≡ true
+  -- `{NODE AND NOT ?(F + N*)}`, `{?(NEXT*)}`, `(F/{NODE OR ?(P)})*`
+  pub asked : passes_freely (OfTest (Conjunction IsNode (Negation (Condition (Choice Forward (endless Next)))))) ≡ true
+  pub condition : passes_freely (OfTest (Condition (endless (existing Next)))) ≡ false
+  pub looking : passes_freely (endless (Sequence Forward (OfTest (Disjunction IsNode (Condition Previous))))) ≡ true
+  -- `{EXISTS AND ..}` behind a step is no test {EXISTS}
+  pub pattern : passes_freely (endless (Sequence Next (OfTest a_node))) ≡ true

@@ -4,5 +4,6 @@ pub mod Certain
 pub mod Kinds
 pub mod Forms
 pub mod Whole
+pub mod Horizons
 pub mod Texts
 pub mod Examples

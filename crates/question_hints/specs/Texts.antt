@@ -1,7 +1,9 @@
 -- The text of a hint: one line, what is so and then what to write instead.
 use Rattle.std.specs.Prelude.{ℕ, List, ◌++◌, codes}
+use Rattle.std.specs.Fmt.{signed_decimal}
 use Rattle.question_hints.specs.declared.hint.Hint.{Hint}
 use Rattle.question_hints.specs.declared.hint.Hint.TheVariants.{NoLabel, NoProperty, NoValue, EdgeInRound, EndsOnEdge, SelectiveEndLast}
+use Rattle.question_hints.specs.declared.horizon.Lives.{Lives}
 
 abbrev pub no_label_text : List ℕ → List ℕ
 no_label_text label = codes "no object has the label " ++ label ++ codes "; upper and lower case differ"
@@ -28,3 +30,13 @@ text_of_hint (NoValue prop value) = no_value_text prop value
 text_of_hint (EdgeInRound label) = edge_in_round_text label
 text_of_hint EndsOnEdge = ends_on_edge_text
 text_of_hint SelectiveEndLast = selective_end_last_text
+
+-- the first and the last moment with a text between
+abbrev pub ends_text : Lives → List ℕ → List ℕ
+ends_text lives between = signed_decimal lives.first ++ between ++ signed_decimal lives.last
+
+-- the hint that no object exists before or after these moments
+abbrev pub unreached_text : Lives → List ℕ
+unreached_text lives =
+    codes "no object exists before " ++ ends_text lives (codes " or after ")
+    ++ codes ", where the path can pass time; begin the graph with the horizon " ++ ends_text lives (codes " ")

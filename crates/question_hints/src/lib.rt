@@ -9,10 +9,13 @@ mod certain;
 mod forms;
 mod having;
 mod hint;
+mod horizon;
 mod kinds;
 mod laws;
+mod passing;
 mod texts;
 
 pub use certain::hints_of;
 pub use hint::Hint;
-pub use laws::{hints_of_short_paths, law_of_kinds};
+pub use horizon::{Lives, unreached_horizon};
+pub use laws::{hints_of_short_paths, law_of_kinds, times_passed_by_short_paths};
