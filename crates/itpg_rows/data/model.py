@@ -696,34 +696,69 @@ def chain(k):
     return [] if k == 0 else [1] if k == 1 else [*chain(k // 2), k // 2 * 2, k]
 
 
-def members(path, a, b):
-    """The worked members of a path between two scopes: paths, each between two scopes."""
+def narrowed(path, a, b):
+    """The path with the scopes that its own labels leave of these two."""
     a, b = meet(a, scope(path, 0)), meet(b, scope(path, 1))
-    if keeps(path):
-        a, b = meet(a, b), meet(b, a)
-    yield path, a, b
-    if path[0] == "test":
-        for condition in conditions(path[1]):
-            yield from members(condition, a, ALL)
-    elif path[0] == "alt":
-        yield from members(path[1], a, b)
-        yield from members(path[2], a, b)
-    elif path[0] == "seq":
+    return (path, meet(a, b), meet(b, a)) if keeps(path) else (path, a, b)
+
+
+def passed(body, a, b):
+    """The scope of all that a repetition of the body passes between two scopes."""
+    return a if keeps(body) else join(join(a, b), meet(scope(body, 1), scope(body, 0)))
+
+
+def parts(path, a, b):
+    """The parts of a path between two narrowed scopes, each between scopes that are narrowed too."""
+    kind = path[0]
+    if kind == "test":
+        return [narrowed(condition, a, ALL) for condition in conditions(path[1])]
+    if kind == "alt":
+        return [narrowed(path[1], a, b), narrowed(path[2], a, b)]
+    if kind == "seq":
         middle = meet(scope(path[1], 1), scope(path[2], 0))
         if keeps(path[1]):
             middle = meet(middle, a)
         if keeps(path[2]):
             middle = meet(middle, b)
-        yield from members(path[1], a, middle)
-        yield from members(path[2], middle, b)
-    elif path[0] == "repeat":
-        body, least, most = path[1:]
-        passed = a if keeps(body) else join(join(a, b), meet(scope(body, 1), scope(body, 0)))
-        yield from members(body, passed, passed)
-        for k in chain(least):
-            yield ("repeat", body, k, k), passed, passed
-        for k in [2**j for j in range(61)] if most is None else chain(most - least):
-            yield ("repeat", body, 0, k), passed, passed
+        return [narrowed(path[1], a, middle), narrowed(path[2], middle, b)]
+    if kind == "repeat":
+        within = passed(path[1], a, b)
+        return [narrowed(path[1], within, within)]
+    return []
+
+
+def powers(path, a, b):
+    """What a repetition between two narrowed scopes needs besides its body: the body so many times, and up to so many."""
+    if path[0] != "repeat":
+        return
+    body, least, most = path[1:]
+    within = passed(body, a, b)
+    for k in chain(least):
+        yield ("repeat", body, k, k), within, within
+    for k in [2**j for j in range(61)] if most is None else chain(most - least):
+        yield ("repeat", body, 0, k), within, within
+
+
+def members(path, a, b):
+    """The worked members of a path between two scopes: paths, each between two scopes."""
+    own = narrowed(path, a, b)
+    yield own
+    for part in parts(*own):
+        yield from members(*part)
+    yield from powers(*own)
+
+
+def cut(meaning, path, a, b):
+    """The relation of a path between two scopes."""
+    def within(o, labels):
+        return labels is ALL or bool(meaning.graph.objects[o].labels & labels)
+    relation = meaning.of(path)
+    if a is not ALL:
+        relation = {x: ends for x, ends in relation.items() if within(meaning.points[x][0], a)}
+    if b is not ALL:
+        targets = sum(1 << x for x, (o, _) in meaning.points.items() if within(o, b))
+        relation = {x: ends & targets for x, ends in relation.items()}
+    return relation
 
 
 # What is near an object
@@ -975,14 +1010,7 @@ class Machine:
 
     def is_wide(self, meaning, path, a, b):
         """Whether the relation of a path between two scopes has more normal rows than the limit."""
-        def within(o, labels):
-            return labels is ALL or bool(meaning.graph.objects[o].labels & labels)
-        relation = meaning.of(path)
-        if a is not ALL:
-            relation = {x: ends for x, ends in relation.items() if within(meaning.points[x][0], a)}
-        if b is not ALL:
-            targets = sum(1 << x for x, (o, _) in meaning.points.items() if within(o, b))
-            relation = {x: ends & targets for x, ends in relation.items()}
+        relation = cut(meaning, path, a, b)
         # A row has one run at each of its departures, so there are no more rows than runs.
         return count_of_runs(relation) > self.limit and len(normal_rows(meaning, relation)) > self.limit
 

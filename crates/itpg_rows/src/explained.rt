@@ -83,7 +83,7 @@ fn is_number(word: &[u8]) -> bool {
 
 /// A clock that stands still.
 #[derive(Drop)]
-struct NoClock;
+pub struct NoClock;
 
 impl Clock for NoClock {
     fn micros(&mut self) -> u64 {

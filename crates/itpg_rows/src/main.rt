@@ -4,13 +4,14 @@
 //! number, 0 where it is missing. It goes through `serve` with the words of `NAME.words`, one a line; where there is a `NAME.limit`, it goes line by
 //! line through a session with this limit of rows. The folder is the first word of this program, or else the one that it is
 //! run in. A script as long as it may be and one that is longer by a byte are made here. Then each plain script is run as lines of JSON,
-//! and its replies are compared with the plain ones; each is explained, and what is said is compared with its replies. Then come the
-//! runs over devices that fail.
+//! and its replies are compared with the plain ones; each is explained, and what is said is compared with its replies. Where there is a
+//! `NAME.explained`, it has the bytes that must be said. Then come the runs over devices that fail.
 #![tactic(auto)]
 
 mod case;
 mod devices;
 mod explained;
+mod explained_text;
 mod json_lines;
 mod json_script;
 mod longest;
@@ -44,6 +45,7 @@ fn main(rt: HostRuntime) -> Result<()> {
     println!(rt; "{count} scripts, {differing} differ")?;
     json_lines::compare_scripts(&rt, folder.as_str(), &names)?;
     explained::compare_explained(&rt, folder.as_str(), &names)?;
+    explained_text::compare_texts(&rt, folder.as_str(), &names)?;
     devices::compare_rows(&rt, folder.as_str())
 }
 
