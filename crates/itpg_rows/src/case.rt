@@ -77,12 +77,12 @@ impl Case {
         self.status
     }
 
-    /// The words that ask for lines of JSON and else for the same; `None` for a trial, and where they ask for JSON already.
-    pub fn json_words(&self, alloc: Global) -> Result<Option<Vec<String>>, AllocError> {
+    /// The words that ask for plain lines with the script's limit of rows; `None` for a trial, and where they ask for lines of JSON.
+    pub fn plain_words(&self, alloc: Global) -> Result<Option<Vec<String>>, AllocError> {
         let mut words = Vec::new(alloc);
         match &self.way {
-            Way::Served(plain) => {
-                for word in plain {
+            Way::Served(own) => {
+                for word in own {
                     if !is_plain(word.as_str()) {
                         return Ok(None);
                     }
@@ -94,16 +94,16 @@ impl Case {
                 words.push(format!(in alloc; "--max-rows={rows}")?)?;
             }
         }
-        words.push(String::from_str(alloc, "--json")?)?;
         Ok(Some(words))
     }
 
-    /// The words, where they ask for plain lines; `None` for a trial, for lines of JSON, and where there is a limit of its own.
-    pub fn plain_words(&self) -> Option<&[String]> {
-        match &self.way {
-            Way::Served(words) if words.iter().all(|word| is_plain(word.as_str())) => Some(words),
-            Way::Served(_) | Way::Stepped(_) => None,
-        }
+    /// The words that ask for lines of JSON and else for the same; `None` for a trial, and where they ask for JSON already.
+    pub fn json_words(&self, alloc: Global) -> Result<Option<Vec<String>>, AllocError> {
+        let Some(mut words) = self.plain_words(alloc)? else {
+            return Ok(None);
+        };
+        words.push(String::from_str(alloc, "--json")?)?;
+        Ok(Some(words))
     }
 
     /// Runs the script, and says how the run differed from what it must be, if it did.

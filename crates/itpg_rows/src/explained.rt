@@ -18,31 +18,22 @@ use std::alloc::{AllocError, Global};
 // How many bytes a source gives at a call.
 const CHUNK: usize = 65_536;
 
-// Longer scripts are passed over: most of them fill the table of plans, in which each member is looked for.
-const LONGEST: usize = 100_000;
-
-/// Explains each plain script of these names, prints those that differ, and says how many there were and how many were too long. Trials
-/// and scripts with a limit of their own aren't counted.
+/// Explains each script of these names that is neither a trial nor one of JSON, prints those that differ, and says how many there were.
 pub fn compare_explained(rt: &HostRuntime, folder: &str, names: &[String]) -> Result<()> {
     let mut scripts = 0u64;
-    let mut long = 0u64;
     let mut differing = 0u64;
     for name in names {
         let case = Case::read(rt, folder, name.as_str())?;
-        let Some(words) = case.plain_words() else {
+        let Some(words) = case.plain_words(rt.alloc())? else {
             continue;
         };
-        if case.script().len() > LONGEST {
-            long = long.saturating_add(1);
-            continue;
-        }
         scripts = scripts.saturating_add(1);
-        if !is_alike(rt.alloc(), &case, words)? {
+        if !is_alike(rt.alloc(), &case, &words)? {
             println!(rt; "{name}: what is explained differs")?;
             differing = differing.saturating_add(1);
         }
     }
-    println!(rt; "{scripts} scripts explained, {long} passed over, {differing} differ")?;
+    println!(rt; "{scripts} scripts explained, {differing} differ")?;
     Ok(())
 }
 

@@ -36,10 +36,10 @@ pub fn compare_texts(rt: &HostRuntime, folder: &str, names: &[String]) -> Result
 
 // How what is explained of a script differs from what must be, if it does.
 fn difference(alloc: Global, case: &Case, wanted: &[u8]) -> Result<Option<Difference>, AllocError> {
-    let words = case.plain_words().unwrap_or(&[]);
+    let words = case.plain_words(alloc)?.unwrap_or(Vec::new(alloc));
     let mut source = MemSource::new(case.script().to_vec(alloc)?, CHUNK, Vec::new(alloc));
     let mut sink = sink_for(alloc, wanted.len())?;
-    let status = explain(alloc, words, &mut source, &mut sink, &mut NoClock);
+    let status = explain(alloc, &words, &mut source, &mut sink, &mut NoClock);
     Ok(compare(sink.held(), status, wanted, case.status()))
 }
 
