@@ -16,7 +16,7 @@ sys.dont_write_bytecode = True
 from hint_model import hints  # noqa: E402
 from member_model import Counts, Table, add_member, counts_told, path_text, scope_text  # noqa: E402
 from model import (  # noqa: E402
-    ALL, QUESTIONS, Fault, Machine, fault_of_parts, narrowed, near_graph, options_in, parts, read_query, script_of, steps, tokens_of,
+    ALL, QUESTIONS, Fault, Machine, fault_of_parts, narrowed, near_graph, number_in, options_in, parts, read_query, script_of, steps, tokens_of,
     values_of)
 
 LONGEST_SHOWN = 240  # bytes of a member's path
@@ -194,7 +194,7 @@ def explain(script, limit):
 
 def explain_file(path, words):
     limit, _trial, _json = options_in(words)
-    return explain(script_of(path), limit)[0]
+    return explain(script_of(path), number_in(path.with_suffix(".limit"), limit))[0]
 
 
 def first_difference(wanted, got):
