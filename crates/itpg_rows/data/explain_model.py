@@ -2,7 +2,8 @@
 """A second opinion on what `itpg-explain` writes, over the model of the plain machine.
 
     explain_model.py SCRIPT [--max-rows N]     writes what must be said of the script, each time as 0.000 ms
-    explain_model.py            tries each NAME.explained of this folder against NAME.itpg and its words
+    explain_model.py            tries each NAME.explained of this folder against NAME.itpg and its words, and finds lines of the
+                                pages on traps and on wide questions that stand in none
 
 It shares nothing with itpg. Members and what is kept are worked out by `member_model.py`, hints by `hint_model.py`, replies and
 relations by `model.py`, moment by moment.
@@ -15,7 +16,7 @@ sys.dont_write_bytecode = True
 from hint_model import hints  # noqa: E402
 from member_model import Counts, Table, add_member, counts_told, path_text, scope_text  # noqa: E402
 from model import (  # noqa: E402
-    ALL, QUESTIONS, Fault, Machine, fault_of_parts, narrowed, near_graph, options_in, parts, read_query, script_of, steps, tokens_of,
+    ALL, QUESTIONS, Fault, Machine, fault_of_parts, narrowed, near_graph, number_in, options_in, parts, read_query, script_of, steps, tokens_of,
     values_of)
 
 LONGEST_SHOWN = 240  # bytes of a member's path
@@ -193,12 +194,21 @@ def explain(script, limit):
 
 def explain_file(path, words):
     limit, _trial, _json = options_in(words)
-    return explain(script_of(path), limit)[0]
+    return explain(script_of(path), number_in(path.with_suffix(".limit"), limit))[0]
 
 
 def first_difference(wanted, got):
     pairs = itertools.zip_longest(wanted.splitlines(), got.splitlines(), fillvalue=b"the end")
     return next((f"{one!r} in the file, {other!r} by the model" for one, other in pairs if one != other), None)
+
+
+def unsaid_lines(folder, files):
+    """What the pages show of explanations, each with M for the milliseconds, and no file has."""
+    said = {line.strip() for path in files for line in path.read_bytes().decode(errors="replace").splitlines()}
+    pages = [folder.parents[2] / "docs" / name for name in ("TRAPS.md", "WIDE.md")]
+    shown = [line.strip() for page in pages for line in page.read_text().splitlines() if line.startswith("    ")]
+    words = ("hint ", "member ", "wide member ")
+    return [line for line in shown if line.startswith(words) and line.replace(" M ms ", " 0.000 ms ") not in said]
 
 
 def try_all(folder):
@@ -211,8 +221,11 @@ def try_all(folder):
         if difference:
             differing += 1
             print(f"{path.stem}: {difference}")
+    unsaid = unsaid_lines(folder, files)
+    for line in unsaid:
+        print(f"a page has a line that is said nowhere: {line}")
     print(f"{len(files) - differing} alike, {differing} differ")
-    return 1 if differing else 0
+    return 1 if differing or unsaid else 0
 
 
 def main():

@@ -1,6 +1,6 @@
 """The hints of a question, in the order in which they are written, worked out from their definitions."""
-from member_model import Counts, path_text
-from model import ALL, bits, scope
+from member_model import path_text
+from model import ALL, conditions, scope
 
 MOST_ROWS = 100_000  # more rows than this need a limit of their own
 FEW_ROWS = 10_000  # the limit for repetitions that are tried with fewer times
@@ -149,21 +149,30 @@ def repetition_hints(counts, path, limit):
 
 # Time that passes where no object exists
 
-def passes_time(term):
-    """Whether somewhere in it is an N or P that isn't the one of a NEXT or PREV."""
-    if term[0] == "seq" and term[1][0] in "NP" and term[2] == EXISTS:
-        return False
-    return term[0] in ("N", "P") or any(map(passes_time, inner(term)))
+def begins_existing(path):
+    return path == EXISTS or path[0] == "seq" and begins_existing(path[1])
 
 
-def passes_on(term):
-    """Whether somewhere in it is a repetition without an upper end in which time passes."""
-    return term[0] == "repeat" and term[3] is None and passes_time(term[1]) or any(map(passes_on, inner(term)))
+def passes_freely(path, endless=False, existing=False):
+    """Whether somewhere in a repetition without an upper end is an N or P behind which existence isn't asked for at once.
+
+    `endless` is whether the path stands in such a repetition, `existing` whether existence is asked for behind it.
+    """
+    kind = path[0]
+    if kind == "test":
+        return any(passes_freely(condition, endless) for condition in conditions(path[1]))
+    if kind == "repeat":
+        return passes_freely(path[1], endless or path[3] is None)
+    if kind == "seq":
+        return passes_freely(path[1], endless, begins_existing(path[2])) or passes_freely(path[2], endless, existing)
+    if kind == "alt":
+        return passes_freely(path[1], endless, existing) or passes_freely(path[2], endless, existing)
+    return kind in "NP" and endless and not existing
 
 
 def horizon_hints(graph, path):
     moments = {t for o in graph.standing() for t in graph.objects[o].lives}
-    if not moments or not passes_on(path):
+    if not moments or not passes_freely(path):
         return
     first, last = min(moments), max(moments)
     if (first, last) != graph.horizon:
