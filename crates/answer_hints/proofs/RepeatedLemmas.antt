@@ -2,7 +2,7 @@
 use Rattle.std.proofs.Common.{◌≡◌, ◌⊎◌, inl, inr, ℕ, ◌+◌, ◌<◌, ◌≤◌, List, length, Option, Some, None, refl, sym, subst, arith}
 use Rattle.std.specs.Prelude.{IfSome}
 use Rattle.itpg_base.specs.Graphs.{Graph}
-use Rattle.itpg_base.specs.Points.{Point, Relation}
+use Rattle.itpg_base.specs.Points.{Point}
 use Rattle.itpg_base.proofs.Searches.{at_most}
 use Rattle.relation_rows.specs.declared.rows.Row.{Row}
 use Rattle.relation_rows.specs.Rows.{RowsHold}
@@ -15,7 +15,7 @@ use Rattle.label_scope.specs.declared.scope.Scope.TheVariants.{All}
 use Rattle.label_scope.specs.Members.{worked}
 use Rattle.path_eval.proofs.Finite.{fit_apart}
 use Rattle.answer_hints.specs.RuledOut.{FitsWithin, IsTooWide, HasRowsWithin}
-use Rattle.answer_hints.specs.Repeated.{Repeating, repeated, up_to, LeadAlike, AddsNothingFrom, IsEnough, farthest_of, farthest, IsFound, IsFinding}
+use Rattle.answer_hints.specs.Repeated.{Repeating, repeated, up_to, LeadAlike, AddsNothingFrom, farthest_of, farthest, IsFound, IsFinding}
 
 -- ---- the farthest number of times
 

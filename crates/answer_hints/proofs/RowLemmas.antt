@@ -36,7 +36,8 @@ some_pair R (r ∷ rows) normal l =
 
 module _ (g : Graph) (limit : ℕ) (p : PathTerm) where
   -- right rows of the node of the path are its rows
-  pub answer_rows : Good g → (o : Option PlanNode) → IsSomeAnd o (λ n. n.member ≡ narrowed_member p All All) → (rows : List Row) → IsSomeAnd o (λ n. IsRight g limit n.member rows) → HasRowsWithin g limit p rows
+  pub answer_rows : Good g → (o : Option PlanNode) → IsSomeAnd o (λ n. n.member ≡ narrowed_member p All All) → (rows : List Row)
+      → IsSomeAnd o (λ n. IsRight g limit n.member rows) → HasRowsWithin g limit p rows
   answer_rows good o is rows h =
       let right = right_rows g limit p All All good o is rows h in
       record {

@@ -22,7 +22,8 @@ module _ (g : Graph) (limit : ℕ) where
   tells_then rs ss old mid new a b =
       (a.0 ++ b.0, told_append rs ss a.0 b.0 a.1 b.1, b.2 ∙ ap (λ (v : List Told). v ++ b.0) a.2 ∙ append_assoc old a.0 b.0)
 
-  pub tells_both : {T E : Type 0} (result : Result T E) (rs ss : List Repeating) (old mid new : List Told) → TellsOf g limit rs old mid → OnOk result (TellsOf g limit ss mid new) → OnOk result (TellsOf g limit (rs ++ ss) old new)
+  pub tells_both : {T E : Type 0} (result : Result T E) (rs ss : List Repeating) (old mid new : List Told) → TellsOf g limit rs old mid → OnOk result (TellsOf g limit ss mid new)
+      → OnOk result (TellsOf g limit (rs ++ ss) old new)
   tells_both (Ok v) rs ss old mid new a b = tells_then rs ss old mid new a b
   tells_both (Err e) rs ss old mid new a b = tt
 
@@ -36,7 +37,8 @@ module _ (g : Graph) (limit : ℕ) where
 
   -- ---- what follows of each
 
-  certain_of : (rs : List Repeating) (told : List Told) → AreTold g limit rs told → (t : Told) → Among told t → (r : Repeating) × Among rs r × IsFound g limit r t.times × (t ≡ told_at r t.times)
+  certain_of : (rs : List Repeating) (told : List Told) → AreTold g limit rs told → (t : Told) → Among told t
+      → (r : Repeating) × Among rs r × IsFound g limit r t.times × (t ≡ told_at r t.times)
   certain_of [] told a t h = absurd (subst (λ (v : List Told). Among v t) a h)
   certain_of (r ∷ rs) told a t h =
       let rest = a.2 in
@@ -69,5 +71,6 @@ module _ (g : Graph) (limit : ℕ) where
       let rest = a.2 in
       subst (λ (v : List Told). Among v (told_at r k)) (sym rest.2) (append_second (told_of s a.0) rest.0 (told_at r k) (given_of one rs rest.0 rest.1 r k i f))
 
-  pub given : (one : (r : Repeating) (j k : ℕ) → IsFound g limit r j → IsFound g limit r k → j ≡ k) (p : PathTerm) (told : List Told) → AreTold g limit (top_repetitions p) told → AllAreGiven g limit p told
+  pub given : (one : (r : Repeating) (j k : ℕ) → IsFound g limit r j → IsFound g limit r k → j ≡ k) (p : PathTerm) (told : List Told)
+      → AreTold g limit (top_repetitions p) told → AllAreGiven g limit p told
   given one p told a = λ r k i f. given_of one (top_repetitions p) told a r k i f

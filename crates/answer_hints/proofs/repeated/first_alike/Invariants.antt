@@ -1,4 +1,4 @@
-use Rattle.std.proofs.Common.{ℕ, ◌+◌, ◌-◌, ◌*◌, ◌≤◌, length}
+use Rattle.std.proofs.Common.{◌+◌, ◌-◌, ◌*◌, ◌≤◌, length}
 use Rattle.path_ast.specs.declared.counts.TheConstants.{MAX_TERMS}
 use Rattle.plan_cache.specs.RightRows.{IsTableRight}
 use Rattle.answer_hints.proofs.RepeatedLemmas.{AreTried}
