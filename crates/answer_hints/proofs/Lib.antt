@@ -1,3 +1,5 @@
 mod RelaxedLemmas
 mod RowLemmas
-mod NewTable
+mod GrownTable
+mod RepeatedLemmas
+mod ToldLemmas

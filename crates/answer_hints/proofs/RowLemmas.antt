@@ -19,7 +19,7 @@ use Rattle.plan_cache.specs.RightRows.{IsRight}
 use Rattle.path_eval.specs.Evaluated.{NeedsWide}
 use Rattle.path_eval.proofs.Asked.{right_rows, wide_path}
 use Rattle.path_eval.proofs.Finite.{fit_apart}
-use Rattle.answer_hints.specs.RuledOut.{LeadsOn, FitsWithin, IsTooWide, HasManyRows, IsRowNumber}
+use Rattle.answer_hints.specs.RuledOut.{LeadsOn, FitsWithin, IsTooWide, HasManyRows, IsRowNumber, HasRowsWithin}
 
 -- a relation with no rows has no pair
 no_pair : (R : Relation) (rows : List Row) → NormalRows R rows → length rows ≡ 0 → (x y : Point) → R x y → ⊥
@@ -35,16 +35,19 @@ some_pair R (r ∷ rows) normal l =
     (record { object = r.source.0; moment = r.band.from }, record { object = r.target.0; moment = end_at r.band.low r.band.from }, run.each (end_at r.band.low r.band.from) (≤ℤ_refl (end_at r.band.low r.band.from)) run.some)
 
 module _ (g : Graph) (limit : ℕ) (p : PathTerm) where
-  -- right rows of the node of the path are as many as it has
-  pub told_rows : Good g → (o : Option PlanNode) → IsSomeAnd o (λ n. n.member ≡ narrowed_member p All All) → (rows : List Row) → IsSomeAnd o (λ n. IsRight g limit n.member rows) → HasManyRows g limit p (length rows)
-  told_rows good o is rows h =
+  -- right rows of the node of the path are its rows
+  pub answer_rows : Good g → (o : Option PlanNode) → IsSomeAnd o (λ n. n.member ≡ narrowed_member p All All) → (rows : List Row)
+      → IsSomeAnd o (λ n. IsRight g limit n.member rows) → HasRowsWithin g limit p rows
+  answer_rows good o is rows h =
       let right = right_rows g limit p All All good o is rows h in
       record {
-        rows = rows;
         normal = rows_alike (Cut g p All All) (Rel p g) (λ x y c. c.leads) (λ x y r. cut_all p g x y r) rows right.0;
-        many = refl;
         fits = right.1;
       }
+
+  -- and as many as it has
+  pub many_rows : (rows : List Row) → HasRowsWithin g limit p rows → HasManyRows g limit p (length rows)
+  many_rows rows h = record { rows = rows; normal = h.normal; many = refl; fits = h.fits }
 
   pub told_wide : (o : Option PlanNode) → IsSomeAnd o (λ n. n.member ≡ narrowed_member p All All) → IsSomeAnd o (λ n. NeedsWide g limit n.member) → IsTooWide g limit p
   told_wide o is h = wide_path g limit p All All o is h

@@ -1,5 +1,5 @@
 pub mod Relaxed
-pub mod Examples
 pub mod RuledOut
-pub mod Limits
+pub mod Repeated
 pub mod Texts
+pub mod Examples

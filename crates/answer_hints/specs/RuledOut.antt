@@ -40,3 +40,12 @@ pub record HasManyRows (g : Graph) (limit : ℕ) (p : PathTerm) (n : ℕ) : Type
 abbrev pub IsRowNumber : Graph → ℕ → PathTerm → Option ℕ → Type 0
 IsRowNumber g limit p None = IsTooWide g limit p
 IsRowNumber g limit p (Some n) = HasManyRows g limit p n
+
+-- the answer of a path: its normal rows, where it fits; none if it is too wide
+pub record HasRowsWithin (g : Graph) (limit : ℕ) (p : PathTerm) (rows : List Row) : Type 0 where
+  pub normal : NormalRows (Rel p g) rows
+  pub fits : FitsWithin g limit p
+
+abbrev pub IsAnswer : Graph → ℕ → PathTerm → Option (List Row) → Type 0
+IsAnswer g limit p None = IsTooWide g limit p
+IsAnswer g limit p (Some rows) = HasRowsWithin g limit p rows

@@ -42,8 +42,8 @@ fn needs_more(alloc: Global, rows: u64) -> Result<Vec<u8>, AllocError>
     Ok(text)
 }
 
-// Puts the number behind the text, in decimal.
-fn push_number(text: &mut Vec<u8>, number: u64) -> Result<(), AllocError>
+/// Puts the number behind the text, in decimal.
+pub(crate) fn push_number(text: &mut Vec<u8>, number: u64) -> Result<(), AllocError>
     ensures { OnOk result (text.new.items ≡ text.old.items ++ decimal number) }
 {
     let mut digits = Buffer::new();
