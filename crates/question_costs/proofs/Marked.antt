@@ -3,7 +3,6 @@ use Rattle.std.proofs.Common.{◌≡◌, ℕ, zero, suc, ◌+◌, ◌<◌, ◌�
 use Rattle.std.specs.Prelude.{IsSome, IsSomeAnd, IsTrue}
 use Rattle.std.proofs.lemmas.Bool.{false≢true}
 use Rattle.itpg_base.proofs.Objects.{there}
-use Rattle.label_scope.specs.Members.{Member}
 use Rattle.relation_rows.specs.declared.rows.Row.{Row}
 use Rattle.plan_cache.specs.declared.operations.PlanNo.{PlanNo}
 use Rattle.plan_cache.specs.Nodes.{PlanNode, Kept, Table, IsNodeOf}

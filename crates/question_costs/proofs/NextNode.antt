@@ -1,11 +1,11 @@
 -- The next node of the other table.
-use Rattle.std.proofs.Common.{◌≡◌, ℕ, zero, suc, ◌+◌, ◌≤◌, List, [], ◌∷◌, ◌++◌, length, unwrap_or, Option, Some, None, sym, ap, subst, ◌∙◌, arith}
+use Rattle.std.proofs.Common.{◌≡◌, ℕ, suc, ◌+◌, ◌≤◌, List, [], ◌∷◌, ◌++◌, length, unwrap_or, Option, Some, sym, ap, subst, ◌∙◌, arith}
 use Rattle.std.specs.Prelude.{IfSome, IsNone, IsSomeAnd, slice_get}
 use Rattle.std.proofs.lemmas.List.{length-append}
 use Rattle.plan_cache.specs.declared.operations.PlanNo.{PlanNo}
 use Rattle.plan_cache.specs.Former.{number_at}
 use Rattle.plan_cache.specs.Growing.{AddsUnder}
-use Rattle.plan_cache.specs.Nodes.{PlanNode, Table, AreShared}
+use Rattle.plan_cache.specs.Nodes.{Table, AreShared}
 use Rattle.question_costs.specs.Kept.{AreAllSame, AreBelow, AreSame, DoSameAt, HasOperation}
 use Rattle.question_costs.proofs.SameLemmas.{one_more_same}
 use Rattle.question_costs.proofs.KeptLemmas.{one_more_all, root_found}

@@ -1,5 +1,5 @@
 -- Which members of a question have a relation in another table of plans.
-use Rattle.std.specs.Prelude.{◌≡◌, ◌<◌, ◌+◌, ◌↔◌, ℕ, Bool, false, List, [], ◌∷◌, slice_get, unwrap_or, length, Option, Some, None, IsSomeAnd, IsTrue}
+use Rattle.std.specs.Prelude.{◌≡◌, ◌<◌, ◌+◌, ℕ, Bool, false, List, [], ◌∷◌, slice_get, unwrap_or, length, Option, Some, None, IsSomeAnd, IsTrue}
 use Rattle.itpg_base.specs.Lists.{Among}
 use Rattle.label_scope.specs.Members.{Member}
 use Rattle.relation_rows.specs.declared.rows.Row.{Row}

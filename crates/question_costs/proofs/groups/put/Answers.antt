@@ -1,4 +1,3 @@
-use Rattle.std.proofs.Common.{arith}
 use Rattle.question_costs.proofs.GroupLemmas.{put_in, put_stays, behind_others, put_behind}
 use Rattle.question_costs.proofs.groups.put.Goals as goal
 

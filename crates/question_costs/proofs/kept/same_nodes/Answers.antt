@@ -1,4 +1,4 @@
-use Rattle.std.proofs.Common.{length, sym, subst, arith}
+use Rattle.std.proofs.Common.{arith}
 use Rattle.plan_cache.specs.declared.nodes.TheConstants.{MAX_NODES}
 use Rattle.question_costs.proofs.KeptLemmas.{there_below}
 use Rattle.question_costs.proofs.NextNode.{next_many, next_same, next_all, next_below}

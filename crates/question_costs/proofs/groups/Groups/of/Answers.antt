@@ -1,6 +1,6 @@
-use Rattle.std.proofs.Common.{◌+◌, map, ap, subst, ◌∙◌, arith}
-use Rattle.plan_cache.specs.Operations.{op_term, op_children}
-use Rattle.question_costs.specs.Kept.{IsIn, first_of, place_of}
+use Rattle.std.proofs.Common.{map, ap, subst, ◌∙◌, arith}
+use Rattle.plan_cache.specs.Operations.{op_term}
+use Rattle.question_costs.specs.Kept.{IsIn, place_of}
 use Rattle.question_costs.proofs.GroupLemmas.{place_there, one_more_grouped}
 use Rattle.question_costs.proofs.groups.Groups.of.Goals as goal
 
