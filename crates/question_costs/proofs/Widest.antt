@@ -52,7 +52,7 @@ part_node nodes (k ∷ ks) [] p are i = absurd are
 part_node nodes (k ∷ ks) (m ∷ ms) p are (inl e) = (k, subst (IsNodeOf nodes k) e are.0)
 part_node nodes (k ∷ ks) (m ∷ ms) p are (inr i) = part_node nodes ks ms p are.1 i
 
-within : (nodes : List PlanNode) (k : ℕ) (n : PlanNode) → slice_get nodes k ≡ Some n → k < length nodes
+pub within : (nodes : List PlanNode) (k : ℕ) (n : PlanNode) → slice_get nodes k ≡ Some n → k < length nodes
 within [] k n e = absurd (let none : ⊥ = cc in none)
 within (x ∷ nodes) zero n e = omega arith
 within (x ∷ nodes) (suc k) n e = let l : k < length nodes = within nodes k n e in omega (arith, l)

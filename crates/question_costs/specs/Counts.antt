@@ -1,5 +1,5 @@
 -- What is told of the members of a query on a graph.
-use Rattle.std.specs.Prelude.{◌≡◌, ℕ, Bool, true, false, List, map, length, slice_get, Option, Some, None}
+use Rattle.std.specs.Prelude.{◌≡◌, ◌<◌, ℕ, Bool, true, false, List, map, length, slice_get, Option, Some, None}
 use Rattle.std.specs.List.{list_all}
 use Rattle.itpg_base.specs.Graphs.{Graph}
 use Rattle.itpg_base.specs.Lists.{Among}
@@ -45,6 +45,17 @@ counts_of members = map (λ m. m.count) members
 -- with each of the first nodes, as many as there are members, stand the numbers of its children
 abbrev pub HaveChildren : List PlanNode → List MemberCount → Type 0
 HaveChildren nodes members = (k : ℕ) (n : PlanNode) (m : MemberCount) → slice_get nodes k ≡ Some n → slice_get members k ≡ Some m → numbers_of m.children.items ≡ n.children
+
+-- no member before the place is over
+abbrev pub NoneOverBefore : List Count → ℕ → Type 0
+NoneOverBefore counts place = (k : ℕ) → k < place → ¬ (slice_get counts k ≡ Some Over)
+
+-- how many rows are told, if any are
+abbrev pub told_rows : Option Count → Option ℕ
+told_rows None = None
+told_rows (Some (Rows n)) = Some n
+told_rows (Some Over) = None
+told_rows (Some Unknown) = None
 
 -- rows are told
 abbrev pub is_rows : Option Count → Bool

@@ -4,8 +4,10 @@ use Rattle.itpg_base.specs.Graphs.{Graph}
 use Rattle.itpg_base.specs.Lists.{Among}
 use Rattle.path_ast.specs.Terms.{PathTerm}
 use Rattle.label_scope.specs.declared.scope.Scope.TheVariants.{All}
+use Rattle.label_scope.specs.Members.{worked}
 use Rattle.plan_cache.specs.Nodes.{PlanNode, AreShared, IsNodeOf, narrowed_member}
 use Rattle.plan_cache.specs.Growing.{AddsUnder}
+use Rattle.path_eval.specs.Evaluated.{SomeIsWide}
 use Rattle.question_costs.specs.declared.count.Count.{Count}
 use Rattle.question_costs.specs.declared.count.Count.TheVariants.{Rows, Over, Unknown}
 use Rattle.question_costs.specs.Counts.{AreTold}
@@ -40,3 +42,8 @@ pub record AreCountsOf (g : Graph) (limit : ℕ) (p : PathTerm) (nodes : List Pl
   pub shared : AreShared nodes
   pub each : length counts ≡ length nodes
   pub told : AreTold g limit nodes counts
+
+-- n is more than usual, and with any lower limit the question is too wide
+pub record MustHave (g : Graph) (p : PathTerm) (usual n : ℕ) : Type 0 where
+  pub beyond : usual < n
+  pub wide : (less : ℕ) → less < n → SomeIsWide g less (worked p All All)

@@ -1,10 +1,11 @@
 -- The members of a question as a tree: a line for each path, and below it those of the path's parts.
-use Rattle.std.specs.Prelude.{ℕ, ◌+◌, ◌*◌, Bool, false, List, [], ◌++◌, replicate, unwrap_or, slice_get, Option, Some, None}
+use Rattle.std.specs.Prelude.{ℕ, ◌+◌, ◌*◌, Bool, List, [], ◌++◌, replicate, unwrap_or, slice_get, Option, Some, None}
 use Rattle.path_ast.specs.Terms.{PathTerm, OfTest, Forward, Backward, Next, Previous, Sequence, Choice, Repetition, TestTerm, IsNode, IsEdge, HasLabel, HasValue, IsBelow, DoesExist, Condition, Conjunction, Disjunction, Negation}
 use Rattle.plan_cache.specs.Nodes.{PlanNode}
 use Rattle.plan_cache.specs.Refilled.{numbers_of}
 use Rattle.question_costs.specs.declared.count.MemberCount.{MemberCount}
 use Rattle.question_costs.specs.declared.tree.Tree.{Tree}
+use Rattle.question_costs.specs.Kept.{is_kept_at}
 use Rattle.question_costs.specs.Texts.{Told, told_text}
 
 -- what is shown of the members, in order of their numbers: their nodes, what is told of them, and whether their relation was kept
@@ -16,10 +17,6 @@ pub record Shown : Type 0 where
 
 abbrev pub shown_of : Tree → Shown
 shown_of t = record { limit = t.max_rows; nodes = t.counted.plans.nodes; members = t.counted.members.items; kept = t.kept.items }
-
--- whether the relation of the member of this number was kept
-abbrev pub is_kept_at : List Bool → ℕ → Bool
-is_kept_at kept k = unwrap_or (slice_get kept k) false
 
 -- what is told of a member, where it has a node
 abbrev pub told_if : List Bool → ℕ → Option PlanNode → Option MemberCount → Option Told

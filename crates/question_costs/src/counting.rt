@@ -12,7 +12,7 @@ ghost use Rattle.plan_cache.specs.Refilled.{numbers_of};
 ghost use Rattle.plan_cache.specs.RightRows.{IsTableRight};
 ghost use Rattle.path_eval.specs.Evaluated.{SomeIsWide};
 ghost use Rattle.question_costs.specs.declared.count.Count.TheVariants.{Over};
-ghost use Rattle.question_costs.specs.Counts.{IsToldOf, AreTold, HaveChildren, all_have_rows, has_rows_at, counts_of};
+ghost use Rattle.question_costs.specs.Counts.{IsToldOf, AreTold, HaveChildren, NoneOverBefore, all_have_rows, has_rows_at, told_rows, counts_of};
 
 use crate::children::children;
 use crate::clock::Clock;
@@ -38,11 +38,22 @@ impl Counted {
     /// The place of the first member that is over; `None` exactly if none is.
     pub fn first_over(&self) -> Option<usize>
         ensures some { IfSome result (λ place. slice_get (counts_of self.now.members.items) place ≡ Some Over) }
+        ensures first { IfSome result (λ place. NoneOverBefore (counts_of self.now.members.items) place) }
         ensures none { IsNone result → ¬ Among (counts_of self.now.members.items) Over }
     {
         self.members
             .iter()
             .position(|member| matches!(member.count, Count::Over))
+    }
+
+    /// How many rows the query's own member has, if rows are told of it.
+    pub fn rows(&self) -> Option<u64>
+        ensures { result ≡ told_rows (slice_get (counts_of self.now.members.items) self.now.root.0) }
+    {
+        match self.members.get(self.root.0 as usize) {
+            Some(member) => rows_of(member.count),
+            None => None,
+        }
     }
 }
 
@@ -196,5 +207,15 @@ fn has_rows(members: &[MemberCount], no: PlanNo) -> bool
     match members.get(no.0 as usize) {
         Some(member) => matches!(member.count, Count::Rows(_)),
         None => false,
+    }
+}
+
+// How many rows are told, if any are.
+fn rows_of(count: Count) -> Option<u64>
+    ensures { result ≡ told_rows (Some count) }
+{
+    match count {
+        Count::Rows(rows) => Some(rows),
+        Count::Over | Count::Unknown => None,
     }
 }

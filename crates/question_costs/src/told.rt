@@ -5,9 +5,9 @@ ghost use Rattle.path_text.specs.Texts.{text_of};
 ghost use Rattle.path_text.specs.ScopeTexts.{text_of_scope};
 ghost use Rattle.question_costs.specs.Texts.{cost_text, count_text, scopes_text, state_text, told_text};
 
+use crate::Count;
 use crate::text::{add, add_millis, add_named, add_number};
 use label_scope::Scope;
-use question_costs::Count;
 use path_ast::Path;
 use path_text::{path_text, scope_text};
 use std::alloc::{AllocError, Global};

@@ -4,11 +4,12 @@ ghost use Rattle.path_ast.specs.Terms.{path_term, test_term};
 ghost use Rattle.path_ast.specs.Sizes.{path_size, test_size};
 ghost use Rattle.path_ast.specs.declared.counts.TheConstants.{MAX_TERMS};
 ghost use Rattle.question_costs.specs.Texts.{wide_text};
-ghost use Rattle.question_costs.specs.Trees.{shown_of, tree_text, parts_text, conditions_in, line_at, told_at, part_at, is_kept_at};
+ghost use Rattle.question_costs.specs.Trees.{shown_of, tree_text, parts_text, conditions_in, line_at, told_at, part_at};
+ghost use Rattle.question_costs.specs.Kept.{is_kept_at};
 
+use crate::Counted;
 use crate::text::{add, add_indent, add_named};
 use crate::told::Told;
-use question_costs::Counted;
 use path_ast::{Path, Test};
 use plan_cache::PlanNo;
 use std::alloc::{AllocError, Global};
