@@ -6,6 +6,7 @@
 #![tactic(auto)]
 
 mod advice;
+mod answers;
 mod explainer;
 mod head;
 mod lines;

@@ -5,6 +5,7 @@ ghost use Rattle.path_ast.specs.Terms.{path_term};
 ghost use Rattle.path_ast.specs.Sizes.{path_size, IsPathInRange};
 ghost use Rattle.path_ast.specs.declared.counts.TheConstants.{MAX_TERMS};
 
+use crate::answers::add_answer_hints;
 use crate::explainer::Explainer;
 use edit_reader::{Line, read_line, room};
 use itpg_base::{Name, ObjNo};
@@ -70,7 +71,7 @@ impl Explainer {
     ) -> Result<Explained, AllocError> {
         law_of_read_queries();
         match &read_query(self.alloc, text) {
-            Ok(query) => site.explain(query, clock),
+            Ok(query) => of_query(query, site, clock),
             Err(QueryFault::Bad(_)) => Ok(Explained::nothing(self.alloc)),
             Err(QueryFault::Memory) => Err(AllocError),
         }
@@ -102,7 +103,7 @@ impl Explainer {
     fn of_watch<C: Clock>(&self, name: &Name, clock: &mut C) -> Result<Explained, AllocError> {
         let watches = self.session.watches();
         match watches.find(name) {
-            Some(place) => self.here().explain(watches.query(place), clock),
+            Some(place) => of_query(watches.query(place), &self.here(), clock),
             None => Ok(Explained::nothing(self.alloc)),
         }
     }
@@ -136,7 +137,7 @@ impl Explainer {
             return Ok(Explained::nothing(self.alloc));
         };
         let objects = near_objects(self.alloc, graph, object, steps(&query.path))?;
-        self.among(graph, &objects).explain(query, clock)
+        of_query(query, &self.among(graph, &objects), clock)
     }
 
     // These objects of a graph alone.
@@ -153,4 +154,14 @@ impl Explainer {
             max_rows: self.max_rows,
         }
     }
+}
+
+// What is said of a query on a site.
+fn of_query<C: Clock>(query: &Query, site: &Site<'_>, clock: &mut C) -> Result<Explained, AllocError>
+    requires in_range { IsPathInRange (path_term query.now.path) }
+    requires terms { path_size (path_term query.now.path) ≤ MAX_TERMS }
+{
+    let mut said = site.explain(query, clock)?;
+    add_answer_hints(&mut said, site, query)?;
+    Ok(said)
 }
