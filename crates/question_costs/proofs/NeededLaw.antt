@@ -1,5 +1,5 @@
 -- A limit below the rows that some member has makes the question too wide.
-use Rattle.std.proofs.Common.{◌≡◌, ℕ, zero, suc, ◌<◌, List, [], ◌∷◌, length, map, slice_get, Some, None, inl, inr, refl, sym, ap, subst, ◌∙◌, arith}
+use Rattle.std.proofs.Common.{◌≡◌, ℕ, ◌<◌, List, [], ◌∷◌, length, slice_get, Some, inl, inr, refl, sym, ap, subst, ◌∙◌, arith}
 use Rattle.itpg_base.specs.Graphs.{Graph}
 use Rattle.itpg_base.specs.Lists.{Among}
 use Rattle.itpg_base.specs.Walks.{IsWalk}
@@ -9,8 +9,7 @@ use Rattle.path_ast.specs.Terms.{PathTerm, OfTest, Forward, Backward, Next, Prev
 use Rattle.label_scope.specs.declared.scope.Scope.{Scope}
 use Rattle.label_scope.specs.declared.scope.Scope.TheVariants.{All}
 use Rattle.label_scope.specs.Members.{Member, worked, members_between}
-use Rattle.plan_cache.specs.Nodes.{PlanNode, Kept, narrowed_member}
-use Rattle.plan_cache.specs.Growing.{IsChild}
+use Rattle.plan_cache.specs.Nodes.{PlanNode, narrowed_member}
 use Rattle.plan_cache.specs.RightRows.{members_of, member_relation}
 use Rattle.path_eval.specs.Keeping.{LeadsTo}
 use Rattle.path_eval.proofs.Climbing.{some_node, reached_members}
@@ -19,33 +18,8 @@ use Rattle.question_costs.specs.declared.count.Count.{Count}
 use Rattle.question_costs.specs.declared.count.Count.TheVariants.{Rows}
 use Rattle.path_eval.specs.Evaluated.{SomeIsWide}
 use Rattle.question_costs.specs.Needed.{AreCountsOf}
-
--- what is in a list stands at a place
-placed : {X : Type 0} (xs : List X) (x : X) → Among xs x → (k : ℕ) × (slice_get xs k ≡ Some x) × (k < length xs)
-placed [] x i = absurd i
-placed (y ∷ xs) x (inl e) = (zero, ap Some e, omega arith)
-placed (y ∷ xs) x (inr i) = let at = placed xs x i in (suc at.0, at.1, omega (arith, at.2))
-
--- at a place of the list something stands
-at_place : {X : Type 0} (xs : List X) (k : ℕ) → k < length xs → (x : X) × (slice_get xs k ≡ Some x)
-at_place [] k l = absurd (let none : ⊥ = omega (arith, l) in none)
-at_place (x ∷ xs) zero l = (x, refl)
-at_place (x ∷ xs) (suc k) l = at_place xs k (omega (arith, l))
-
--- nothing is kept at any of the nodes
-abbrev nothing : List PlanNode → List Kept
-nothing nodes = map (λ (n : PlanNode). let none : Kept = None in none) nodes
-
-free_at : (nodes : List PlanNode) (x : ℕ) (n : PlanNode) → slice_get nodes x ≡ Some n → slice_get (nothing nodes) x ≡ Some None
-free_at [] x n e = absurd (let none : ⊥ = cc in none)
-free_at (y ∷ nodes) zero n e = refl
-free_at (y ∷ nodes) (suc x) n e = free_at nodes x n e
-
-free_walk : (nodes : List PlanNode) (x : ℕ) (zs : List ℕ) (k : ℕ) → IsWalk (IsChild nodes) x zs k → IsWalk (LeadsTo nodes (nothing nodes)) x zs k
-free_walk nodes x [] k w = w
-free_walk nodes x (z ∷ zs) k w =
-    let at = some_node (λ n. Among n.children z) (slice_get nodes x) w.0 in
-    ((w.0, free_at nodes x at.0 at.1), free_walk nodes z zs k w.1)
+use Rattle.question_costs.proofs.Telling.{at_place}
+use Rattle.question_costs.proofs.Widest.{among_get, free_walk, nothing}
 
 -- a member is one of those that are worked out for it
 own_member : (p : PathTerm) (a b : Scope) → Among (members_between p a b) (record { path = p; sources = a; targets = b })
@@ -80,7 +54,7 @@ module _ (g : Graph) (limit : ℕ) (p : PathTerm) (nodes : List PlanNode) (root 
 
   pub too_wide_below : (n l : ℕ) → Among counts (Rows n) → l < n → SomeIsWide g l (worked p All All)
   too_wide_below n l i less =
-      let at = placed counts (Rows n) i in
+      let at = among_get counts (Rows n) i in
       let each = of.each in
       let node = at_place nodes at.0 (omega (arith, at.2, each)) in
       let has = of.told at.0 node.0 (Rows n) node.1 at.1 in

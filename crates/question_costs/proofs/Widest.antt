@@ -24,13 +24,13 @@ get_among [] k x e = absurd (let none : ⊥ = cc in none)
 get_among (y ∷ xs) zero x e = let same : y ≡ x = cc in inl same
 get_among (y ∷ xs) (suc k) x e = inr (get_among xs k x e)
 
-among_get : {X : Type 0} (xs : List X) (x : X) → Among xs x → (k : ℕ) × (slice_get xs k ≡ Some x) × (k < length xs)
+pub among_get : {X : Type 0} (xs : List X) (x : X) → Among xs x → (k : ℕ) × (slice_get xs k ≡ Some x) × (k < length xs)
 among_get [] x i = absurd i
 among_get (y ∷ xs) x (inl e) = (zero, ap Some e, omega arith)
 among_get (y ∷ xs) x (inr i) = let at = among_get xs x i in (suc at.0, at.1, omega (arith, at.2))
 
 -- nothing is kept at any of the nodes
-abbrev nothing : List PlanNode → List Kept
+abbrev pub nothing : List PlanNode → List Kept
 nothing nodes = map (λ (n : PlanNode). let none : Kept = None in none) nodes
 
 free_at : (nodes : List PlanNode) (x : ℕ) (n : PlanNode) → slice_get nodes x ≡ Some n → slice_get (nothing nodes) x ≡ Some None
@@ -38,7 +38,7 @@ free_at [] x n e = absurd (let none : ⊥ = cc in none)
 free_at (y ∷ nodes) zero n e = refl
 free_at (y ∷ nodes) (suc x) n e = free_at nodes x n e
 
-free_walk : (nodes : List PlanNode) (x : ℕ) (zs : List ℕ) (k : ℕ) → IsWalk (IsChild nodes) x zs k → IsWalk (LeadsTo nodes (nothing nodes)) x zs k
+pub free_walk : (nodes : List PlanNode) (x : ℕ) (zs : List ℕ) (k : ℕ) → IsWalk (IsChild nodes) x zs k → IsWalk (LeadsTo nodes (nothing nodes)) x zs k
 free_walk nodes x [] k w = w
 free_walk nodes x (z ∷ zs) k w =
     let at = some_node (λ n. Among n.children z) (slice_get nodes x) w.0 in
