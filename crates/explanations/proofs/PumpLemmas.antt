@@ -3,7 +3,7 @@ use Rattle.std.proofs.Common.{◌≡◌, ℕ, ◌+◌, ◌-◌, ◌≤◌, ◌<�
 use Rattle.std.specs.declared.option.Option.{Option}
 use Rattle.std.specs.Io.KnownBytes.{Consumes}
 use Rattle.std.proofs.KnownBytes.{Consumes-trans}
-use Rattle.itpg_run.specs.Served.{longest}
+use Rattle.explanations.specs.Ends.{longest}
 use Rattle.explanations.specs.Pumping.{Taking}
 use Rattle.explanations.specs.Ends.{IsTooLong}
 

@@ -1,7 +1,6 @@
 -- How runs end.
 use Rattle.std.specs.Prelude.{ℕ, List, length, Some, ◌≡◌, ◌<◌}
 use Rattle.std.specs.declared.option.Option.{Option}
-use Rattle.itpg_run.specs.Served.{longest}
 use Rattle.command_words.specs.declared.status.Status.{Status}
 use Rattle.command_words.specs.declared.status.Status.TheVariants.{Done, DoneRefused, Usage, ReadFault, WriteFault, Memory, TooLong}
 
@@ -34,6 +33,10 @@ EndsRun ReadFault = Unit {0}
 EndsRun WriteFault = Unit {0}
 EndsRun Memory = Unit {0}
 EndsRun TooLong = Unit {0}
+
+-- how many bytes a script may have
+abbrev pub longest : ℕ
+longest = 268435456
 
 -- if the source tells its bytes, there are more than a script may have
 abbrev pub IsTooLong : Option (List ℕ) → Type 0

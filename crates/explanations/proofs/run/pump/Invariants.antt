@@ -1,5 +1,5 @@
 use Rattle.std.proofs.Common.{◌-◌, ◌≤◌}
-use Rattle.itpg_run.specs.Served.{longest}
+use Rattle.explanations.specs.Ends.{longest}
 use Rattle.explanations.specs.Pumping.{Taking}
 use Rattle.explanations.proofs.run.pump.Given as goal
 
