@@ -23,7 +23,7 @@ LONGEST_SHOWN = 240  # bytes of a member's path
 LONGEST_KEPT = 65_538  # bytes of a line
 
 MEANINGS = {
-    "wide": "some member has more rows than the limit",
+    "wide": "some member, or the reply itself, has more rows than the limit",
     "bad long": "the line has more than 65,536 bytes",
     "bad byte": "a byte with which no token begins, or that may not stand in a quoted text",
     "bad tokens": "more than 4,096 tokens",
