@@ -2,7 +2,10 @@
 
 // The end of a reply's head, and when it comes.
 const MEANINGS: [(&str, &str); 25] = [
-    (" wide", "some member, or the reply itself, has more rows than the limit"),
+    (
+        " wide",
+        "some member, or the reply itself, has more rows than the limit",
+    ),
     (" bad long", "the line has more than 65,536 bytes"),
     (
         " bad byte",

@@ -33,29 +33,19 @@ pub(crate) fn add_answer_hints(
 }
 
 // Adds that only existence rules all out, where there are no rows.
-fn add_existence(
-    said: &mut Explained,
-    site: &Site<'_>,
-    query: &Query,
-) -> Result<(), AllocError>
+fn add_existence(said: &mut Explained, site: &Site<'_>, query: &Query) -> Result<(), AllocError>
     requires begun { IsSome site.now.part.begun }
     requires in_range { IsPathInRange (path_term query.now.path) }
     requires terms { path_size (path_term query.now.path) ≤ MAX_TERMS }
 {
-    if said.rows == Some(0)
-        && existence_rules_out(site.alloc, &site.part, query, site.max_rows)?
-    {
+    if said.rows == Some(0) && existence_rules_out(site.alloc, &site.part, query, site.max_rows)? {
         add_hint(said, &AnswerHint::AtAnyMoment.text(site.alloc)?)?;
     }
     Ok(())
 }
 
 // Adds for each repetition from how many times on it adds nothing.
-fn add_repetitions(
-    said: &mut Explained,
-    site: &Site<'_>,
-    query: &Query,
-) -> Result<(), AllocError>
+fn add_repetitions(said: &mut Explained, site: &Site<'_>, query: &Query) -> Result<(), AllocError>
     requires begun { IsSome site.now.part.begun }
     requires in_range { IsPathInRange (path_term query.now.path) }
     requires terms { path_size (path_term query.now.path) ≤ MAX_TERMS }
@@ -67,11 +57,7 @@ fn add_repetitions(
 }
 
 // Adds which moments all lives are within, where the path can pass others.
-fn add_horizon(
-    said: &mut Explained,
-    site: &Site<'_>,
-    query: &Query,
-) -> Result<(), AllocError> {
+fn add_horizon(said: &mut Explained, site: &Site<'_>, query: &Query) -> Result<(), AllocError> {
     match unreached_horizon(site.graph, query) {
         Some(lives) => add_hint(said, &lives.text(site.alloc)?),
         None => Ok(()),
@@ -79,11 +65,7 @@ fn add_horizon(
 }
 
 // Adds the limit of rows that does, where it is above the usual one.
-fn add_limit(
-    said: &mut Explained,
-    site: &Site<'_>,
-    query: &Query,
-) -> Result<(), AllocError>
+fn add_limit(said: &mut Explained, site: &Site<'_>, query: &Query) -> Result<(), AllocError>
     requires begun { IsSome site.now.part.begun }
     requires in_range { IsPathInRange (path_term query.now.path) }
     requires terms { path_size (path_term query.now.path) ≤ MAX_TERMS }

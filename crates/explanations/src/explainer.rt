@@ -8,8 +8,7 @@ use crate::said::said;
 use command_words::Status;
 use itpg_base::{Failed, Limits, Sink};
 use itpg_session::{Seen, Session, StepFault};
-use question_costs::Clock;
-use question_costs::Explained;
+use question_costs::{Clock, Explained};
 use std::alloc::{AllocError, Global};
 
 /// A session, the number of its next line, and whether a reply was bad, refused or wide so far.

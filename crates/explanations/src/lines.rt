@@ -7,8 +7,8 @@ use crate::explainer::Explainer;
 use command_words::Status;
 use itpg_base::{Limits, Sink};
 use itpg_session::StepFault;
-use question_costs::Clock;
 use memchr::memchr;
+use question_costs::Clock;
 use std::alloc::{AllocError, Global};
 
 // How many first bytes of a line are kept. They have the same reply as the whole line.

@@ -11,9 +11,8 @@ use edit_reader::{Line, read_line, room};
 use itpg_base::{Name, ObjNo};
 use itpg_graph::{Graph, Part};
 use match_parser::{QueryFault, law_of_read_queries, read_query};
-use question_costs::Clock;
 use path_ast::Query;
-use question_costs::{Explained, Site};
+use question_costs::{Clock, Explained, Site};
 use source_rows::{near_objects, steps};
 use std::alloc::AllocError;
 
@@ -157,7 +156,11 @@ impl Explainer {
 }
 
 // What is said of a query on a site.
-fn of_query<C: Clock>(query: &Query, site: &Site<'_>, clock: &mut C) -> Result<Explained, AllocError>
+fn of_query<C: Clock>(
+    query: &Query,
+    site: &Site<'_>,
+    clock: &mut C,
+) -> Result<Explained, AllocError>
     requires in_range { IsPathInRange (path_term query.now.path) }
     requires terms { path_size (path_term query.now.path) ≤ MAX_TERMS }
 {
