@@ -4,8 +4,8 @@
     tests/explained.py PROGRAM EXPLAIN [NAME ..]
 
 Each script of `crates/itpg_rows/data` but trials and those of JSON, or each that is named, is run by itpg and by itpg-explain with its
-words. The heads of all replies must be the same, in the same order, and the exit statuses. A question that names a wide member must be
-wide, and its hints must stand behind its head.
+words. The heads of all replies must be the same, in the same order, and the exit statuses. A question of which a wide member is named has
+no answer, and its hints stand behind its head.
 
 It prints what differs and `S scripts, D differ`; its exit status is 1 if D is above 0."""
 import pathlib
@@ -20,6 +20,7 @@ sys.path[:0] = [str(DATA)]
 import model  # noqa: E402
 
 HEAD = re.compile(rb"line \d+ (rows|counts|wide|bad|refused)\b")
+ANSWERED = re.compile(rb"line \d+ (rows|counts) ")
 
 
 def words_of(path):
@@ -51,7 +52,7 @@ def fault_of(replies, status, explained, own_status):
             wide = True
         elif HEAD.match(line):
             head = line
-            if wide and not line.endswith(b" wide"):
+            if wide and ANSWERED.match(line):
                 return f"{line.decode()} isn't wide, and a member is"
         elif line.startswith(b"hint ") and head is None:
             return "a hint stands before a head"
