@@ -18,31 +18,22 @@ use std::alloc::{AllocError, Global};
 // How many bytes a source gives at a call.
 const CHUNK: usize = 65_536;
 
-// Scripts that are passed over: to fill a table of plans anew and to explain it takes as long as all others together.
-const DEAR: [&str; 2] = ["plan_table_of_a_pin_refilled", "plan_table_refilled"];
-
-/// Explains each script of these names that is neither a trial nor one of JSON, prints those that differ, and says how many there were
-/// and how many were passed over.
+/// Explains each script of these names that is neither a trial nor one of JSON, prints those that differ, and says how many there were.
 pub fn compare_explained(rt: &HostRuntime, folder: &str, names: &[String]) -> Result<()> {
     let mut scripts = 0u64;
-    let mut passed_over = 0u64;
     let mut differing = 0u64;
     for name in names {
         let case = Case::read(rt, folder, name.as_str())?;
         let Some(words) = case.plain_words(rt.alloc())? else {
             continue;
         };
-        if DEAR.contains(&name.as_str()) {
-            passed_over = passed_over.saturating_add(1);
-            continue;
-        }
         scripts = scripts.saturating_add(1);
         if !is_alike(rt.alloc(), &case, &words)? {
             println!(rt; "{name}: what is explained differs")?;
             differing = differing.saturating_add(1);
         }
     }
-    println!(rt; "{scripts} scripts explained, {passed_over} passed over, {differing} differ")?;
+    println!(rt; "{scripts} scripts explained, {differing} differ")?;
     Ok(())
 }
 

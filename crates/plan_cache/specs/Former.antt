@@ -1,4 +1,4 @@
--- For the crate's own functions: the numbers that nodes had in a former table.
+-- The numbers that nodes of one table have in another: in a former one, when a table is filled anew.
 use Rattle.std.specs.Prelude.{◌≡◌, ℕ, zero, suc, ◌<◌, ◌≤◌, ◌+◌, List, [], ◌∷◌, length, slice_get, Some, None}
 use Rattle.label_scope.specs.Members.{Member}
 use Rattle.plan_cache.specs.declared.key.PlanKey.{PlanKey}

@@ -54,6 +54,26 @@ impl Plans {
         Ok(numbers)
     }
 
+    /// For each node the number of the node that is of the same path between the same scopes in another table, and `MAX_NODES` if it has
+    /// none there. It looks for each once, by hash.
+    ///
+    /// ```text
+    ///     this table        another table       the numbers
+    ///     0   x:Person      0   x:Room          2
+    ///     1   x:Room        1   x:Edge          0
+    ///     2   x:Car         2   x:Person        65536
+    /// ```
+    ///
+    /// # Errors
+    ///
+    /// If memory runs out.
+    pub fn numbers_in(&self, other: &Plans) -> Result<Vec<PlanNo>, AllocError>
+        ensures each { IfOk result (λ numbers. length numbers.items ≡ length self.now.nodes) }
+        ensures there { IfOk result (λ numbers. AreFormer other.now.nodes self.now.nodes numbers.items) }
+    {
+        former_numbers(&other.nodes, &self.nodes)
+    }
+
     // Takes other nodes in place of its own, and with them what is kept at nodes of the same paths.
     fn replace(&mut self, nodes: Nodes) -> Result<(), AllocError>
         ensures nodes { OnOk result (self.new.nodes ≡ nodes) }

@@ -4,11 +4,5 @@ mod Appended
 mod Firsts
 mod NeededLemmas
 mod NeededLaw
-mod SameScopes
-mod SameLemmas
-mod Marked
 mod RootLemmas
-mod Rebuilt
 mod KeptLemmas
-mod NextNode
-mod GroupLemmas

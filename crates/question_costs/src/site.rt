@@ -133,7 +133,7 @@ impl<'a> Site<'a> {
         ensures { IfOk result (λ text. IsFront self.now.part self.now.max_rows (option_map (λ r. r.now) self.now.plans) (path_term query.now.path) text.items) }
     {
         let root = counted.root;
-        let kept = are_kept(self.alloc, &counted.plans, root, self.plans)?;
+        let kept = are_kept(self.alloc, &counted.plans, self.plans)?;
         let place = counted.first_over();
         let tree = Tree {
             alloc: self.alloc,
