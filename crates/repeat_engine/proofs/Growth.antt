@@ -1,12 +1,15 @@
 -- How the union of the powers 0 to k grows by what is new in it.
-use Rattle.std.proofs.Common.{◌≡◌, ℕ, zero, suc, ◌+◌, ◌-◌, ◌<◌, ◌≤◌, inl, inr, sym, subst, arith, add-zero}
+use Rattle.std.proofs.Common.{◌≡◌, ℕ, zero, suc, ◌+◌, ◌-◌, ◌<◌, ◌≤◌, ◌⊎◌, inl, inr, sym, subst, arith, add-zero}
 use Rattle.std.proofs.Math.Nat.{le-suc_iff}
 use Rattle.repeat_engine.specs.Powers.{Algebra, nth_power, union_of_powers}
 use Rattle.repeat_engine.specs.Composed.{IsLawful}
-use Rattle.repeat_engine.specs.GrownUnions.{IsNewest}
+use Rattle.repeat_engine.specs.GrownUnions.{IsFormer, IsNewest}
 use Rattle.repeat_engine.proofs.PowerLaws.{own_power, power_sum, same_at, first_arg, second_arg}
 use Rattle.repeat_engine.proofs.UnionLaws.{own_union, own_first, power_of_first, union_first}
 use Rattle.repeat_engine.proofs.Order.{first_side, second_side, Has, both_ways, through, has_right, has_left, has_both, has_alike, compose_has_left, compose_has_right}
+
+ordered : (n m : ℕ) → (n ≤ m) ⊎ (m ≤ n)
+ordered n m = grind arith
 
 module _ {M : Type 0} {Alike : M → M → Type 0} {Own Fits : M → Type 0} {algebra : Algebra M} (laws : IsLawful Alike Own Fits algebra) (x : M) (own : Own x) where
   open algebra use {one, compose, unite}
@@ -164,6 +167,65 @@ module _ {M : Type 0} {Alike : M → M → Type 0} {Own Fits : M → Type 0} {al
   pub new_alike : (k : ℕ) (d e : M) → Alike d e → New k d → New k e
   new_alike k d e same n =
       record { fewer = n.fewer; below = n.below; makes = second_side laws (To n.fewer) (back same) ~ n.makes }
+
+  -- ---- what is in the union of fewer powers
+
+  abbrev Former : ℕ → M → Type 0
+  Former k w = IsFormer Alike algebra x k w
+
+  pub former_alike : (n : ℕ) (w v : M) → Alike w v → Former n w → Former n v
+  former_alike n w v same f = record { fewer = f.fewer; below = f.below; within = has_alike laws (laws.same _) same f.within }
+
+  -- twice as far, the union is
+  pub former_first : (k : ℕ) → 1 ≤ k → Former (k + k) (To k)
+  former_first k some = record { fewer = k; below = omega (arith, some); within = laws.united_twice (To k) (own_to k) }
+
+  -- and with it, what is new composed with what is in the union of fewer
+  pub former_more : (k : ℕ) (d w : M) → Own d → Own w → New k d → Former k w → Former (k + k) (unite (To k) (compose d w))
+  former_more k d w own_d own_w n f = record {
+    fewer = k + f.fewer;
+    below = let b = f.below in omega (arith, b);
+    within =
+        has_both laws (To (k + f.fewer)) (To k) (compose d w) (own_to (k + f.fewer)) (own_to k) own_both
+        (to_holds k (k + f.fewer) (omega arith))
+        (has_alike laws (to_sum k f.fewer) (laws.same _)
+        (through laws (compose (To k) (To f.fewer)) (compose d (To f.fewer)) (compose d w)
+        (laws.own_composed _ _ (own_to k) (own_to f.fewer)) (laws.own_composed _ _ own_d (own_to f.fewer)) own_both
+        (compose_has_left laws (To k) d (To f.fewer) (own_to k) own_d (own_to f.fewer) (held_new k n.fewer d own_d n.below n.makes))
+        (compose_has_right laws d (To f.fewer) w own_d (own_to f.fewer) own_w f.within)));
+  }
+    where
+      own_both : Own (compose d w)
+      own_both = laws.own_composed d w own_d own_w
+
+  less_at : (n m : ℕ) (former rest less : M) → Own former → Own rest → Own less → (f : Former n former) (r : New n rest) → f.fewer ≤ m → r.fewer ≤ m → m < n
+      → Alike (unite former less) (unite former rest) → New n less
+  less_at n m former rest less own_former own_rest own_less f r low_f low_r below value =
+      let held : Has laws (To m) former =
+      through laws (To m) (To f.fewer) former (own_to m) (own_to f.fewer) own_former (to_holds f.fewer m low_f) f.within in
+      record {
+        fewer = m;
+        below = below;
+        makes =
+            first_side laws less (back held)
+            ~ laws.united_associative (To m) former less (own_to m) own_former own_less
+            ~ second_side laws (To m) value
+            ~ back (laws.united_associative (To m) former rest (own_to m) own_former own_rest)
+            ~ first_side laws rest held
+            ~ first_side laws rest (back (to_holds r.fewer m low_r))
+            ~ laws.united_associative (To m) (To r.fewer) rest (own_to m) (own_to r.fewer) own_rest
+            ~ second_side laws (To m) r.makes
+            ~ laws.united_commutative (To m) (To n) (own_to m) (own_to n)
+            ~ to_holds m n (omega (arith, below));
+      }
+
+  -- what is new is new still without it
+  pub less_new : (n : ℕ) (former rest less : M) → Own former → Own rest → Own less → Former n former → New n rest → Alike (unite former less) (unite former rest) → New n less
+  less_new n former rest less own_former own_rest own_less f r value =
+      elim (ordered f.fewer r.fewer) [
+        | inl le ↦ less_at n r.fewer former rest less own_former own_rest own_less f r le (omega arith) r.below value
+        | inr le ↦ less_at n f.fewer former rest less own_former own_rest own_less f r (omega arith) le f.below value
+      ]
 
   -- from where a further union is alike, all are
   pub all_stay : (k n : ℕ) → k < n → Alike (To n) (To k) → (m : ℕ) → k ≤ m → Alike (To m) (To k)

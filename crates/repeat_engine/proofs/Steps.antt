@@ -3,14 +3,15 @@ use Rattle.std.proofs.Common.{◌≡◌, ℕ, ◌+◌, ◌*◌, ◌/◌, ◌%◌
 use Rattle.std.specs.Result.{result_ok}
 use Rattle.std.proofs.lemmas.List.Elements.{All-from_recursion}
 use Rattle.itpg_base.specs.Chains.{chain}
+use Rattle.repeat_engine.specs.declared.grown_union.Fresh.{Fresh}
 use Rattle.repeat_engine.specs.declared.grown_union.Grown.{Grown}
 use Rattle.repeat_engine.specs.Powers.{Algebra, union_of_powers}
 use Rattle.repeat_engine.specs.Composed.{IsLawful}
-use Rattle.repeat_engine.specs.GrownUnions.{newest_or, newest_part, IsLatestStep, IsNewest, IsSound, Grows, GrowsOn}
+use Rattle.repeat_engine.specs.GrownUnions.{newest_or, newest_part, IsFormer, IsFresh, IsLatestStep, IsNewest, IsSound, Grows, GrowsOn}
 use Rattle.repeat_engine.proofs.ChainLaws.{chain_one, chain_first, chain_split, chain_join}
-use Rattle.repeat_engine.proofs.UnionLaws.{union_first}
+use Rattle.repeat_engine.proofs.UnionLaws.{own_union, union_first}
 use Rattle.repeat_engine.proofs.Order.{first_side, second_side}
-use Rattle.repeat_engine.proofs.Growth.{to_sum, step_made, double_made, square_new, rest_new, whole_new, new_alike, all_stay}
+use Rattle.repeat_engine.proofs.Growth.{to_sum, step_made, double_made, square_new, rest_new, whole_new, new_alike, former_alike, former_first, former_more, all_stay}
 
 pub pick : {V : Type 0} (P : V → Type 0) (o : Option V) (all : V) → IfSome o P → P all → P (newest_or o all)
 pick P (Some d) all some whole = some
@@ -57,6 +58,16 @@ module _ {M : Type 0} {Alike : M → M → Type 0} {Own Fits : M → Type 0} {al
 
     abbrev On : ℕ → Grown V → Type 0
     On k g = GrowsOn Alike algebra x means k g
+
+    abbrev Former : ℕ → M → Type 0
+    Former k w = IsFormer Alike algebra x k w
+
+    -- what is new, with nothing of fewer powers
+    pub alone_is : (n : ℕ) (f : Fresh V) (v : V) → f.newest ≡ v → f.former ≡ None → New n (means v) → IsFresh Alike algebra x means n f
+    alone_is n f v e none new = record {
+      newest = subst (λ (w : V). New n (means w)) (sym e) new;
+      former = subst (λ (o : Option V). IfSome o (λ w. Former n (means w))) (sym none) tt;
+    }
 
     pub on_below : (k : ℕ) (g : Grown V) → On k g → (k < k + 1) × (k < k + k)
     on_below k g on = let some = on.some in (omega arith, omega (arith, some))
@@ -137,6 +148,23 @@ module _ {M : Type 0} {Alike : M → M → Type 0} {Own Fits : M → Type 0} {al
           let same : Alike (unite (To k) rest) (unite (To k) square) = first_side laws rest (back at.is) ~ beyond ~ first_side laws square at.is in
           rest_new laws x own k (means d) square rest own_d own_square own_rest new value same
 
+      -- something of fewer powers than twice as many
+      pub former_is_whole : (w : M) → Alike w (unite (means g.all) (means g.all)) → Former (k + k) w
+      former_is_whole w value =
+          let at = on.grows in
+          let same : Alike w (To k) = value ~ laws.united_alike _ _ _ _ at.is at.is ~ laws.united_twice (To k) (own_union laws x own k) in
+          former_alike laws x own (k + k) (To k) w (back same) (former_first laws x own k on.some)
+
+      pub former_is_more : (d f : V) (made w : M) → g.newest ≡ Some d → g.former ≡ Some f → Sound g → Alike made (compose (means d) (means f)) → Alike w (unite (means g.all) made) → Former (k + k) w
+      former_is_more d f made w e h s value is =
+          let at = on.grows in
+          let new : New k (means d) = subst (λ (o : Option V). IfSome o (λ v. New k (means v))) e (at.newest on.more) in
+          let old : Former k (means f) = subst (λ (o : Option V). IfSome o (λ v. Former k (means v))) h (at.former on.more) in
+          let own_d : Own (means d) = subst (λ (o : Option V). IfSome o (λ v. Own (means v))) e s.own_newest in
+          let own_f : Own (means f) = subst (λ (o : Option V). IfSome o (λ v. Own (means v))) h s.own_former in
+          let same : Alike w (unite (To k) (compose (means d) (means f))) = is ~ laws.united_alike _ _ _ _ at.is value in
+          former_alike laws x own (k + k) _ w (back same) (former_more laws x own k (means d) (means f) own_d own_f new old)
+
       module _ (n : ℕ) (below : k < n) (all : M) (is : Alike all (To n)) where
         -- where nothing was added, nothing is added from there on
         pub nothing_more : Alike all (means g.all) → (m : ℕ) → n ≤ m → Alike (To m) (To n)
@@ -151,6 +179,7 @@ module _ {M : Type 0} {Alike : M → M → Type 0} {Own Fits : M → Type 0} {al
     done_at k n g le done at = record {
       is = at.is ~ back (at.stays done n le);
       newest = λ e. absurd (false_not_true g.done e done);
+      former = λ e. absurd (false_not_true g.done e done);
       stays = λ t m above. let far : k ≤ m = omega (arith, le, above) in at.stays t m far ~ back (at.stays t n le);
     }
 

@@ -6,7 +6,7 @@ ghost use Rattle.repeat_engine.specs.GrownUnions.{newest_or, OfEach, IsNewest, I
 
 use crate::Composed;
 use crate::calls::{compose, union};
-use crate::grown_union::{Grown, grown_to, newest_of};
+use crate::grown_union::{Grown, alone, grown_to, newest_of};
 
 /// Twice as far by single steps, while these look much cheaper than what is new composed with the union. None where they
 /// don't, or where what they need doesn't fit.
@@ -77,7 +77,7 @@ fn step_from<C: Composed>(c: &C, x: &C::Value, half: &Grown<C::Value>) -> Option
         return None;
     };
     let newest = trimmed(c, half, &all, made);
-    Some(grown_to(c, half, all, Some(newest)))
+    Some(grown_to(c, half, all, Some(alone(newest))))
 }
 
 /// One step further. Where a single step doesn't do, the union is composed with that of the powers 0 and 1.

@@ -92,6 +92,7 @@ fn grown_first<C: Composed>(
     Ok(Grown {
         all,
         newest,
+        former: None,
         done: false,
     })
 }

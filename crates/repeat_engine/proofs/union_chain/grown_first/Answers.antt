@@ -17,6 +17,8 @@ returns-clause-sound g c = record {
   fits_all = c.in_ok-all.ensures.fits;
   own_newest = kept _ _ (λ v h. h) c.union-2.result c.ok-newest.result c.ok-newest.ensures.value c.union-2.ensures.own;
   fits_newest = kept _ _ (λ v h. h) c.union-2.result c.ok-newest.result c.ok-newest.ensures.value c.union-2.ensures.fits;
+  own_former = tt;
+  fits_former = tt;
 }
 
 pub returns-clause-grows : goal.returns-clause-grows
@@ -29,5 +31,6 @@ returns-clause-grows g c =
       is = laws.joined _ _ _ c.in_ok-all.ensures.value (first_is laws m.means x c.requires.own_x (m.means c.args.first.now) c.requires.own_first c.requires.first);
       newest = λ e. kept _ _ (λ v h. first_new laws m.means x c.requires.own_x (m.means v) h)
           c.union-2.result c.ok-newest.result c.ok-newest.ensures.value c.union-2.ensures.value;
+      former = λ e. tt;
       stays = λ t. no_truth t;
     }
