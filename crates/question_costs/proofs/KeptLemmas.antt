@@ -1,8 +1,7 @@
 -- The members that are said to be kept.
-use Rattle.std.proofs.Common.{◌≡◌, ◌↔◌, ℕ, zero, suc, ◌<◌, Bool, List, [], ◌∷◌, ◌++◌, ◌⊎◌, length, slice_get, Option, Some, inl, inr, refl, sym, ap, subst, ◌∙◌, arith}
-use Rattle.std.specs.Prelude.{IsSome, IsSomeAnd, IsTrue}
+use Rattle.std.proofs.Common.{◌≡◌, ◌↔◌, ℕ, zero, suc, ◌+◌, ◌<◌, Bool, List, [], ◌∷◌, ◌++◌, ◌⊎◌, length, slice_get, slice_index_or, Some, None, inl, inr, refl, sym, ap, subst, ◌∙◌, arith}
+use Rattle.std.specs.Prelude.{IsSome, IsTrue}
 use Rattle.std.proofs.lemmas.Bool.{false≢true}
-use Rattle.std.proofs.lemmas.List.{length-append}
 use Rattle.itpg_base.proofs.Objects.{there, here}
 use Rattle.label_scope.specs.Members.{Member}
 use Rattle.relation_rows.specs.declared.rows.Row.{Row}
@@ -25,6 +24,11 @@ at_end zero zero l = inr refl
 at_end zero (suc e) l = inl (omega arith)
 at_end (suc k) zero l = absurd (let none : ⊥ = omega arith in none)
 at_end (suc k) (suc e) l = elim (at_end k e (omega arith)) [ inl h ↦ inl (omega arith) | inr f ↦ inr (ap suc f) ]
+
+pub number_got : (numbers : List PlanNo) (k : ℕ) (d : PlanNo) → k < length numbers → (slice_index_or numbers k d).0 ≡ number_at numbers k
+number_got [] k d l = absurd (let none : ⊥ = omega (arith, l) in none)
+number_got (x ∷ numbers) zero d l = refl
+number_got (x ∷ numbers) (suc k) d l = number_got numbers k d (omega (arith, l))
 
 -- the first marks, so many, are right
 abbrev pub AreRight : List Kept → List PlanNo → ℕ → List Bool → Type 0

@@ -1,9 +1,8 @@
 //! Which members of a question have a relation in another table of plans.
-ghost use Rattle.std.specs.Prelude.{◌≡◌, ◌<◌, ◌↔◌, ℕ, length, option_map, slice_get, Some, IfOk, IsSome, IsSomeAnd, IsTrue};
-ghost use Rattle.plan_cache.specs.Former.{number_at};
-ghost use Rattle.question_costs.specs.Kept.{AreAllKept, AreKeptOnly, HasRelation, is_kept_at};
+ghost use Rattle.std.specs.Prelude.{◌↔◌, option_map, Some, IfOk, IsTrue};
+ghost use Rattle.question_costs.specs.Kept.{AreAllKept, AreKeptOnly, HasRelation};
 
-use plan_cache::{PlanNo, Plans};
+use plan_cache::{PlanNo, Plans, law_of_shared_nodes};
 use std::alloc::{AllocError, Global};
 
 /// Of each node of a question's table, whether a relation is kept at the node of the same path between the same scopes in another
@@ -23,22 +22,21 @@ pub(crate) fn are_kept(
     ensures each { IfOk result (λ kept. AreAllKept nodes.now.nodes (option_map (λ r. r.now) other.entry) kept.items) }
 {
     match other {
-        Some(other) => {
-            let numbers = nodes.numbers_in(other)?;
-            kept_at(alloc, &numbers, other)
-        }
+        Some(other) => kept_in(alloc, nodes, other),
         None => Ok(Vec::new(alloc)),
     }
 }
 
-// Of each of these numbers, whether a relation is kept at the node that has it.
-fn kept_at(alloc: Global, numbers: &[PlanNo], plans: &Plans) -> Result<Vec<bool>, AllocError>
-    ensures each { IfOk result (λ kept. length kept.items ≡ length numbers.now) }
-    ensures kept { IfOk result (λ kept. (k : ℕ) → k < length numbers.now → IsTrue (is_kept_at kept.items k) ↔ HasRelation plans.now.kept (number_at numbers.now k)) }
+// The same for another table.
+fn kept_in(alloc: Global, nodes: &Plans, other: &Plans) -> Result<Vec<bool>, AllocError>
+    ensures only { IfOk result (λ kept. AreKeptOnly nodes.now.nodes (Some other.now) kept.items) }
+    ensures each { IfOk result (λ kept. AreAllKept nodes.now.nodes (Some other.now) kept.items) }
 {
+    law_of_shared_nodes(other);
+    let numbers = nodes.numbers_in(other)?;
     let mut kept = Vec::new(alloc);
     for place in 0..numbers.len() {
-        kept.push(has_relation(plans, numbers[place]))?;
+        kept.push(has_relation(other, numbers[place]))?;
     }
     Ok(kept)
 }
