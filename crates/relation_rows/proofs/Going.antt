@@ -53,7 +53,7 @@ pushed_by source zone s old next way of pushed x y = (
       h),
 )
 
-item_at : (items : List Item) (k : ℕ) (i : Item) → slice_get items k ≡ Some i → (x y : Point) → InItem i x y → ItemsHold items x y
+pub item_at : (items : List Item) (k : ℕ) (i : Item) → slice_get items k ≡ Some i → (x y : Point) → InItem i x y → ItemsHold items x y
 item_at [] zero i e x y h = let none : ⊥ = cc in absurd none
 item_at [] (suc k) i e x y h = let none : ⊥ = cc in absurd none
 item_at (j ∷ js) zero i e x y h = let same : j ≡ i = cc in (i, inl same, h)

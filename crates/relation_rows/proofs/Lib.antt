@@ -46,3 +46,4 @@ pub mod CutRows
 pub mod Neighbours
 pub mod BandWays
 pub mod OffsetLemmas
+mod Thinning

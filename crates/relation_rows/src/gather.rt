@@ -17,7 +17,7 @@ ghost use Rattle.band_normal.specs.Zones.{SomeMeets};
 ghost use Rattle.relation_rows.specs.declared.rows.Row.{Row};
 ghost use Rattle.relation_rows.specs.Rows.{KeyBefore, RowsHold, NormalRows, rows_at};
 ghost use Rattle.relation_rows.specs.Answers.{Gives};
-ghost use Rattle.relation_rows.specs.Relations.{Item, ItemsHold, Rise};
+ghost use Rattle.relation_rows.specs.Relations.{InItem, Item, ItemsHold, Rise};
 ghost use Rattle.relation_rows.specs.Gathering.{ItemUpTo, HaveOneKey, IsCounted, have_one_key};
 
 use crate::known::Known;
@@ -26,6 +26,7 @@ use crate::rows::{RelFault, Row};
 use band_normal::{Band, normal, push_bands_of, zone_of};
 use itpg_base::{ObjNo, count_leading};
 use std::alloc::{AllocError, Global};
+use std::cmp::Reverse;
 use zone_core::Zone;
 
 // For so many rows at most there is room from the start.
@@ -71,16 +72,15 @@ fn push_zone(zones: &mut Vec<Zone>, zone: &Zone) -> Result<(), AllocError>
     Ok(())
 }
 
-/// Zones that have the pairs of the items' zones.
-pub(crate) fn zones_of(alloc: Global, items: &[Item]) -> Result<Vec<Zone>, AllocError>
-    ensures { IfOk result (λ zones. (t : ℤ) → (u : ℤ) → SomeMeets zones.items t u ↔ SomeMeets (map (λ (i : Item). i.2) items.now) t u) }
+/// Fills the list with zones that have the pairs of the items' zones. What it held is gone.
+pub(crate) fn fill_zones(zones: &mut Vec<Zone>, items: &[Item]) -> Result<(), AllocError>
+    ensures { OnOk result ((t : ℤ) → (u : ℤ) → SomeMeets zones.new.items t u ↔ SomeMeets (map (λ (i : Item). i.2) items.now) t u) }
 {
-    let mut zones = Vec::new(alloc);
+    zones.clear();
     for item in items {
-        let zone = item.2;
-        push_zone(&mut zones, &zone)?;
+        push_zone(zones, &item.2)?;
     }
-    Ok(zones)
+    Ok(())
 }
 
 // Fills the list with the normal bands of the items' zones. What it held is gone.
@@ -139,12 +139,13 @@ pub(crate) fn gathered(known: &mut Known, items: &[Item], room: usize) -> Result
     Ok(Relation { rows })
 }
 
-// By this items are sorted: by source and target, and then such that a zone often lies inside the one before it.
-fn place_of(item: &Item) -> ((ObjNo, ObjNo), (i64, i64))
-    ensures { result ≡ ((item.now.0, item.now.1), (item.now.2.a, item.now.2.c)) }
+// By this items are sorted: by source and target, and then such that a zone often lies inside the one before it. Of those that begin
+// together the longest comes first.
+fn place_of(item: &Item) -> ((ObjNo, ObjNo), (i64, i64, Reverse<i64>))
+    ensures { result ≡ ((item.now.0, item.now.1), (item.now.2.a, item.now.2.c, record { 0 = item.now.2.b })) }
 {
     let bounds = item.2.bounds();
-    ((item.0, item.1), (bounds.a, bounds.c))
+    ((item.0, item.1), (bounds.a, bounds.c, Reverse(bounds.b)))
 }
 
 /// Puts the items in order.
@@ -153,6 +154,47 @@ pub(crate) fn sort_items(items: &mut Vec<Item>)
     ensures same { IsPermutation items.old.items items.new.items }
 {
     items.sort_unstable_by_key(|item| place_of(item));
+}
+
+// Whether the item has no pair that the other hasn't. False also where that isn't seen.
+fn is_inside(item: &Item, other: &Item) -> bool
+    ensures { IsTrue result → (x : Point) → (y : Point) → InItem item.now x y → InItem other.now x y }
+{
+    are_of_one_key(item, other) && item.2.inside(&other.2)
+}
+
+// Adds the item, unless the last one has all its pairs.
+fn push_outer(items: &mut Vec<Item>, item: &Item) -> Result<(), AllocError>
+    ensures { OnOk result ((x : Point) → (y : Point) → ItemsHold items.new.items x y ↔ (ItemsHold items.old.items x y ⊎ InItem item.now x y)) }
+{
+    let last = items.last().copied();
+    if let Some(last) = last
+        && is_inside(item, &last)
+    {
+        return Ok(());
+    }
+    items.push(*item)?;
+    Ok(())
+}
+
+// The items without those that lie inside the last one before them that is left.
+fn outer_of(alloc: Global, items: &[Item]) -> Result<Vec<Item>, AllocError>
+    ensures { IfOk result (λ left. (x : Point) → (y : Point) → ItemsHold left.items x y ↔ ItemsHold items.now x y) }
+{
+    let mut left = Vec::new(alloc);
+    for item in items {
+        push_outer(&mut left, item)?;
+    }
+    Ok(left)
+}
+
+/// The items in order, without those that lie inside the last one before them that is left.
+pub(crate) fn thinned(mut items: Vec<Item>) -> Result<Vec<Item>, AllocError>
+    ensures { IfOk result (λ left. (x : Point) → (y : Point) → ItemsHold left.items x y ↔ ItemsHold items.items x y) }
+{
+    sort_items(&mut items);
+    let left = outer_of(*items.allocator(), &items)?;
+    Ok(left)
 }
 
 /// The relation of the items, in whatever order they stand.

@@ -8,10 +8,11 @@ ghost use Rattle.band_normal.specs.Normal.{Normal};
 ghost use Rattle.band_normal.specs.Zones.{SomeMeets};
 ghost use Rattle.relation_rows.specs.Relations.{Item};
 
-use crate::gather::{Item, zones_of};
+use crate::gather::{Item, fill_zones};
 use band_normal::{Band, normal};
 use std::alloc::{AllocError, Global};
 use std::marker::Model;
+use std::mem::swap;
 use zone_core::Zone;
 
 /// Some zones, and the normal bands of their union. A contract sees the bands.
@@ -19,6 +20,8 @@ use zone_core::Zone;
 pub(crate) struct Known {
     zones: Vec<Zone>,
     bands: Vec<Band>,
+    // Memory for the zones that are to be learned next.
+    fresh: Vec<Zone>,
 }
 
 impl Model for Known {
@@ -41,6 +44,7 @@ impl Known {
         Known {
             zones: Vec::new(alloc),
             bands: Vec::new(alloc),
+            fresh: Vec::new(alloc),
         }
     }
 
@@ -62,13 +66,13 @@ impl Known {
         ensures formed { OnOk result ((b : PlainBand) → Among self.new b → IsWellFormed b) }
     {
         let alloc = self.allocator();
-        let zones = zones_of(alloc, items)?;
-        if zones == self.zones {
+        fill_zones(&mut self.fresh, items)?;
+        if self.fresh == self.zones {
             return Ok(());
         }
-        let known = Vec::from_slice(alloc, &zones)?;
+        let zones = Vec::from_slice(alloc, &self.fresh)?;
         self.bands = normal(alloc, zones)?;
-        self.zones = known;
+        swap(&mut self.zones, &mut self.fresh);
         Ok(())
     }
 }

@@ -10,6 +10,7 @@ pub mod answered;
 mod apart;
 mod compose;
 mod direct;
+mod fewer;
 mod gather;
 mod held;
 mod idle;

@@ -16,7 +16,7 @@ use std::marker::Model;
 const SPARSE: usize = 8;
 
 // If there are more rows than these for each search, no places are listed.
-const MANY: usize = 4;
+const MANY: usize = 64;
 
 /// Rows in order, and the places at which those from an object begin, one for each object from the first source to the one behind the
 /// last. A contract sees the rows.

@@ -103,7 +103,7 @@ pub(crate) fn timetable(alloc: Global, rows: &[Row]) -> Result<Vec<Leg>, AllocEr
     ensures holds { IfOk result (λ legs. (x : Point) → (y : Point) → LegsHold legs.items x y ↔ RowsHold rows.now x y) }
 {
     let sorted = by_source(alloc, rows)?;
-    let mut legs = Vec::new(alloc);
+    let mut legs = Vec::with_capacity(alloc, sorted.len())?;
     push_legs(&mut legs, &sorted)?;
     Ok(legs)
 }

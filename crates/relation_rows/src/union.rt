@@ -123,7 +123,7 @@ pub(crate) fn united(
     requires second { IsRelation second.now }
     ensures { Gives result (EitherHolds first.now second.now) max_rows }
 {
-    let mut rows = Vec::with_capacity(alloc, first.len().max(second.len()))?;
+    let mut rows = Vec::with_capacity(alloc, first.len() + second.len())?;
     let mut known = Known::new(alloc);
     let mut left = first;
     let mut right = second;

@@ -2,8 +2,8 @@
 //!
 //! The rows from one object stand together, from a place that is listed. A few of them are gone through; if there are more, those
 //! that depart in time are searched in a timetable, which has only the rows from such busy objects, and which is made only if few of
-//! them do. A way that lies within the last one is passed over. Where the ways become many, the zones of their normal rows stand for
-//! them from then on, so that ways that lie within others take no memory for long.
+//! them do. A way that lies within the last one is passed over. Where the ways become many they are made fewer (`fewer`), so that ways
+//! that lie within others take no memory for long.
 
 ghost use Rattle.std.specs.Prelude.{◌≡◌, ◌⊎◌, ◌↔◌, ◌<◌, ℤ, length, IsTrue, IfOk, OnOk};
 ghost use Rattle.itpg_base.specs.Points.{Point};
@@ -17,7 +17,8 @@ ghost use Rattle.relation_rows.specs.Timetables.{IsTimetable};
 ghost use Rattle.relation_rows.specs.Ways.{ItemThere, GoesBy, GoesOn, GoesOnBy, GoesThrough, IsStill, AreComposed};
 
 use crate::direct::{first_arrival, last_arrival};
-use crate::gather::{Item, gathered_all, push_zones};
+use crate::fewer::{fewer_beyond, most_ways};
+use crate::gather::Item;
 use crate::offsets::Offsets;
 use crate::rows::Row;
 use crate::timetable::{Leg, find_departing};
@@ -254,20 +255,6 @@ fn push_ways(
     Ok(())
 }
 
-// The ways as they are, or the zones of their rows where they are more than `most`.
-fn united_beyond(ways: Vec<Item>, most: usize) -> Result<Vec<Item>, AllocError>
-    ensures { IfOk result (λ zones. (x : Point) → (y : Point) → ItemsHold zones.items x y ↔ ItemsHold ways.items x y) }
-{
-    if ways.len() <= most {
-        return Ok(ways);
-    }
-    let alloc = *ways.allocator();
-    let relation = gathered_all(alloc, ways)?;
-    let mut zones = Vec::new(alloc);
-    push_zones(&mut zones, &relation.rows)?;
-    Ok(zones)
-}
-
 /// The ways that there are, and those that begin with one of the rows.
 pub(crate) fn with_ways(
     ways: Vec<Item>,
@@ -281,11 +268,12 @@ pub(crate) fn with_ways(
     ensures { IfOk result (λ all. (x : Point) → (y : Point) → ItemsHold all.items x y ↔ (ItemsHold ways.items x y ⊎ HasMiddlePoint rows.now second.now x y)) }
 {
     let mut all = ways;
-    let mut most = MANY;
+    let mut most = most_ways(&all);
     for row in rows {
-        most = most.max(all.len().saturating_mul(2));
         push_ways(&mut all, found, row, second, busy)?;
-        all = united_beyond(all, most)?;
+        let (left, count) = fewer_beyond(all, most)?;
+        all = left;
+        most = count;
     }
     Ok(all)
 }

@@ -7,4 +7,4 @@ use Rattle.relation_rows.proofs.gather.sort_items.Goals as goal
 pub returns-clause-order : goal.returns-clause-order
 returns-clause-order c =
     sorted_items c.sort_unstable_by_key.new.self.items
-    (λ k d le lt. first_not_less _ _ (c.sort_unstable_by_key.ensures.sorted (λ (i : Item). ((i.0, i.1), (i.2.a, i.2.c))) (always_returns_same _ _ _ (λ a r q k. search (rules, of_calls))) k d le lt))
+    (λ k d le lt. first_not_less _ _ (c.sort_unstable_by_key.ensures.sorted (λ (i : Item). ((i.0, i.1), (i.2.a, i.2.c, record { 0 = i.2.b }))) (always_returns_same _ _ _ (λ a r q k. search (rules, of_calls))) k d le lt))

@@ -12,7 +12,7 @@ pub returns : goal.returns
 returns c =
     let permutation = c.in_ok-sorted.ensures.same in
     let has = c.in_ok-push_legs.ensures in
-    let all : c.push_legs.new.legs.items ≡ has.0 = has.1 ∙ ap (λ (v : List Leg). v ++ has.0) c.new-legs.ensures.items in
+    let all : c.push_legs.new.legs.items ≡ has.0 = has.1 ∙ ap (λ (v : List Leg). v ++ has.0) c.in_ok-legs.ensures.items in
     let table = table_of c.args.rows.now c.in_ok-sorted.sorted.items permutation has.0 (has.2 ∙ c.deref.ensures.value) (legs_ordered has.0 (subst (λ (v : List Row). Ordered DepartsUpTo v) (sym (has.2 ∙ c.deref.ensures.value)) c.in_ok-sorted.ensures.order)) has.3 c.requires has.4 in
     let holds = legs_hold c.args.rows.now c.in_ok-sorted.sorted.items permutation has.0 (has.2 ∙ c.deref.ensures.value) in
     record {

@@ -6,7 +6,7 @@ loop-row-init c = no_rows c.args.ways.items c.args.rows.now c.args.second.now
 
 pub loop-row-preserved : goal.loop-row-preserved
 loop-row-preserved c =
-    row_more c.args.ways.items _ _ _ c.args.rows.now c.args.second.now c.loop-row.row-index _ c.loop-row-test.true c.in_ok-push_ways.ensures c.in_ok-all.ensures c.loop-row.invariant
+    row_more c.args.ways.items _ _ _ c.args.rows.now c.args.second.now c.loop-row.row-index _ c.loop-row-test.true c.in_ok-push_ways.ensures c.in_ok-left.ensures c.loop-row.invariant
 
 pub returns : goal.returns
 returns c = every_row c.args.ways.items _ c.args.rows.now c.args.second.now c.loop-row.row-index c.loop-row-test.false c.loop-row.invariant

@@ -3,7 +3,7 @@ use Rattle.relation_rows.specs.declared.rows.Row.{Row}
 use Rattle.relation_rows.specs.Rows.{RowsHold}
 use Rattle.relation_rows.specs.Relations.{ItemsHold}
 use Rattle.relation_rows.proofs.Alike.{hold_only, rows_hold}
-use Rattle.relation_rows.proofs.ways.united_beyond.Goals as goal
+use Rattle.relation_rows.proofs.fewer.united_beyond.Goals as goal
 
 pub returns : goal.returns
 returns c =

@@ -1,9 +1,9 @@
 use Rattle.std.proofs.Common.{ap}
 use Rattle.relation_rows.proofs.ItemZones.{zone_of_item, no_zones, zone_more, all_zones}
-use Rattle.relation_rows.proofs.gather.zones_of.Goals as goal
+use Rattle.relation_rows.proofs.gather.fill_zones.Goals as goal
 
 pub loop-item-init : goal.loop-item-init
-loop-item-init c = no_zones c.args.items.now c.new-zones.result.items c.new-zones.ensures.items
+loop-item-init c = no_zones c.args.items.now _ c.clear.ensures.items
 
 pub loop-item-preserved : goal.loop-item-preserved
 loop-item-preserved c =
