@@ -39,7 +39,7 @@ pub(crate) fn is_absent(graph: &Graph, site: &Site) -> bool
     ensures there { result ≡ false → IsThere graph.now site.now.object.0 site.now.span }
     ensures missing { result ≡ true → (t : ℤ) × Within t site.now.span × (¬ Exists graph.now site.now.object.0 t) }
 {
-    !graph.live(site.object).covers(site.span)
+    !graph.exists_throughout(site.object, site.span)
 }
 
 /// Whether an end of the object is missing at some moment of the span. A node has no ends.

@@ -1,5 +1,8 @@
 -- What a stored object is seen as.
-use Rattle.std.specs.Prelude.{Bool, true, false, List, []}
+use Rattle.std.specs.Prelude.{Bool, true, false, ℤ, List, [], Option, IfSome}
+use Rattle.itpg_base.specs.Words.{Word}
+use Rattle.itpg_base.specs.Spans.{Span, Within, Covers}
+use Rattle.itpg_base.specs.declared.object_number.ObjNo.{ObjNo}
 use Rattle.itpg_base.specs.Graphs.{Object}
 use Rattle.itpg_graph.specs.Kinds.{ends_of}
 use Rattle.itpg_graph.specs.declared.stored.Record.{Record}
@@ -9,6 +12,10 @@ abbrev pub where_standing : {X : Type 0} → Bool → List X → List X
 where_standing true xs = xs
 where_standing false xs = []
 
--- the object with this record
-abbrev pub object_by : Bool → Record → Object
-object_by standing r = record { name = r.name; labels = r.labels; ends = ends_of r.ends; standing = standing; live = where_standing standing r.live; properties = where_standing standing r.properties }
+-- the object with these labels, ends and record
+abbrev pub object_by : Bool → List Word → Option (ObjNo × ObjNo) → Record → Object
+object_by standing labels ends r = record { name = r.name; labels = labels; ends = ends_of ends; standing = standing; live = where_standing standing r.live; properties = where_standing standing r.properties }
+
+-- the object exists at each moment of the span that is kept of it
+abbrev pub AreSure : Option Span → List Span → Type 0
+AreSure sure live = IfSome sure (λ s. (t : ℤ) → Within t s → Covers live t)

@@ -177,8 +177,8 @@ impl Graph {
     {
         let alloc = *self.objects.allocator();
         let object = &mut self.objects[o.0 as usize];
-        let ends = object.as_record().ends;
-        self.by_label.remove(object.as_record().labels.set(), o);
+        let ends = object.ends();
+        self.by_label.remove(object.labels(), o);
         object.fall(alloc);
         if let Some((source, target)) = ends {
             self.out.remove(source, o);

@@ -161,7 +161,7 @@ impl Graph {
         requires { Stands self.now o.0 }
         ensures { ObjectIs self.now o.0 (λ x. result ≡ kind_of x) }
     {
-        match self.objects[o.0 as usize].as_record().ends {
+        match self.objects[o.0 as usize].ends() {
             Some(_) => Kind::Edge,
             None => Kind::Node,
         }
@@ -173,7 +173,7 @@ impl Graph {
         ensures ends { ObjectIs self.now o.0 (λ x. ends_of result ≡ x.ends) }
         ensures nodes { IfSome result (λ n. IsNode self.now n.0.0 × IsNode self.now n.1.0) }
     {
-        self.objects[o.0 as usize].as_record().ends
+        self.objects[o.0 as usize].ends()
     }
 
     /// The labels of the object.
@@ -189,7 +189,7 @@ impl Graph {
         requires { Stands self.now o.0 }
         ensures { ObjectIs self.now o.0 (λ x. result.now ≡ x.labels) }
     {
-        self.objects[o.0 as usize].as_record().labels.set()
+        self.objects[o.0 as usize].labels()
     }
 
     // Whether the object has the label.

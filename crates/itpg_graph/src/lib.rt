@@ -12,6 +12,7 @@ mod laws;
 mod links;
 mod numbers;
 mod part;
+mod presence;
 mod properties;
 mod shared_labels;
 mod stored;

@@ -1,5 +1,6 @@
 //! What is kept of a graph and of an object.
-ghost use Rattle.std.specs.Prelude.{◌≡◌, IsTrue, IfOk, OnOk, OnErr};
+ghost use Rattle.std.specs.Prelude.{◌≡◌, ◌⊎◌, ◌↔◌, ℤ, Some, IsTrue, IfOk, OnOk, OnErr};
+ghost use Rattle.itpg_base.specs.Spans.{Within, Covers};
 ghost use Rattle.itpg_graph.specs.Changes.{new_object, dropped};
 ghost use Rattle.itpg_graph.specs.Kinds.{ends_of};
 ghost use Rattle.itpg_graph.specs.Objects.{ObjectJoins, ObjectCuts, ObjectPuts, ObjectClears};
@@ -7,7 +8,7 @@ ghost use Rattle.itpg_graph.specs.Objects.{ObjectJoins, ObjectCuts, ObjectPuts, 
 use crate::properties::Properties;
 use crate::shared_labels::SharedLabels;
 use interval_set::{IntervalSet, Span};
-use itpg_base::{Name, ObjNo};
+use itpg_base::{LabelSet, Name, ObjNo};
 use std::alloc::{AllocError, Global};
 use std::marker::Model;
 use std::rc::Rc;
@@ -24,9 +25,6 @@ pub(crate) struct Opened {
 pub(crate) struct Record {
     pub(crate) live: IntervalSet,
     pub(crate) properties: Properties,
-    pub(crate) labels: SharedLabels,
-    /// Of an edge, its source and its target.
-    pub(crate) ends: Option<(ObjNo, ObjNo)>,
     pub(crate) name: Name,
 }
 
@@ -34,13 +32,10 @@ impl Clone for Record {
     ghost is_clone = { λ old copy. copy ≡ old };
 
     fn clone(&self) -> Result<Record, AllocError> {
-        let labels = self.labels.share()?;
         let live = self.live.copy()?;
         let properties = self.properties.copy()?;
         Ok(Record {
             name: self.name,
-            labels,
-            ends: self.ends,
             live,
             properties,
         })
@@ -49,20 +44,40 @@ impl Clone for Record {
 
 /// An object that was declared. Equal graphs share its record: the one that changes it makes a record of its own first.
 ///
-/// A contract sees it as an object of the plain graph. Whether it stands isn't shared, so a drop takes no memory.
+/// A contract sees it as an object of the plain graph. Whether it stands isn't shared, so a drop takes no memory. What is asked of many
+/// objects one after another stands beside the record, so that this needn't be looked into.
 #[derive(Drop)]
 pub(crate) struct Stored {
     standing: bool,
+    // Of an edge, its source and its target.
+    ends: Option<(ObjNo, ObjNo)>,
+    labels: SharedLabels,
+    // Moments at which it exists: all of them, for the many objects that exist in one span.
+    sure: Option<Span>,
     shared: Rc<Record>,
 }
 
 impl Model for Stored {
     ghost use Rattle.itpg_base.specs.Graphs.{Object};
-    ghost use Rattle.itpg_graph.specs.Records.{object_by};
+    ghost use Rattle.itpg_graph.specs.Records.{object_by, AreSure};
 
     ghost Value = { Object };
 
-    ghost view = { λ s. object_by s.standing s.shared.value };
+    ghost view = { λ s. object_by s.standing s.labels s.ends s.shared.value };
+
+    ghost invariant = { λ s. AreSure s.sure s.shared.value.live };
+}
+
+// The longer of the two spans.
+fn longer(first: Span, second: Span) -> Span
+    ensures { (result ≡ first) ⊎ (result ≡ second) }
+{
+    let count = first.to().saturating_sub(first.from());
+    if count < second.to().saturating_sub(second.from()) {
+        second
+    } else {
+        first
+    }
 }
 
 impl Stored {
@@ -77,13 +92,14 @@ impl Stored {
     {
         let first = Record {
             name,
-            labels,
-            ends,
             live: IntervalSet::new(alloc),
             properties: Properties::new(alloc),
         };
         Ok(Stored {
             standing: true,
+            ends,
+            labels,
+            sure: None,
             shared: Rc::new(alloc, first)?,
         })
     }
@@ -94,6 +110,9 @@ impl Stored {
     {
         Ok(Stored {
             standing: self.standing,
+            ends: self.ends,
+            labels: self.labels.share()?,
+            sure: self.sure,
             shared: self.shared.clone()?,
         })
     }
@@ -112,15 +131,41 @@ impl Stored {
         self.shared.name
     }
 
+    /// Of an edge, its source and its target.
+    pub(crate) fn ends(&self) -> Option<(ObjNo, ObjNo)>
+        ensures { ends_of result ≡ self.now.ends }
+    {
+        self.ends
+    }
+
+    /// The labels, where they lie.
+    pub(crate) fn labels(&self) -> &LabelSet
+        ensures { result.now ≡ self.now.labels }
+    {
+        self.labels.set()
+    }
+
     /// The record of an object that stands.
     pub(crate) fn as_record(&self) -> &Record
         requires { IsTrue self.now.standing }
-        ensures labels { result.now.labels ≡ self.now.labels }
-        ensures ends { ends_of result.now.ends ≡ self.now.ends }
         ensures live { result.now.live ≡ self.now.live }
         ensures properties { result.now.properties ≡ self.now.properties }
     {
         &self.shared
+    }
+
+    /// Whether it exists at each moment of the span.
+    pub(crate) fn covers(&self, s: Span) -> bool
+        requires { IsTrue self.now.standing }
+        ensures { IsTrue result ↔ ((t : ℤ) → Within t s → Covers self.now.live t) }
+    {
+        if let Some(sure) = self.sure
+            && sure.from() <= s.from()
+            && s.to() <= sure.to()
+        {
+            return true;
+        }
+        self.shared.live.covers(s)
     }
 
     /// Lets the object exist at the moments of the span too. Without memory nothing changes.
@@ -131,6 +176,10 @@ impl Stored {
     {
         let own = Rc::make_mut(&mut self.shared)?;
         own.live.join_span(s)?;
+        self.sure = match self.sure {
+            Some(sure) => Some(longer(sure, s)),
+            None => Some(s),
+        };
         Ok(())
     }
 
@@ -140,6 +189,7 @@ impl Stored {
         ensures ok { OnOk result (ObjectCuts self.old s self.new) }
         ensures err { OnErr result (self.new ≡ self.old) }
     {
+        self.sure = None;
         let own = Rc::make_mut(&mut self.shared)?;
         let properties = own.properties.cut(s)?;
         own.live.cut_span(s)?;
@@ -174,6 +224,7 @@ impl Stored {
         ensures { self.new ≡ dropped self.old }
     {
         self.standing = false;
+        self.sure = None;
         if let Some(own) = Rc::get_mut(&mut self.shared) {
             own.live = IntervalSet::new(alloc);
             own.properties = Properties::new(alloc);

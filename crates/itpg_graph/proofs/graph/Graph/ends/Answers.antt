@@ -13,4 +13,4 @@ returns-clause-nodes c =
     let s = c.index.result.now in
     let stands = subst (λ g. Stands g o) (sym c.self.view_is) c.requires in
     let at : slice_get items o ≡ Some s = slice_get_read items (length items) o s refl (is_within c.self.inside.opened items o _ stands) c.index.ensures in
-    subst (λ g. IfSome c.as_record.result.now.ends (λ n. IsNode g n.0.0 × IsNode g n.1.0)) c.self.view_is (ends_nodes c.self.inside.opened items o s at stands c.self.invariant.store.good c.as_record.result.now.ends c.as_record.ensures.ends)
+    subst (λ g. IfSome c.ends.result (λ n. IsNode g n.0.0 × IsNode g n.1.0)) c.self.view_is (ends_nodes c.self.inside.opened items o s at stands c.self.invariant.store.good c.ends.result c.ends.ensures)

@@ -19,7 +19,7 @@ remove-requires-in-Some c =
     let stands = subst (λ g. Stands g o) is c.requires.stands in
     let at : slice_get items o ≡ Some s = slice_get_read items (length items) o s refl (is_within c.self.inside.opened items o _ stands) c.index_mut-object.ensures.value in
     let free = subst (λ g. (e : ℕ) → HasEnd g e o → ⊥) is c.requires.free in
-    source_within c.self.inside.opened items o s at (dropped s) refl c.self.inside.numbers (links_of c.self.inside.out) (links_of c.self.inside.into) c.self.invariant.store c.in-Some.source c.in-Some.target (sym c.as_record.ensures.ends ∙ ap ends_of c.in-Some.is) stands
+    source_within c.self.inside.opened items o s at (dropped s) refl c.self.inside.numbers (links_of c.self.inside.out) (links_of c.self.inside.into) c.self.invariant.store c.in-Some.source c.in-Some.target (sym c.ends-ends.ensures ∙ ap ends_of c.in-Some.is) stands
 
 pub remove-requires-in-Some-2 : goal.remove-requires-in-Some-2
 remove-requires-in-Some-2 c =
@@ -30,7 +30,7 @@ remove-requires-in-Some-2 c =
     let stands = subst (λ g. Stands g o) is c.requires.stands in
     let at : slice_get items o ≡ Some s = slice_get_read items (length items) o s refl (is_within c.self.inside.opened items o _ stands) c.index_mut-object.ensures.value in
     let free = subst (λ g. (e : ℕ) → HasEnd g e o → ⊥) is c.requires.free in
-    target_within c.self.inside.opened items o s at (dropped s) refl c.self.inside.numbers (links_of c.self.inside.out) (links_of c.self.inside.into) c.self.invariant.store c.in-Some.source c.in-Some.target (sym c.as_record.ensures.ends ∙ ap ends_of c.in-Some.is) stands
+    target_within c.self.inside.opened items o s at (dropped s) refl c.self.inside.numbers (links_of c.self.inside.out) (links_of c.self.inside.into) c.self.invariant.store c.in-Some.source c.in-Some.target (sym c.ends-ends.ensures ∙ ap ends_of c.in-Some.is) stands
 
 pub invariant_of-self : goal.invariant_of-self
 invariant_of-self c =
@@ -41,9 +41,9 @@ invariant_of-self c =
     let stands = subst (λ g. Stands g o) is c.requires.stands in
     let at : slice_get items o ≡ Some s = slice_get_read items (length items) o s refl (is_within c.self.inside.opened items o _ stands) c.index_mut-object.ensures.value in
     let free = subst (λ g. (e : ℕ) → HasEnd g e o → ⊥) is c.requires.free in
-    let set = c.set.ensures ∙ c.as_record-2.ensures.labels in
+    let set = c.labels.ensures in
     record {
-      store = dropped_edge c.self.inside.opened items o s at c.fall.new.self c.fall.ensures c.self.inside.numbers (links_of c.self.inside.out) (links_of c.self.inside.into) c.self.invariant.store c.in-Some.source c.in-Some.target (sym c.as_record.ensures.ends ∙ ap ends_of c.in-Some.is) stands free (links_of c.remove-in-Some.new.self) (links_of c.remove-in-Some-2.new.self) c.remove-in-Some.ensures c.remove-in-Some-2.ensures;
+      store = dropped_edge c.self.inside.opened items o s at c.fall.new.self c.fall.ensures c.self.inside.numbers (links_of c.self.inside.out) (links_of c.self.inside.into) c.self.invariant.store c.in-Some.source c.in-Some.target (sym c.ends-ends.ensures ∙ ap ends_of c.in-Some.is) stands free (links_of c.remove-in-Some.new.self) (links_of c.remove-in-Some-2.new.self) c.remove-in-Some.ensures c.remove-in-Some-2.ensures;
       labels = gone_labels c.self.inside.opened items o s at c.fall.new.self c.fall.ensures (held c.self.inside.by_label) (held c.remove.new.self) c.self.invariant.labels (λ label has. c.remove.ensures.own label (subst (λ labels. Contains labels label) (sym set) has)) (λ label out. c.remove.ensures.others label (λ has. out (subst (λ labels. Contains labels label) set has)));
     }
 
@@ -56,9 +56,9 @@ invariant_of-self-in_default c =
     let stands = subst (λ g. Stands g o) is c.requires.stands in
     let at : slice_get items o ≡ Some s = slice_get_read items (length items) o s refl (is_within c.self.inside.opened items o _ stands) c.index_mut-object.ensures.value in
     let free = subst (λ g. (e : ℕ) → HasEnd g e o → ⊥) is c.requires.free in
-    let set = c.set.ensures ∙ c.as_record-2.ensures.labels in
+    let set = c.labels.ensures in
     record {
-      store = dropped_node c.self.inside.opened items o s at c.fall.new.self c.fall.ensures c.self.inside.numbers (links_of c.self.inside.out) (links_of c.self.inside.into) c.self.invariant.store free (sym c.as_record.ensures.ends ∙ ap ends_of c.in_default.is);
+      store = dropped_node c.self.inside.opened items o s at c.fall.new.self c.fall.ensures c.self.inside.numbers (links_of c.self.inside.out) (links_of c.self.inside.into) c.self.invariant.store free (sym c.ends-ends.ensures ∙ ap ends_of c.in_default.is);
       labels = gone_labels c.self.inside.opened items o s at c.fall.new.self c.fall.ensures (held c.self.inside.by_label) (held c.remove.new.self) c.self.invariant.labels (λ label has. c.remove.ensures.own label (subst (λ labels. Contains labels label) (sym set) has)) (λ label out. c.remove.ensures.others label (λ has. out (subst (λ labels. Contains labels label) set has)));
     }
 
