@@ -2,7 +2,7 @@
 #![tactic(auto)]
 
 use itpg_base::{StdSink, StdSource};
-use itpg_run::{Status, serve};
+use itpg_run::{Ending, Status, serve};
 use std::process::ExitCode;
 use std::{env, io};
 
@@ -11,7 +11,7 @@ fn main(rt: HostRuntime) -> ExitCode {
         Ok(words) => {
             let mut source = StdSource::new(rt.reader());
             let mut sink = StdSink::new(io::writer(&rt));
-            serve(rt.alloc(), &words, &mut source, &mut sink)
+            serve(rt.alloc(), &words, &mut source, &mut sink, Ending::Leave)
         }
         Err(status) => status,
     };

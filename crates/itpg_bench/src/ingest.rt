@@ -2,7 +2,7 @@
 
 use anyhow::{Result, ensure};
 use itpg_base::{MemSource, TallySink};
-use itpg_run::{Status, serve};
+use itpg_run::{Ending, Status, serve};
 use std::alloc::{AllocError, Global};
 use std::time::Instant;
 
@@ -19,7 +19,7 @@ pub(crate) fn measure(rt: &HostRuntime, nodes: u32) -> Result<()> {
     let mut source = MemSource::new(script, CHUNK, Vec::new(rt.alloc()));
     let mut sink = TallySink::new();
     let start = Instant::now(rt)?;
-    let status = serve(rt.alloc(), &[], &mut source, &mut sink);
+    let status = serve(rt.alloc(), &[], &mut source, &mut sink, Ending::Free);
     let micros = start.elapsed(rt)?.as_micros();
     ensure!(
         status == Status::Done,

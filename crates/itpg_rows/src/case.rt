@@ -3,7 +3,7 @@ use crate::made::make;
 use crate::runs::{sink_for, step_lines};
 use anyhow::{Context, Result, bail};
 use itpg_base::{Limits, MemSource};
-use itpg_run::{Status, serve};
+use itpg_run::{Ending, Status, serve};
 use std::alloc::{AllocError, Global};
 use std::{fmt, fs, io};
 
@@ -112,7 +112,7 @@ impl Case {
         let status = match &self.way {
             Way::Served(words) => {
                 let mut source = MemSource::new(self.script.clone()?, CHUNK, Vec::new(alloc));
-                serve(alloc, words, &mut source, &mut sink)
+                serve(alloc, words, &mut source, &mut sink, Ending::Free)
             }
             Way::Stepped(limits) => step_lines(alloc, *limits, &self.script, &mut sink),
         };

@@ -6,7 +6,7 @@ use crate::case::compare;
 use crate::runs::{failing_sink, sink_for, step_again};
 use anyhow::{Context, Result, bail, ensure};
 use itpg_base::{Limits, MAX_ROWS, MemSink, MemSource};
-use itpg_run::serve;
+use itpg_run::{Ending, serve};
 use itpg_session::Session;
 use std::alloc::Global;
 use std::fs;
@@ -134,7 +134,7 @@ impl Script {
         let front = &self.lines[..self.lines.len().min(count)];
         let mut source = MemSource::new(front.to_vec(alloc)?, chunk, vec![in alloc; fail]?);
         let mut sink = sink_for(alloc, self.output.len())?;
-        let status = serve(alloc, &[], &mut source, &mut sink);
+        let status = serve(alloc, &[], &mut source, &mut sink, Ending::Free);
         let code = u32::from(status.code());
         Ok(Ended { sink, code })
     }
@@ -143,7 +143,7 @@ impl Script {
     fn run_into(&self, alloc: Global, call: u64, take: usize) -> Result<Ended> {
         let mut source = MemSource::new(self.lines.clone()?, CHUNK, Vec::new(alloc));
         let mut sink = failing_sink(alloc, self.output.len(), call, take)?;
-        let status = serve(alloc, &[], &mut source, &mut sink);
+        let status = serve(alloc, &[], &mut source, &mut sink, Ending::Free);
         let code = u32::from(status.code());
         Ok(Ended { sink, code })
     }

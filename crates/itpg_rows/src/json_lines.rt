@@ -10,7 +10,7 @@ use crate::plain_reply::plain_line;
 use crate::runs::sink_for;
 use anyhow::Result;
 use itpg_base::MemSource;
-use itpg_run::serve;
+use itpg_run::{Ending, serve};
 use serde_json::Value;
 use std::alloc::Global;
 
@@ -56,7 +56,7 @@ fn difference(
 ) -> Result<Option<Difference>> {
     let mut source = MemSource::new(script, CHUNK, Vec::new(alloc));
     let mut sink = sink_for(alloc, case.output().len().saturating_mul(GROWTH))?;
-    let status = serve(alloc, words, &mut source, &mut sink);
+    let status = serve(alloc, words, &mut source, &mut sink, Ending::Free);
     let code = u32::from(status.code());
     if let Some(line) = differing_line(alloc, sink.held(), case.output())? {
         Ok(Some(Difference::Line(line)))

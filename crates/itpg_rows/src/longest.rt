@@ -4,7 +4,7 @@ use crate::case::{Difference, compare};
 use crate::runs::sink_for;
 use anyhow::{Result, bail, ensure};
 use itpg_base::RepeatSource;
-use itpg_run::{Status, serve};
+use itpg_run::{Ending, Status, serve};
 use std::alloc::{AllocError, Global};
 
 // How many bytes a comment has, with its end.
@@ -46,7 +46,7 @@ impl Pieces {
         let mut source = source_of(self.piece(alloc)?, self.times)?;
         let output = self.output(alloc)?;
         let mut sink = sink_for(alloc, output.len())?;
-        let status = serve(alloc, &[], &mut source, &mut sink);
+        let status = serve(alloc, &[], &mut source, &mut sink, Ending::Free);
         Ok(compare(sink.held(), status, &output, u32::from(self.status.code())))
     }
 

@@ -20,7 +20,7 @@ pub use command_words::Status;
 pub use law::{
     law_of_pins, law_of_summaries, one_output, output_begins, output_grows, some_output,
 };
-pub use run::serve;
+pub use run::{Ending, serve};
 pub use script_law::{law_of_script_graphs, law_of_script_lines, law_of_three_lines};
 pub use trial::run_trial;
 pub use trial_script::{Trial, trial_line};

@@ -16,6 +16,7 @@ use itpg_base::{Failed, Limits, Sink, Source};
 use itpg_session::{StepFault, law_of_replies};
 use row_printer::Form;
 use std::alloc::Global;
+use std::mem::forget;
 
 // How many bytes a script may have.
 const LONGEST: usize = 268_435_456;
@@ -23,18 +24,30 @@ const LONGEST: usize = 268_435_456;
 // How many bytes are read at a time, at most.
 const CHUNK: usize = 65_536;
 
+/// What becomes of the memory of a script's graph once all is answered.
+#[derive(Clone, Copy, Debug)]
+pub enum Ending {
+    /// It is freed.
+    Free,
+    /// It is left to the process, which ends then: freeing a large graph takes a tenth of the time in which it was built.
+    Leave,
+}
+
 /// Does all that the program does: reads a script from the source and writes the plain machine's output to the sink.
 ///
 /// `words` are the command line's words without the program's name: `[--max-rows N] [--trial NUMBER] [--json]`. The limit of rows that
-/// they ask for is the machine's, and the lines and their replies are of JSON if they ask for that. If they ask for a trial, nothing is read, and the summary of the trial is written in place of
-/// an output. The output over a script is the replies of the plain machine to its lines, numbered from 1 (`docs/PROVED.md`).
-/// [`Status`] says what each status means. Whatever it is, what was written begins the output over all that the source had, or
-/// the summary. Every call returns, on every source.
+/// they ask for is the machine's, and the lines and their replies are of JSON if they ask for that. If they ask for a trial, nothing is
+/// read, and the summary of the trial is written in place of an output. `ending` says what becomes of the memory then.
+///
+/// The output over a script is the replies of the plain machine to its lines, numbered from 1 (`docs/PROVED.md`). [`Status`] says what
+/// each status means. Whatever it is, what was written begins the output over all that the source had, or the summary. Every call
+/// returns, on every source.
 pub fn serve<S: Source, K: Sink>(
     alloc: Global,
     words: &[String],
     source: &mut S,
     sink: &mut K,
+    ending: Ending,
 ) -> Status
     // The table of what was taken and written at each status.
     ensures served { (mode : Mode) → AskForScript (map string_bytes words.entry.now) mode → Serves S.Source K.Sink source.old sink.old source.new sink.new result mode }
@@ -63,7 +76,10 @@ pub fn serve<S: Source, K: Sink>(
     law_of_one_reading();
     match read_words(alloc, words) {
         Ok(options) => match options.trial {
-            None => run_script(alloc, form_of(options.json), options.limits, source, sink),
+            None => {
+                let form = form_of(options.json);
+                run_script(alloc, form, options.limits, source, sink, ending)
+            }
             Some(number) => run_number(alloc, options.limits, number, sink),
         },
         Err(WordsFault::Usage) => Status::Usage,
@@ -85,6 +101,7 @@ fn run_script<S: Source, K: Sink>(
     limits: Limits,
     source: &mut S,
     sink: &mut K,
+    ending: Ending,
 ) -> Status
     ensures served { Serves S.Source K.Sink source.old sink.old source.new sink.new result (mode_at form limits) }
     ensures usage { result ≡ Status.Usage → ⊥ }
@@ -97,8 +114,23 @@ fn run_script<S: Source, K: Sink>(
     law_of_replies();
     let mut reader = Reader::new(alloc, form, limits);
     match pump(&mut reader, source, sink) {
-        Ok(()) => reader.finish(sink),
-        Err(status) => status,
+        Ok(()) => {
+            let status = reader.finish(sink);
+            end(reader, ending);
+            status
+        }
+        Err(status) => {
+            end(reader, ending);
+            status
+        }
+    }
+}
+
+// Frees the reader's memory or leaves it.
+fn end(reader: Reader, ending: Ending) {
+    match ending {
+        Ending::Free => {}
+        Ending::Leave => forget(reader),
     }
 }
 

@@ -1,7 +1,7 @@
 //! Runs over devices that fail.
 
 use itpg_base::{MemSink, MemSource};
-use itpg_run::{Status, serve};
+use itpg_run::{Ending, Status, serve};
 use std::alloc::Global;
 use std::process::Abort;
 
@@ -26,7 +26,7 @@ fn ends(
     let failing = vec![in alloc; fails.1].expect(rt, "memory");
     let room = vec![in alloc; 0; 64].expect(rt, "memory");
     let mut sink = MemSink::new(failing, 5, room);
-    let status = serve(alloc, words, &mut source, &mut sink);
+    let status = serve(alloc, words, &mut source, &mut sink, Ending::Free);
     status == wanted.0 && sink.held() == wanted.1
 }
 

@@ -7,7 +7,7 @@ use Rattle.itpg_run.proofs.run.serve.Goals as goal
 pub returns-in-None-clause-served : goal.returns-in-None-clause-served
 returns-in-None-clause-served g c = λ mode asks.
     let one = c.law_of_one_reading.ensures _ _ _ c.in-Ok.ensures.options asks in
-    let same = asked_mode mode c.form_of.result c.in-Ok.options c.form_of.ensures one in
+    let same = asked_mode mode c.form_of-form.result c.in-Ok.options c.form_of-form.ensures one in
     subst (λ (m : Mode). Served c.run_script.result m (g.S.Source.left c.args.source.now) (g.S.Source.left c.run_script.new.source) (g.K.Sink.held c.args.sink.now) (g.K.Sink.held c.run_script.new.sink)) same c.run_script.ensures.served
 
 pub returns-in-Err-Usage-clause-served : goal.returns-in-Err-Usage-clause-served
