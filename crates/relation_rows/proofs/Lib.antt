@@ -13,6 +13,8 @@ pub mod Keys
 pub mod Pushing
 pub mod Gathering
 pub mod Keeping
+pub mod HalfRows
+pub mod LaterHalves
 pub mod Having
 pub mod Identity
 pub mod Uniting
@@ -34,6 +36,7 @@ pub mod Subtracting
 pub mod TimeLaws
 pub mod FiniteTimes
 pub mod Merged
+pub mod Alone
 pub mod Giving
 pub mod Sorting
 pub mod StrikeLemmas

@@ -11,11 +11,11 @@ use Rattle.band_normal.specs.Zones.{SomeMeets}
 use Rattle.itpg_base.proofs.Lists.{among_at, among_append, ordered_from}
 use Rattle.band_normal.proofs.Sorting.{normal_like}
 use Rattle.relation_rows.specs.declared.rows.Row.{Row}
-use Rattle.relation_rows.specs.Rows.{between, HasKey, RowsHold, RowBefore, KeyBefore, NormalRows, IsWide, IsRelation, rows_at}
+use Rattle.relation_rows.specs.Rows.{between, HasKey, RowsHold, RowBefore, KeyBefore, NormalRows, IsRelation, rows_at}
 use Rattle.relation_rows.specs.Relations.{Item, ItemsHold, EitherHolds}
 use Rattle.relation_rows.specs.Searching.{has_key, comes_before}
 use Rattle.relation_rows.specs.Uniting.{KeyUpTo, IsNext, SomeHasBand, EitherHas, IsPart, HasPushed}
-use Rattle.relation_rows.proofs.Listed.{Listed, normal_of, with_key, wide_early, key_apart, key_either, at_among, same_rows}
+use Rattle.relation_rows.proofs.Listed.{Listed, normal_of, with_key, key_apart, key_either, at_among, same_rows}
 use Rattle.relation_rows.proofs.Alike.{row_alike}
 use Rattle.relation_rows.proofs.Keys.{comes_is, is_coming, key_is, is_key}
 use Rattle.relation_rows.proofs.Gathering.{some_meets, meets_some}
@@ -77,7 +77,7 @@ next_of_second first second r s o q e f test =
 
 -- ---- the first rows that have the next row's source and target
 
-before_up : (r s t : Row) → KeyBefore r.source.0 r.target.0 s.source.0 s.target.0 → KeyUpTo s t → KeyBefore r.source.0 r.target.0 t.source.0 t.target.0
+pub before_up : (r s t : Row) → KeyBefore r.source.0 r.target.0 s.source.0 s.target.0 → KeyUpTo s t → KeyBefore r.source.0 r.target.0 t.source.0 t.target.0
 before_up r s t (inl c) (inl (inl d)) = inl (omega arith)
 before_up r s t (inl c) (inl (inr (e, d))) = inl (omega arith)
 before_up r s t (inr (e, c)) (inl (inl d)) = inl (omega arith)
@@ -342,9 +342,6 @@ module _ (first second left right rows : List Row) (g : HasUnited first second l
       right_each = λ r a. ⊎_elim (λ all. inl (fewer _ _ all)) (λ b. ⊎_elim (λ t. inl (here_at r (right_same r t))) (λ d. inr d) (among_either right m r b)) (g.right_each r a);
     }
 
-    pub next_wide : (limit : ℕ) → limit < length new → IsWide (EitherHolds first second) limit
-    next_wide limit many = wide_early (EitherHolds first second) (AllLater (drop n left) (drop m right)) new limit next_listed many
-
   -- one of the two groups has a row
   pub less_left : length (drop n left) + length (drop m right) < length left + length right
   less_left = ⊎_elim
@@ -379,9 +376,6 @@ module _ (first second left right rows : List Row) (g : HasUnited first second l
     pub step_united : HasUnited first second later others new
     step_united = subst (λ (v : List Row). HasUnited first second v others new) (sym back) (subst (λ (v : List Row). HasUnited first second (drop n left) v new) (sym back')
         (next_united first second left right rows g key next n m left_same left_later right_same right_later new pushed_groups))
-
-    pub step_wide : (limit : ℕ) → limit < length new → IsWide (EitherHolds first second) limit
-    step_wide limit many = next_wide first second left right rows g key next n m left_same left_later right_same right_later new pushed_groups limit many
 
   pub step_less : length later + length others < length left + length right
   step_less = subst (λ (v : List Row). length v + length others < length left + length right) (sym back) (subst (λ (v : List Row). length (drop n left) + length v < length left + length right) (sym back')

@@ -1,5 +1,6 @@
 -- Rows that stand in two lists, taken out of both.
-use Rattle.std.proofs.Common.{◌≡◌, ◌⊎◌, ◌↔◌, inl, inr, ⊎_elim, ℕ, ◌<◌, ◌-◌, List, [], ◌∷◌, ◌++◌, length, get_or, true, refl, sym, ◌∙◌, subst, arith, append_assoc}
+use Rattle.std.proofs.Common.{◌≡◌, ◌⊎◌, ◌↔◌, inl, inr, ⊎_elim, ℕ, zero, suc, ◌<◌, ◌≤◌, ◌-◌, List, [], ◌∷◌, ◌++◌, length, get_or, take, drop, true, false, refl, sym, ◌∙◌, subst, arith, append_assoc}
+use Rattle.std.specs.List.Sorted.{IsPartitionPoint}
 use Rattle.itpg_base.specs.Points.{Point}
 use Rattle.itpg_base.specs.Lists.{Among, Ordered}
 use Rattle.itpg_base.proofs.Lists.{among_append, append_first, append_second, append_ordered, ordered_first, ordered_second, ordered_across, ordered_by_place, place_of}
@@ -11,6 +12,7 @@ use Rattle.relation_rows.specs.Relations.{OnlyFirstHolds}
 use Rattle.relation_rows.proofs.Listed.{row_apart, key_apart}
 use Rattle.relation_rows.proofs.Gathering.{up_to_key}
 use Rattle.relation_rows.proofs.Keys.{comes_is, coming_down}
+use Rattle.relation_rows.proofs.Partitions.{among_before, front_among}
 
 -- an element more in the middle
 among_middle : {X : Type 0} (xs ys : List X) (b x : X) → Among (xs ++ b ∷ ys) x → (b ≡ x) ⊎ Among (xs ++ ys) x
@@ -155,6 +157,24 @@ striking_past first second kept left cuts right rows others row other e f behind
         (λ a. key_apart _ _ _ _ (before h.0 a) (j.source ∙ sym i.source) (j.target ∙ sym i.target))
         (λ a. key_apart _ _ _ _ (later h.0 a) (i.source ∙ sym j.source) (i.target ∙ sym j.target))
         (among_append kept left h.0 h.1)
+
+-- so are more of them
+pub striking_past_more : (first second kept left cuts others later rows : List Row) (row other : Row) (n : ℕ) → left ≡ row ∷ rows → later ≡ drop n others → n ≤ length others
+    → IsPartitionPoint (λ (r : Row). comes_before r row.source.0 row.target.0 ≡ true) (λ (r : Row). comes_before r row.source.0 row.target.0 ≡ false) others n
+    → ((r : Row) → Among others r → RowBefore other r) → ((r : Row) → Among kept r → KeyBefore r.source.0 r.target.0 other.source.0 other.target.0)
+    → AreStriking first second kept left cuts others → AreStriking first second kept left cuts later
+striking_past_more first second kept left cuts others later rows row other n e f bound point up before s =
+    subst (λ (v : List Row). AreStriking first second kept left cuts v) (sym f)
+    (each n others s (λ r a. comes_is r _ _ (among_before (λ (v : Row). comes_before v row.source.0 row.target.0 ≡ true) others n bound point.0 r a))
+    (λ k r i a. up_to_row _ _ other r (before k i) (up r (front_among others n r a))))
+  where
+    each : (m : ℕ) (cs : List Row) → AreStriking first second kept left cuts cs → ((r : Row) → Among (take m cs) r → KeyBefore r.source.0 r.target.0 row.source.0 row.target.0)
+        → ((k r : Row) → Among kept k → Among (take m cs) r → KeyBefore k.source.0 k.target.0 r.source.0 r.target.0) → AreStriking first second kept left cuts (drop m cs)
+    each zero cs h behind apart = h
+    each (suc m) [] h behind apart = h
+    each (suc m) (c ∷ cs) h behind apart =
+        each m cs (striking_past first second kept left cuts (c ∷ cs) rows cs row c e refl (behind c (inl refl)) (λ k i. apart k c i (inl refl)) h)
+        (λ r a. behind r (inr a)) (λ k r i a. apart k r i (inr a))
 
 -- what comes before the last row, by source and target, comes after all
 pub all_come : (rows : List Row) → Ordered RowBefore rows → (n : ℕ) (d : Row) (o p : ℕ) → n ≡ length rows → 0 < n → comes_before (get_or rows (n - 1) d) o p ≡ true

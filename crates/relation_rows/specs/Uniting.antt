@@ -1,5 +1,5 @@
 -- Rows of one source and one target, and the union of those of two lists.
-use Rattle.std.specs.Prelude.{◌≡◌, ◌⊎◌, ◌++◌, ℤ, List, map}
+use Rattle.std.specs.Prelude.{◌≡◌, ◌⊎◌, ◌++◌, ℕ, ℤ, List, map, take, drop}
 use Rattle.band_normal.specs.declared.band.Band.{Band}
 use Rattle.itpg_base.specs.Lists.{Among}
 use Rattle.band_normal.specs.Bands.{InBand, IsWellFormed}
@@ -34,3 +34,8 @@ pub record IsPart (key : Row) (rows : List Row) : Type 0 where
 -- the normal list of the bands of both is added, as rows of the key's source and target
 abbrev pub HasPushed : Row → List Row → List Row → List Row → List Row → Type 0
 HasPushed key here there old new = (bands : List Band) × Normal (EitherHas here there) bands × ((b : Band) → Among bands b → IsWellFormed b) × (new ≡ old ++ rows_at key.source.0 key.target.0 bands)
+
+-- so many of the left rows, from the first on, come by source and target before all others of both lists
+pub record ComeFirst (left right : List Row) (count : ℕ) : Type 0 where
+  pub others : (r s : Row) → Among (take count left) r → Among right s → KeyBefore r.source.0 r.target.0 s.source.0 s.target.0
+  pub later : (r s : Row) → Among (take count left) r → Among (drop count left) s → KeyBefore r.source.0 r.target.0 s.source.0 s.target.0

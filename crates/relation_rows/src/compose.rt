@@ -19,6 +19,7 @@ use crate::apart::is_apart;
 use crate::direct::direct_rows;
 use crate::gather::{gathered_of, push_zones};
 use crate::known::Known;
+use crate::later_halves::by_even_runs;
 use crate::offsets::Offsets;
 use crate::relations::Relation;
 use crate::rows::{RelFault, Row};
@@ -129,8 +130,8 @@ fn stretch_len(rows: &[Row]) -> usize
     rows.len()
 }
 
-// The relation of the ways that begin with the rows, by their zones.
-fn by_zones(
+/// The relation of the ways that begin with the rows, by their zones.
+pub(crate) fn by_zones(
     known: &mut Known,
     rows: &[Row],
     second: &Offsets<'_>,
@@ -168,6 +169,16 @@ fn by_zones(
     gathered_of(known, ways, room)
 }
 
+// The relation, unless it has too many rows.
+fn within(relation: Relation, room: usize) -> Result<Relation, RelFault>
+    ensures { Gives result (RowsHold relation) room }
+{
+    if relation.rows.len() > room {
+        return Err(RelFault::Wide);
+    }
+    Ok(relation)
+}
+
 // The relation of the ways that begin with the rows.
 fn of_sources(
     known: &mut Known,
@@ -176,13 +187,17 @@ fn of_sources(
     busy: &[Leg],
     room: usize,
 ) -> Result<Relation, RelFault>
+    requires order { Ordered RowBefore rows.now }
     requires rows { AreLone rows.now }
     requires lone { AreLone second.now }
     requires second { AreComposed second.now busy.now }
     ensures { Gives result (HasMiddlePoint rows.now second.now) room }
 {
     let Some(ways) = direct_rows(known.allocator(), rows, second)? else {
-        return by_zones(known, rows, second, busy, room);
+        let Some(all) = by_even_runs(known, rows, second)? else {
+            return by_zones(known, rows, second, busy, room);
+        };
+        return within(all, room);
     };
     if ways.len() > room {
         return Err(RelFault::Wide);

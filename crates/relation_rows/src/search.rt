@@ -53,6 +53,16 @@ pub(crate) fn is_of_key(row: &Row, source: ObjNo, target: ObjNo) -> bool
     row.source.0 == source.0 && row.target.0 == target.0
 }
 
+/// How many of the rows, from the first on, come before the source and target, of rows in order. It takes longer only where these are
+/// many.
+pub(crate) fn leading_before(rows: &[Row], source: ObjNo, target: ObjNo) -> usize
+    requires { Ordered RowBefore rows.now }
+    ensures within { result ≤ length rows.now }
+    ensures point { IsPartitionPoint (λ (r : Row). comes_before r source.0 target.0 ≡ true) (λ (r : Row). comes_before r source.0 target.0 ≡ false) rows.now result }
+{
+    count_leading(rows, |row| comes_before_key(row, source, target))
+}
+
 /// The rows from the source to the target, of rows in order.
 pub(crate) fn rows_of_key(rows: &[Row], source: ObjNo, target: ObjNo) -> &[Row]
     requires { Ordered RowBefore rows.now }

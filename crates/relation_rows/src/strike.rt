@@ -8,7 +8,7 @@ ghost use Rattle.relation_rows.specs.Rows.{KeyBefore, RowBefore, IsRelation};
 ghost use Rattle.relation_rows.specs.Relations.{OnlyFirstHolds};
 
 use crate::rows::Row;
-use crate::search::comes_before_key;
+use crate::search::{comes_before_key, leading_before};
 use band_normal::End;
 use itpg_base::ObjNo;
 use std::alloc::{AllocError, Global};
@@ -41,7 +41,7 @@ fn is_between(kept: &[Row], cut: &Row, next: &Row) -> bool
 
 /// Both lists without the rows that stand in both. What the first holds and the second doesn't stays the same.
 ///
-/// One walk along both. Which of two unequal rows is passed first means nothing for what is held.
+/// One walk along both, in which cuts of other sources and targets are passed together. Which of two unequal rows is passed first means nothing for what is held.
 pub(crate) fn struck(
     alloc: Global,
     first: &[Row],
@@ -70,7 +70,8 @@ pub(crate) fn struck(
             kept.push(*row)?;
             left = rows;
         } else if is_between(&kept, other, row) {
-            right = others;
+            let (_, later) = others.split_at(leading_before(others, row.source, row.target));
+            right = later;
         } else {
             cuts.push(*other)?;
             right = others;

@@ -1,6 +1,7 @@
 //! Union: one walk along both lists of rows, source and target by source and target.
 //!
-//! The rows of a source and a target that only one of the relations has are taken as they are.
+//! The rows of a source and a target that only one of the relations has are taken as they are, and those of the first that come before
+//! all others of the second are taken together.
 
 ghost use Rattle.std.specs.Prelude.{◌≡◌, ◌⊎◌, ◌++◌, ◌≤◌, [], length, take, drop, IfOk, OnOk, IfSome, IfNone};
 ghost use Rattle.band_normal.specs.declared.band.Band.{Band as PlainBand};
@@ -11,13 +12,13 @@ ghost use Rattle.relation_rows.specs.declared.rows.Row.{Row as PlainRow};
 ghost use Rattle.relation_rows.specs.Rows.{RowBefore, HasKey, KeyBefore, IsRelation};
 ghost use Rattle.relation_rows.specs.Answers.{Gives};
 ghost use Rattle.relation_rows.specs.Relations.{EitherHolds};
-ghost use Rattle.relation_rows.specs.Uniting.{KeyUpTo, IsNext, IsPart, EitherHas, HasPushed};
+ghost use Rattle.relation_rows.specs.Uniting.{KeyUpTo, IsNext, IsPart, EitherHas, HasPushed, ComeFirst};
 
 use crate::gather::{push_bands, push_zones, sort_items};
 use crate::known::Known;
 use crate::relations::Relation;
 use crate::rows::{RelFault, Row};
-use crate::search::{comes_before_key, is_of_key};
+use crate::search::{comes_before_key, is_of_key, leading_before};
 use std::alloc::{AllocError, Global};
 
 // Of both lists a first row, whose source and target come first.
@@ -112,6 +113,25 @@ fn push_both(
     Ok(())
 }
 
+// How many of the left rows, from the first on, come by source and target before all others of both lists. Most often none do, which
+// their first rows tell.
+fn alone_count(left: &[Row], right: &[Row]) -> usize
+    requires left { Ordered RowBefore left.now }
+    requires right { Ordered RowBefore right.now }
+    ensures within { result ≤ length left.now }
+    ensures first { ComeFirst left.now right.now result }
+{
+    let Some(next) = right.first() else {
+        return left.len();
+    };
+    if let Some(row) = left.first() {
+        if !comes_before_key(row, next.source, next.target) {
+            return 0;
+        }
+    }
+    leading_before(left, next.source, next.target)
+}
+
 /// The relation of what either list of rows holds.
 pub(crate) fn united(
     alloc: Global,
@@ -131,10 +151,12 @@ pub(crate) fn united(
         let (here, later) = left.split_at(leading(left, &key));
         let (there, others) = right.split_at(leading(right, &key));
         push_both(&mut rows, &mut known, &key, here, there)?;
+        let (alone, rest) = later.split_at(alone_count(later, others));
+        push_rows(&mut rows, alone)?;
         if rows.len() > max_rows {
             return Err(RelFault::Wide);
         }
-        left = later;
+        left = rest;
         right = others;
     }
     Ok(Relation { rows })

@@ -28,7 +28,7 @@ use std::alloc::AllocError;
 use zone_compose::{arrivals, compose};
 use zone_core::{Zone, tight};
 
-/// More ways than these are united.
+/// More ways than these are made fewer.
 pub(crate) const MANY: usize = 65_536;
 
 /// So many rows from one object are gone through, and more are searched.

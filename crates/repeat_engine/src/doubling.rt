@@ -6,6 +6,7 @@ ghost use Rattle.repeat_engine.specs.GrownUnions.{OfEach, IsFormer, IsFresh, IsF
 
 use crate::Composed;
 use crate::calls::{compose, compose_onto, union};
+use crate::costs::is_much;
 use crate::grown_union::{Fresh, Grown, alone, grown_to, newest_of};
 use crate::single_steps::walked;
 
@@ -47,7 +48,7 @@ fn squared<C: Composed>(c: &C, half: &Grown<C::Value>) -> Result<Grown<C::Value>
     ensures exact { let Each = OfEach (C.alike c.now) (C.own c.now) (C.algebra c.now) C.means half.now in
         Each (λ x k. IsOkWhere C.wants_memory result (C.fits c.now (union_of_powers (C.algebra c.now) x (k + k)))) }
 {
-    if c.size(newest_of(half)) > c.size(&half.all) / 4 {
+    if is_much(c.size(newest_of(half)), c.size(&half.all)) {
         return squared_whole(c, half);
     }
     match compose(c, newest_of(half), &half.all) {

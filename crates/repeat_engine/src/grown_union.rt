@@ -14,6 +14,9 @@ pub(crate) struct Grown<V> {
     pub(crate) newest: Option<V>,
     /// Something of the union of the powers 0 to some fewer than k, which what is new needn't hold. None stands for nothing.
     pub(crate) former: Option<V>,
+    /// How much more it is than the union of fewer powers from which it was made: nothing where it isn't, or where there was none. No
+    /// result depends on it.
+    pub(crate) growth: u64,
     /// No further power adds anything.
     pub(crate) done: bool,
 }
@@ -62,18 +65,21 @@ pub(crate) fn grown_to<C: Composed>(
         IfSome fresh (IsFresh (C.alike c.now) (C.algebra c.now) x C.means n) →
         Grows (C.alike c.now) (C.algebra c.now) x C.means n result) }
 {
+    let growth = c.size(&all).saturating_sub(c.size(&half.all));
     let done = c.same(&all, &half.all);
     match fresh {
         Some(fresh) => Grown {
             all,
             newest: Some(fresh.newest),
             former: fresh.former,
+            growth,
             done,
         },
         None => Grown {
             all,
             newest: None,
             former: None,
+            growth,
             done,
         },
     }

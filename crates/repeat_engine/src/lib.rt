@@ -8,6 +8,7 @@
 
 mod calls;
 mod composed;
+mod costs;
 mod doubling;
 mod grown_union;
 mod power_chain;

@@ -6,10 +6,14 @@ ghost use Rattle.repeat_engine.specs.GrownUnions.{newest_or, OfEach, IsNewest, I
 
 use crate::Composed;
 use crate::calls::{compose, union};
+use crate::costs::{doubling_cost, has_replaced, step_cost};
 use crate::grown_union::{Grown, alone, grown_to, newest_of};
 
-/// Twice as far by single steps, while these look much cheaper than what is new composed with the union. None where they
-/// don't, or where what they need doesn't fit.
+// So many steps at most are looked ahead, since what is new becomes less.
+const AHEAD: u64 = 4;
+
+/// Twice as far by single steps, while the next ones look much cheaper than all at once. None where they don't, or where what they
+/// need doesn't fit.
 pub(crate) fn walked<C: Composed>(
     c: &C,
     x: &C::Value,
@@ -24,16 +28,18 @@ pub(crate) fn walked<C: Composed>(
     ensures grows { let At = Grows (C.alike c.now) (C.algebra c.now) (C.means x.now) C.means in
         IfSome result (At (k + k)) }
 {
-    let budget = product(c.size(newest_of(half)), c.size(&half.all));
+    let budget = doubling_cost(c, half) / 2;
     let mut spent = 0u64;
     let mut last = None;
-    for _step in 0..k {
+    for step in 0..k {
         let from = latest_of(&last, half);
-        spent = sum(spent, product(c.size(newest_of(from)), c.size(x)));
-        spent = sum(spent, c.size(&from.all));
-        if spent > budget / 4 {
+        let cost = step_cost(c, x, from);
+        if has_replaced(c, from)
+            || cost.saturating_mul(AHEAD.min(k - step)) > budget.saturating_sub(spent)
+        {
             return None;
         }
+        spent = spent.saturating_add(cost);
         let next = step_from(c, x, from)?;
         if next.done {
             return Some(next);
@@ -50,14 +56,6 @@ fn latest_of<'a, V: Drop>(last: &'a Option<Grown<V>>, half: &'a Grown<V>) -> &'a
         Some(last) => last,
         None => half,
     }
-}
-
-fn product(a: u64, b: u64) -> u64 {
-    a.saturating_mul(b)
-}
-
-fn sum(a: u64, b: u64) -> u64 {
-    a.saturating_add(b)
 }
 
 // One step further, where all that it needs fits.
@@ -108,6 +106,11 @@ pub(crate) fn stepped<C: Composed>(
     Ok(grown_to(c, half, all, None))
 }
 
+// Whether so little of what was made was there before that it isn't worth being found.
+fn is_about(made: u64, growth: u64) -> bool {
+    made <= growth.saturating_add(growth / 16)
+}
+
 // What is new in the further union: what was made, or where that is longer than the union has grown, what it has beyond the
 // nearer one.
 fn trimmed<C: Composed>(c: &C, half: &Grown<C::Value>, all: &C::Value, made: C::Value) -> C::Value
@@ -122,7 +125,7 @@ fn trimmed<C: Composed>(c: &C, half: &Grown<C::Value>, all: &C::Value, made: C::
         IsNewest (C.alike c.now) (C.algebra c.now) x n (C.means result)) }
 {
     let growth = c.size(all).saturating_sub(c.size(&half.all));
-    if c.size(&made) <= growth {
+    if is_about(c.size(&made), growth) {
         return made;
     }
     match c.beyond(&made, &half.all) {

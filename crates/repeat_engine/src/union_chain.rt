@@ -93,6 +93,7 @@ fn grown_first<C: Composed>(
         all,
         newest,
         former: None,
+        growth: 0,
         done: false,
     })
 }

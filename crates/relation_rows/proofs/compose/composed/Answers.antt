@@ -3,14 +3,16 @@ use Rattle.std.specs.Prelude.{IfSome, slice_get}
 use Rattle.std.specs.Global.{Global}
 use Rattle.std.specs.declared.vec.Vec.{Vec}
 use Rattle.std.proofs.lemmas.Result.{err_from_is_err_and}
-use Rattle.itpg_base.specs.Lists.{Among}
+use Rattle.itpg_base.specs.Lists.{Among, Ordered}
 use Rattle.band_normal.specs.Bands.{IsWellFormed}
 use Rattle.band_normal.proofs.PartLemmas.{none_left}
 use Rattle.relation_rows.specs.declared.rows.Row.{Row}
+use Rattle.relation_rows.specs.Rows.{RowBefore}
 use Rattle.relation_rows.specs.Relations.{HasMiddlePoint}
 use Rattle.relation_rows.specs.Direct.{AreItsRows}
 use Rattle.relation_rows.proofs.Alike.{relation_of}
 use Rattle.relation_rows.proofs.DirectWays.{its_wide, lone_formed}
+use Rattle.relation_rows.proofs.Partitions.{front_ordered}
 use Rattle.relation_rows.proofs.Composing.{HasComposed, start, next_composed, within_limit, too_wide, fault_after, group_lone, all_composed}
 use Rattle.relation_rows.proofs.compose.composed.Goals as goal
 
@@ -56,6 +58,10 @@ busy_legs-requires-clause-first c = λ r a. (c.requires.rows r ((c.loop-first.in
 
 pub busy_legs-requires-clause-second : goal.busy_legs-requires-clause-second
 busy_legs-requires-clause-second c = lone_formed c.args.second.now c.requires.second
+
+pub of_sources-requires-clause-order : goal.of_sources-requires-clause-order
+of_sources-requires-clause-order c =
+    subst (λ (v : List Row). Ordered RowBefore v) (sym c.split_at-in-Some-first.ensures.front) (front_ordered RowBefore c.loop-first-2.left.now c.batch_len-in-Some-first.result (c.loop-first-2.invariant.0).order)
 
 pub of_sources-requires-clause-rows : goal.of_sources-requires-clause-rows
 of_sources-requires-clause-rows c =

@@ -1,0 +1,33 @@
+//! What a step further and a union twice as far are guessed to take. No result depends on it, so that no function here has a clause.
+
+use crate::Composed;
+use crate::grown_union::{Grown, newest_of};
+
+/// Whether what is new is so much of the union that this is squared.
+pub(crate) fn is_much(newest: u64, all: u64) -> bool {
+    newest > all / 4
+}
+
+/// Whether some of what is new took the place of what was there: the union grew by less. Then a step takes longer than its
+/// composition, since each value that is there is made anew.
+pub(crate) fn has_replaced<C: Composed>(c: &C, half: &Grown<C::Value>) -> bool {
+    let newest = c.size(newest_of(half));
+    newest.saturating_sub(half.growth) > newest / 8
+}
+
+/// A step further: what is new with x, and then the union.
+pub(crate) fn step_cost<C: Composed>(c: &C, x: &C::Value, half: &Grown<C::Value>) -> u64 {
+    let made = c.size(newest_of(half)).saturating_mul(c.size(x));
+    made.saturating_add(c.size(&half.all))
+}
+
+/// Twice as far without steps: what is new with the union, or the union with itself.
+pub(crate) fn doubling_cost<C: Composed>(c: &C, half: &Grown<C::Value>) -> u64 {
+    let newest = c.size(newest_of(half));
+    let all = c.size(&half.all);
+    if is_much(newest, all) {
+        all.saturating_mul(all)
+    } else {
+        newest.saturating_mul(all)
+    }
+}
