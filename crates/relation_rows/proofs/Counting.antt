@@ -1,9 +1,10 @@
 -- The ways of one source, departure by departure: what is kept of those that no later way can join, and how many rows they have.
-use Rattle.std.proofs.Common.{◌≡◌, ◌↔◌, ◌⊎◌, inl, inr, ⊎_elim, ℕ, ◌+◌, ◌-◌, ◌<◌, ◌≤◌, ℤ, pos, ◌+ℤ◌, ◌≤ℤ◌, ◌<ℤ◌, List, [], ◌∷◌, ◌++◌, length, take, drop, get_or, Err, append_assoc, append-nil, Ok, refl, sym, ◌∙◌, ap, subst, arith}
+use Rattle.std.proofs.Common.{◌≡◌, ◌↔◌, ◌⊎◌, inl, inr, ⊎_elim, ℕ, ◌+◌, ◌-◌, ◌<◌, ◌≤◌, ℤ, pos, ◌+ℤ◌, ◌≤ℤ◌, ◌<ℤ◌, List, [], ◌∷◌, ◌++◌, length, take, drop, get_or, Some, true, Err, append_assoc, append-nil, Ok, refl, sym, ◌∙◌, ap, subst, arith}
 use Rattle.std.proofs.lemmas.Int.{ints}
 use Rattle.std.proofs.lemmas.List.{take_more}
 use Rattle.std.specs.List.Sorted.{IsSortedByKey}
-use Rattle.std.specs.Ordering.{int_cmp}
+use Rattle.std.specs.Ordering.{int_cmp, is_le, is_some_and}
+use Rattle.std.specs.List.{AllAdjacentBelow}
 use Rattle.itpg_base.specs.Lists.{Among, Ordered}
 use Rattle.itpg_base.specs.Points.{Point, Relation}
 use Rattle.itpg_base.proofs.Lists.{among_append, append_first, append_second, ordered_from_neighbours, ordered_second, ordered_from}
@@ -23,6 +24,13 @@ use Rattle.relation_rows.proofs.Splitting.{Either, DepartFar, split_normal}
 
 pub sorted_departures : (rows : List Row) → IsSortedByKey (λ (r : Row). r.band.from) int_cmp rows → Ordered DepartsNoLater rows
 sorted_departures rows h = ordered_from_neighbours DepartsNoLater (λ x y z a b. omega (arith, ints)) rows (λ k d l. not_below _ _ (h k d (omega arith) l))
+
+-- rows that a look at neighbours finds in that order
+pub found_departures : (rows : List Row) → AllAdjacentBelow (λ (r s : Row). true ≡ is_some_and is_le (Some (int_cmp r.band.from s.band.from))) rows (length rows) → Ordered DepartsNoLater rows
+found_departures rows h = ordered_from_neighbours DepartsNoLater (λ x y z a b. omega (arith, ints)) rows (λ k d l. not_above _ _ (h k d l))
+  where
+    not_above : (a b : ℤ) → true ≡ is_some_and is_le (Some (int_cmp a b)) → a ≤ℤ b
+    not_above a b e = grind (arith, ints)
 
 -- the last departure with one more row
 pub last_more : (rows : List Row) (i : ℕ) (d : Row) (old new : ℤ) → i < length rows → ((s : Row) → Among (take i rows) s → s.band.to ≤ℤ old) → old ≤ℤ new → (get_or rows i d).band.to ≤ℤ new
@@ -44,7 +52,7 @@ stretch_apart rows i d last o lt all above s t h k =
 
 -- ---- ways that begin with the rows of two lists
 
-hold_either : (a b : List Row) (x y : Point) → RowsHold (a ++ b) x y ↔ (RowsHold a x y ⊎ RowsHold b x y)
+pub hold_either : (a b : List Row) (x y : Point) → RowsHold (a ++ b) x y ↔ (RowsHold a x y ⊎ RowsHold b x y)
 hold_either a b x y = (
   λ h. ⊎_elim (λ i. inl (h.0, i, h.2)) (λ i. inr (h.0, i, h.2)) (among_append a b h.0 h.1),
   λ h. ⊎_elim (λ i. (i.0, append_first a b i.0 i.1, i.2)) (λ i. (i.0, append_second a b i.0 i.1, i.2)) h,

@@ -12,7 +12,7 @@ use Rattle.relation_rows.specs.Relations.{HasMiddlePoint}
 use Rattle.relation_rows.specs.Ways.{GoesOn}
 use Rattle.relation_rows.specs.Apart.{IsLone, AreLone, ComesApart}
 use Rattle.relation_rows.specs.Direct.{LeadsOver, LeadsBy, AddsWays, AreItsRows}
-use Rattle.relation_rows.proofs.Alike.{relation_of}
+use Rattle.relation_rows.proofs.Alike.{relation_of, rows_alike}
 use Rattle.relation_rows.proofs.Listed.{rows_unique}
 use Rattle.relation_rows.proofs.Pushing.{rows_more}
 use Rattle.relation_rows.proofs.ApartRows.{apart_normal}
@@ -146,6 +146,17 @@ its_rows R ways rows a order same =
       ));
       formed = λ r i. (lone r i).formed;
     }
+
+pub sorted_lone : (R : Relation) (ways sorted : List Row) → AddsWays R true [] ways → ((r : Row) → Among sorted r ↔ Among ways r) → AreLone sorted
+sorted_lone R ways sorted a same r i = told_lone R ways a r ((same r).0 i)
+
+pub its_settled : (R : Relation) (ways sorted rows : List Row) → AddsWays R true [] ways → ((r : Row) → Among sorted r ↔ Among ways r) → AreItsRows (RowsHold sorted) rows → AreItsRows R rows
+its_settled R ways sorted rows a same is = record {
+  normal = rows_alike (RowsHold sorted) R
+      (λ x y k. ⊎_elim (λ l. absurd l.1) (λ l. l) ((a.holds refl x y).0 (k.0, (same k.0).0 k.1, k.2)))
+      (λ x y h. let w = (a.holds refl x y).1 (inr h) in (w.0, (same w.0).1 w.1, w.2)) rows is.normal;
+  formed = is.formed;
+}
 
 pub its_relation : (R : Relation) (rows : List Row) → AreItsRows R rows → IsRelation rows
 its_relation R rows is = relation_of R rows is.normal is.formed

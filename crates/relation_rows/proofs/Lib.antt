@@ -38,6 +38,7 @@ pub mod FiniteTimes
 pub mod Merged
 pub mod Alone
 pub mod Giving
+pub mod Settling
 pub mod Sorting
 pub mod StrikeLemmas
 pub mod ItemZones

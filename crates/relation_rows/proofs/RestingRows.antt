@@ -91,8 +91,8 @@ same_length [] = refl
 same_length (s ∷ ss) = let l = same_length ss in omega (arith, l)
 
 rests_apart : (r s : OneRow) → TimeBefore r s → ComesApart (resting r) (resting s)
-rests_apart r s (inl l) = inl (inl l)
-rests_apart r s (inr (e, l)) = inr ((sym e, sym e), subst (λ (v : ℤ). (v +ℤ pos 1) <ℤ (resting_band s.span).from) (sym (to_of r.span (int_lt r.span.from r.span.to))) (subst (λ (v : ℤ). (r.span.to +ℤ pos 1) <ℤ v) (sym (from_of s.span (int_lt s.span.from s.span.to))) l))
+rests_apart r s (inl l) = inl (inl (inl l))
+rests_apart r s (inr (e, l)) = inl (inr ((sym e, sym e), subst (λ (v : ℤ). (v +ℤ pos 1) <ℤ (resting_band s.span).from) (sym (to_of r.span (int_lt r.span.from r.span.to))) (subst (λ (v : ℤ). (r.span.to +ℤ pos 1) <ℤ v) (sym (from_of s.span (int_lt s.span.from s.span.to))) l)))
   where
     to_of : (a : Span) (b : Bool) → (band_by b a).to ≡ a.to
     to_of a true = refl

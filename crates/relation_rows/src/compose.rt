@@ -4,8 +4,7 @@
 //! ways go by departure: once a moment is free at which no row departs, no later way can join the rows of those before it. So these
 //! rows are counted, and only their zones are kept, which is why a relation that is too wide is told by few ways more than its limit.
 
-ghost use Rattle.std.specs.Prelude.{◌≡◌, ◌==◌, ◌↔◌, ◌<◌, ◌≤◌, pos, ◌+ℤ◌, ◌≤ℤ◌, ◌<ℤ◌, length, take, drop, slice_get, Some, IfOk, IsTrue};
-ghost use Rattle.itpg_base.specs.Points.{Point};
+ghost use Rattle.std.specs.Prelude.{◌≡◌, ◌==◌, ◌↔◌, ◌<◌, ◌≤◌, length, take, drop, slice_get, Some, IfOk};
 ghost use Rattle.itpg_base.specs.Lists.{Among, Ordered};
 ghost use Rattle.band_normal.specs.Bands.{IsWellFormed};
 ghost use Rattle.relation_rows.specs.declared.rows.Row.{Row as PlainRow};
@@ -15,11 +14,11 @@ ghost use Rattle.relation_rows.specs.Relations.{HasMiddlePoint};
 ghost use Rattle.relation_rows.specs.Apart.{AreLone};
 ghost use Rattle.relation_rows.specs.Ways.{HasBusy, AreComposed, DepartsNoLater, DepartApart};
 
-use crate::apart::is_apart;
+use crate::apart::{is_apart, last_with};
 use crate::direct::direct_rows;
 use crate::gather::{gathered_of, push_zones};
+use crate::halves::by_runs;
 use crate::known::Known;
-use crate::later_halves::by_even_runs;
 use crate::offsets::Offsets;
 use crate::relations::Relation;
 use crate::rows::{RelFault, Row};
@@ -92,22 +91,17 @@ fn busy_rows(alloc: Global, rows: &[Row]) -> Result<Vec<Row>, AllocError>
     Ok(busy)
 }
 
-// The rows by their first departure.
+// The rows by their first departure. Those of one target stand so.
 fn by_departure(alloc: Global, rows: &[Row]) -> Result<Vec<Row>, AllocError>
     ensures order { IfOk result (λ sorted. Ordered DepartsNoLater sorted.items) }
     ensures same { IfOk result (λ sorted. (r : PlainRow) → Among sorted.items r ↔ Among rows.now r) }
 {
     let mut sorted = Vec::from_slice(alloc, rows)?;
+    if sorted.is_sorted_by_key(|row| row.band.from) {
+        return Ok(sorted);
+    }
     sorted.sort_by_key(|row| row.band.from)?;
     Ok(sorted)
-}
-
-// The last departure with one more row.
-fn last_with(last: i64, row: &Row) -> i64
-    ensures old { last ≤ℤ result }
-    ensures row { row.now.band.to ≤ℤ result }
-{
-    last.max(row.band.to)
 }
 
 // How many of the rows, from the first on, depart before a moment is free at which none does.
@@ -193,8 +187,8 @@ fn of_sources(
     requires second { AreComposed second.now busy.now }
     ensures { Gives result (HasMiddlePoint rows.now second.now) room }
 {
-    let Some(ways) = direct_rows(known.allocator(), rows, second)? else {
-        let Some(all) = by_even_runs(known, rows, second)? else {
+    let Some(ways) = direct_rows(known, rows, second, room)? else {
+        let Some(all) = by_runs(known, rows, second)? else {
             return by_zones(known, rows, second, busy, room);
         };
         return within(all, room);
@@ -232,14 +226,16 @@ pub(crate) fn composed(
     requires second { AreLone second.now }
     ensures { Gives result (HasMiddlePoint rows.now second.now) max_rows }
 {
+    let mut known = Known::new(alloc);
     let mut done = Vec::with_capacity(alloc, rows.len().min(second.rows().len()))?;
     let mut left = rows;
     while let Some(first) = left.first() {
         let (group, later) = left.split_at(batch_len(left, first));
-        let Some(ways) = direct_rows(alloc, group, second)? else {
+        let room = max_rows - done.len();
+        let Some(ways) = direct_rows(&mut known, group, second, room)? else {
             break;
         };
-        if ways.len() > max_rows - done.len() {
+        if ways.len() > room {
             return Err(RelFault::Wide);
         }
         done.extend_from_slice(&ways)?;
@@ -249,7 +245,6 @@ pub(crate) fn composed(
         return Ok(Relation { rows: done });
     }
     let busy = busy_legs(alloc, left, second)?;
-    let mut known = Known::new(alloc);
     while let Some(first) = left.first() {
         let (group, later) = left.split_at(batch_len(left, first));
         let room = max_rows - done.len();

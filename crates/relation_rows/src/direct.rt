@@ -1,23 +1,23 @@
 //! The ways by two rows, where the band of the ways is the band of one of them.
 //!
 //! Nearly all compositions are with rows that arrive when they depart: a test leads from a point to itself, and an edge stays in time.
-//! Such a way needs no zone. If all ways of some rows are so, and a departure is free between any two of one source and target, then
-//! they are the normal rows as they stand.
+//! Such a way needs no zone. If all ways of some rows are so, they are put in order, and only those of them are made normal that aren't.
 
-ghost use Rattle.std.specs.Prelude.{◌≡◌, ◌↔◌, ℤ, ◌≤ℤ◌, [], true, IsTrue, IfOk, IfSome};
+ghost use Rattle.std.specs.Prelude.{◌≡◌, ◌↔◌, ℤ, ◌≤ℤ◌, [], true, IsTrue, IfOk, IfSome, OnOk};
 ghost use Rattle.itpg_base.specs.Lists.{Among, Ordered};
 ghost use Rattle.zone_core.specs.Zone.{Between};
 ghost use Rattle.band_normal.specs.Bands.{end_at, InBand, IsWellFormed};
 ghost use Rattle.relation_rows.specs.declared.rows.Row.{Row as PlainRow};
-ghost use Rattle.relation_rows.specs.Rows.{RowBefore};
 ghost use Rattle.relation_rows.specs.Relations.{HasMiddlePoint};
 ghost use Rattle.relation_rows.specs.Ways.{GoesOn};
-ghost use Rattle.relation_rows.specs.Apart.{IsLone, AreLone};
+ghost use Rattle.relation_rows.specs.Apart.{IsLone, AreLone, StandsUpTo};
 ghost use Rattle.relation_rows.specs.Direct.{Rests, TellsWays, LeadsBy, AddsWays, AreItsRows};
 
-use crate::apart::put_apart;
+use crate::apart::stand_apart;
+use crate::known::Known;
 use crate::offsets::Offsets;
 use crate::rows::Row;
+use crate::settle::settled;
 use crate::ways::{MANY, is_still};
 use band_normal::{Band, End};
 use std::alloc::{AllocError, Global};
@@ -185,25 +185,23 @@ fn push_onward(ways: &mut Vec<Row>, row: &Row, here: &[Row]) -> Result<bool, All
     Ok(true)
 }
 
-// Adds the ways that begin with the row. False if some aren't known, or if there are too many.
+// Adds the ways that begin with the row. False if some aren't known.
 fn push_from(ways: &mut Vec<Row>, row: &Row, second: &Offsets<'_>) -> Result<bool, AllocError>
     requires row { IsLone row.now.band }
     requires second { AreLone second.now }
     ensures { IfOk result (λ told. AddsWays (GoesOn row.now second.now) told ways.old.items ways.new.items) }
 {
-    if ways.len() > MANY {
-        return Ok(false);
-    }
     let here = second.from(row.target);
     let told = push_onward(ways, row, here)?;
     Ok(told)
 }
 
-// The ways that begin with the rows, if all are known.
+// The ways that begin with the rows, if all are known and they aren't too many.
 fn known_ways(
     alloc: Global,
     rows: &[Row],
     second: &Offsets<'_>,
+    most: usize,
 ) -> Result<Option<Vec<Row>>, AllocError>
     requires rows { AreLone rows.now }
     requires second { AreLone second.now }
@@ -211,6 +209,9 @@ fn known_ways(
 {
     let mut ways = Vec::with_capacity(alloc, rows.len())?;
     for row in rows {
+        if ways.len() > most {
+            return Ok(None);
+        }
         if !push_from(&mut ways, row, second)? {
             return Ok(None);
         }
@@ -218,21 +219,32 @@ fn known_ways(
     Ok(Some(ways))
 }
 
-/// The normal rows of the ways that begin with the rows, if they are known without a zone.
+// Puts the rows in order.
+fn sort_rows(rows: &mut Vec<Row>) -> Result<(), AllocError>
+    ensures order { OnOk result (Ordered StandsUpTo rows.new.items) }
+    ensures same { OnOk result ((r : PlainRow) → Among rows.new.items r ↔ Among rows.old.items r) }
+{
+    rows.sort_by_key(|row| ((row.source, row.target), row.band.from))?;
+    Ok(())
+}
+
+/// The normal rows of the ways that begin with the rows, if they are known without a zone. Where far more are than fit, they aren't sought.
 pub(crate) fn direct_rows(
-    alloc: Global,
+    known: &mut Known,
     rows: &[Row],
     second: &Offsets<'_>,
+    room: usize,
 ) -> Result<Option<Vec<Row>>, AllocError>
     requires rows { AreLone rows.now }
     requires second { AreLone second.now }
     ensures { IfOk result (λ o. IfSome o (λ ways. AreItsRows (HasMiddlePoint rows.now second.now) ways.items)) }
 {
-    let Some(mut ways) = known_ways(alloc, rows, second)? else {
+    let Some(mut ways) = known_ways(known.allocator(), rows, second, room.max(MANY))? else {
         return Ok(None);
     };
-    if put_apart(&mut ways) {
+    if stand_apart(&ways) {
         return Ok(Some(ways));
     }
-    Ok(None)
+    sort_rows(&mut ways)?;
+    Ok(Some(settled(known, &ways)?))
 }

@@ -210,15 +210,22 @@ pub(crate) fn gathered_of(
     gathered(known, &items, room)
 }
 
-/// The relation of the items, whatever number of rows it has.
-pub(crate) fn gathered_all(alloc: Global, items: Vec<Item>) -> Result<Relation, AllocError>
+/// The relation of the items, whatever number of rows it has, by what is known.
+pub(crate) fn gathered_with(known: &mut Known, items: Vec<Item>) -> Result<Relation, AllocError>
     ensures { IfOk result (λ rows. NormalRows (ItemsHold items.items) rows) }
 {
-    match gathered_of(&mut Known::new(alloc), items, usize::MAX) {
+    match gathered_of(known, items, usize::MAX) {
         Ok(relation) => Ok(relation),
         Err(RelFault::Memory) => Err(AllocError),
         Err(RelFault::Wide) => unreachable!(),
     }
+}
+
+/// The relation of the items, whatever number of rows it has.
+pub(crate) fn gathered_all(alloc: Global, items: Vec<Item>) -> Result<Relation, AllocError>
+    ensures { IfOk result (λ rows. NormalRows (ItemsHold items.items) rows) }
+{
+    gathered_with(&mut Known::new(alloc), items)
 }
 
 /// The relation of the zone from each object to itself. The zone is made normal once for all.

@@ -3,6 +3,12 @@
 use crate::Composed;
 use crate::grown_union::{Grown, newest_of};
 
+// So many steps are few.
+const FEW: u64 = 16;
+
+// A step that takes less than twice as far at once by this factor takes far less.
+const FAR: u64 = 16;
+
 /// Whether what is new is so much of the union that this is squared.
 pub(crate) fn is_much(newest: u64, all: u64) -> bool {
     newest > all / 4
@@ -13,6 +19,11 @@ pub(crate) fn is_much(newest: u64, all: u64) -> bool {
 pub(crate) fn has_replaced<C: Composed>(c: &C, half: &Grown<C::Value>) -> bool {
     let newest = c.size(newest_of(half));
     newest.saturating_sub(half.growth) > newest / 8
+}
+
+/// Whether the steps are so few, and each so much less than twice as far at once, that they pay also where they replace what was there.
+pub(crate) fn are_far_less(steps: u64, step: u64, doubling: u64) -> bool {
+    steps <= FEW && step.saturating_mul(FAR) <= doubling
 }
 
 /// A step further: what is new with x, and then the union.

@@ -6,7 +6,7 @@ ghost use Rattle.repeat_engine.specs.GrownUnions.{newest_or, OfEach, IsNewest, I
 
 use crate::Composed;
 use crate::calls::{compose, union};
-use crate::costs::{doubling_cost, has_replaced, step_cost};
+use crate::costs::{are_far_less, doubling_cost, has_replaced, step_cost};
 use crate::grown_union::{Grown, alone, grown_to, newest_of};
 
 // So many steps at most are looked ahead, since what is new becomes less.
@@ -28,15 +28,17 @@ pub(crate) fn walked<C: Composed>(
     ensures grows { let At = Grows (C.alike c.now) (C.algebra c.now) (C.means x.now) C.means in
         IfSome result (At (k + k)) }
 {
-    let budget = doubling_cost(c, half) / 2;
+    let doubling = doubling_cost(c, half);
     let mut spent = 0u64;
     let mut last = None;
     for step in 0..k {
         let from = latest_of(&last, half);
         let cost = step_cost(c, x, from);
-        if has_replaced(c, from)
-            || cost.saturating_mul(AHEAD.min(k - step)) > budget.saturating_sub(spent)
-        {
+        let ahead = cost.saturating_mul(AHEAD.min(k - step));
+        if ahead > (doubling / 2).saturating_sub(spent) {
+            return None;
+        }
+        if has_replaced(c, from) && !are_far_less(k - step, cost, doubling) {
             return None;
         }
         spent = spent.saturating_add(cost);

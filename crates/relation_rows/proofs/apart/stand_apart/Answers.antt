@@ -1,4 +1,5 @@
-use Rattle.std.proofs.Common.{arith}
+use Rattle.std.proofs.Common.{◌-◌, arith}
+use Rattle.itpg_base.proofs.Lists.{among_at}
 use Rattle.relation_rows.specs.Apart.{ComesApart}
 use Rattle.relation_rows.proofs.ApartRows.{all_next}
 use Rattle.relation_rows.proofs.Neighbours.{none_next, one_next}
@@ -12,3 +13,9 @@ loop-i-preserved c = one_next ComesApart c.args.rows.now c.loop-i.i _ _ c.loop-i
 
 pub returns : goal.returns
 returns c = λ e. all_next c.args.rows.now c.loop-i.i c.requires (omega arith) c.loop-i.invariant
+
+pub comes_apart-requires-clause-last : goal.comes_apart-requires-clause-last
+comes_apart-requires-clause-last c = let within = c.loop-i-test.true in (c.requires _ (among_at c.args.rows.now (c.loop-i.i - 1) _ (omega (arith, within)))).formed
+
+pub comes_apart-requires-clause-row : goal.comes_apart-requires-clause-row
+comes_apart-requires-clause-row c = (c.requires _ (among_at c.args.rows.now c.loop-i.i _ c.loop-i-test.true)).formed

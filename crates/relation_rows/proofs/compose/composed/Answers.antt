@@ -25,10 +25,10 @@ loop-first-init c = (
 pub direct_rows-requires-clause-rows : goal.direct_rows-requires-clause-rows
 direct_rows-requires-clause-rows c = group_lone c.args.rows.now c.args.second.now c.loop-first.left.now c.loop-first.done.items c.loop-first.invariant.0 c.batch_len.result c.split_at.result.0.now c.split_at.ensures.front c.requires.rows
 
-pub returns-then-len-max_rows : goal.returns-then-len-max_rows
-returns-then-len-max_rows c =
+pub returns-then-len-room : goal.returns-then-len-room
+returns-then-len-room c =
     let ways = subst (λ (v : Option (Vec Row Global)). IfSome v (λ ways. AreItsRows (HasMiddlePoint c.split_at.result.0.now c.args.second.now) ways.items)) c.in-Some-2.is c.in_ok-ways.ensures in
-    let count : c.len-in-Some.result ≡ length c.loop-first.done.items = omega arith in
+    let count : c.len.result ≡ length c.loop-first.done.items = omega arith in
     too_wide c.args.rows.now c.args.second.now c.loop-first.left.now c.loop-first.done.items c.loop-first.invariant.0 c.batch_len.result c.batch_len.ensures.apart c.split_at.result.0.now c.split_at.result.1.now c.split_at.ensures.front c.split_at.ensures.back
     c.args.max_rows c.loop-first.invariant.1 (its_wide (HasMiddlePoint c.split_at.result.0.now c.args.second.now) c.in-Some-2.ways.items (c.args.max_rows - length c.loop-first.done.items) ways (omega arith))
 
@@ -37,10 +37,10 @@ loop-first-preserved c =
     let ways = subst (λ (v : Option (Vec Row Global)). IfSome v (λ ways. AreItsRows (HasMiddlePoint c.split_at.result.0.now c.args.second.now) ways.items)) c.in-Some-2.is c.in_ok-ways.ensures in
     let extended = c.in_ok-extend_from_slice.ensures.items in
     let all = extended ∙ ap (λ (v : List Row). c.loop-first.done.items ++ v) c.deref.ensures.value in
-    let count : c.len-in-Some.result ≡ length c.loop-first.done.items = omega arith in (
+    let count : c.len.result ≡ length c.loop-first.done.items = omega arith in (
       next_composed c.args.rows.now c.args.second.now c.loop-first.left.now c.loop-first.done.items c.loop-first.invariant.0 c.batch_len.result c.batch_len.ensures.apart c.split_at.result.0.now c.split_at.result.1.now c.split_at.ensures.front c.split_at.ensures.back
           c.in-Some-2.ways.items ways.normal ways.formed c.extend_from_slice.new.self.items all,
-      within_limit c.args.max_rows c.len-in-Some.result c.loop-first.done.items c.in-Some-2.ways.items c.extend_from_slice.new.self.items all count c.loop-first.invariant.1 (omega arith),
+      within_limit c.args.max_rows c.len.result c.loop-first.done.items c.in-Some-2.ways.items c.extend_from_slice.new.self.items all count c.loop-first.invariant.1 (omega arith),
     )
 
 pub invariant_of-result : goal.invariant_of-result

@@ -1,4 +1,4 @@
-use Rattle.std.proofs.Common.{List, [], Option, refl, subst, arith}
+use Rattle.std.proofs.Common.{List, Option, subst, arith}
 use Rattle.std.specs.Prelude.{IfSome}
 use Rattle.std.specs.Global.{Global}
 use Rattle.std.specs.declared.vec.Vec.{Vec}
@@ -8,7 +8,6 @@ use Rattle.relation_rows.specs.Relations.{HasMiddlePoint}
 use Rattle.relation_rows.specs.Direct.{AreItsRows}
 use Rattle.relation_rows.proofs.DirectWays.{its_relation, its_wide, lone_formed}
 use Rattle.relation_rows.proofs.HalfRows.{gives_all}
-use Rattle.relation_rows.proofs.Sources.{none_composed}
 use Rattle.relation_rows.proofs.compose.of_sources.Goals as goal
 
 pub by_zones-requires-clause-rows : goal.by_zones-requires-clause-rows
@@ -29,11 +28,11 @@ invariant_of-result c =
     let ways = subst (λ (v : Option (Vec Row Global)). IfSome v (λ ways. AreItsRows (HasMiddlePoint c.args.rows.now c.args.second.now) ways.items)) c.in-Some.is c.in_ok-ways.ensures in
     its_relation (HasMiddlePoint c.args.rows.now c.args.second.now) c.in-Some.ways.items ways
 
-pub by_even_runs-requires-clause-rows : goal.by_even_runs-requires-clause-rows
-by_even_runs-requires-clause-rows c = lone_formed c.args.rows.now c.requires.rows
+pub by_runs-requires-clause-rows : goal.by_runs-requires-clause-rows
+by_runs-requires-clause-rows c = lone_formed c.args.rows.now c.requires.rows
 
-pub by_even_runs-requires-clause-second : goal.by_even_runs-requires-clause-second
-by_even_runs-requires-clause-second c = none_composed c.args.second.now [] refl c.requires.second.order c.requires.second.formed
+pub by_runs-requires-clause-second : goal.by_runs-requires-clause-second
+by_runs-requires-clause-second c = c.requires.second.formed
 
 pub returns-in_default : goal.returns-in_default
 returns-in_default c =

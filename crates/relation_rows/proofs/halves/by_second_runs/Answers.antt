@@ -5,22 +5,21 @@ use Rattle.itpg_base.proofs.Lists.{append_first, ordered_first}
 use Rattle.relation_rows.specs.declared.rows.Row.{Row}
 use Rattle.relation_rows.specs.Rows.{RowBefore, NormalRows}
 use Rattle.relation_rows.specs.Relations.{EitherHolds, HasMiddlePoint}
-use Rattle.relation_rows.proofs.LaterHalves.{none_later_run, next_later_run, left_later_among, left_later_ordered}
-use Rattle.relation_rows.proofs.later_halves.by_later_runs.Goals as goal
+use Rattle.relation_rows.proofs.LaterHalves.{next_later_run, left_later_among, left_later_ordered}
+use Rattle.relation_rows.proofs.halves.by_second_runs.Goals as goal
 
-pub by_halves-requires-clause-order : goal.by_halves-requires-clause-order
-by_halves-requires-clause-order c =
-    let whole = subst (λ (v : List Row). Ordered RowBefore v) c.rows-left.ensures.rows c.rows-left.ensures.order in
-    let order = left_later_ordered c.args.rows.now c.args.second.now c.loop-left.left.now c.loop-left.all c.loop-left.invariant whole in
+pub by_halves-requires-clause-others_order : goal.by_halves-requires-clause-others_order
+by_halves-requires-clause-others_order c =
+    let order = left_later_ordered c.args.rows.now c.args.others.now c.loop-left.left.now c.loop-left.all c.loop-left.invariant c.requires.others_order in
     ordered_first RowBefore c.split_at.result.0.now c.split_at.result.1.now (subst (λ (v : List Row). Ordered RowBefore v) c.split_at.ensures.by_index.0 order)
 
 pub by_halves-requires-clause-others : goal.by_halves-requires-clause-others
 by_halves-requires-clause-others c = λ r a.
-    c.requires.second r (left_later_among c.args.rows.now c.args.second.now c.loop-left.left.now c.loop-left.all c.loop-left.invariant r
+    c.requires.others r (left_later_among c.args.rows.now c.args.others.now c.loop-left.left.now c.loop-left.all c.loop-left.invariant r
     (subst (λ (v : List Row). Among v r) (sym c.split_at.ensures.by_index.0) (append_first c.split_at.result.0.now c.split_at.result.1.now r a)))
 
 pub loop-left-preserved : goal.loop-left-preserved
 loop-left-preserved c =
     let more = subst (λ (v : Option (List Row)). IfSome v (λ all. NormalRows (HasMiddlePoint c.args.rows.now c.split_at.result.0.now) all)) c.in-Some.is c.in_ok-more.ensures in
     let both = subst (λ (v : Option (List Row)). IfSome v (λ all. NormalRows (EitherHolds c.loop-left.all c.in-Some.more) all)) c.in-Some-2.is c.in_ok-both.ensures in
-    next_later_run c.args.rows.now c.args.second.now c.loop-left.left.now c.loop-left.all c.loop-left.invariant c.split_at.result.0.now c.split_at.result.1.now c.in-Some.more c.in-Some-2.both c.split_at.ensures.by_index.0 more both
+    next_later_run c.args.rows.now c.args.others.now c.loop-left.left.now c.loop-left.all c.loop-left.invariant c.split_at.result.0.now c.split_at.result.1.now c.in-Some.more c.in-Some-2.both c.split_at.ensures.by_index.0 more both
