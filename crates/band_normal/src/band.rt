@@ -43,7 +43,7 @@ pub struct Band {
 impl End {
     ghost use Rattle.band_normal.specs.Bands.{end_at};
 
-    /// The moment at which the end stands at a departure..
+    /// The moment at which the end stands at a departure.
     pub fn at(self, departure: i64) -> i64
         requires { FitsSigned w64 (end_at self departure) }
         ensures { result ≡ end_at self departure }

@@ -3,7 +3,9 @@ use Rattle.std.proofs.Common.{◌≡◌, ℕ, List, [], ◌∷◌, Option, Some,
 use Rattle.itpg_base.specs.declared.text_code.TextCode.{TextCode}
 use Rattle.script_lex.specs.Lines.{Placed, IsNext, IsLineFault, EndsAt, AreTokens}
 use Rattle.script_lex.proofs.OneList.{next_unique, next_goes_on, tokens_unique}
-use Rattle.edit_reader.specs.Taken.{IsReached, IsWhole, IsTaken}
+use Rattle.script_lex.specs.Lexemes.{Lexeme, AWord, ANumber, AQuote, AMark}
+use Rattle.edit_reader.specs.Forms.{lexemes}
+use Rattle.edit_reader.specs.Taken.{IsReached, IsWhole, IsTaken, NoWord, NoNumber}
 
 -- the next token is the first of them
 pub next_taken : (line : List ℕ) (at : ℕ) (t : Placed) (tokens : List Placed) → IsNext line at t → AreTokens line at tokens None → IsTaken line tokens t.what line t.to
@@ -38,3 +40,25 @@ reached_more line at t r next = λ rest tokens end stop left are. r (t ∷ rest)
 -- where nothing but blanks follows, all tokens have been read
 pub reached_end : (line : List ℕ) (at : ℕ) → IsReached line at → EndsAt line at None → IsWhole line
 reached_end line at r ends = λ tokens end are. r [] tokens None end ends are
+
+-- where no word is next, none is the first of them
+pub no_word_first : (line : List ℕ) (at : ℕ) (tokens : List Placed) → ((t : Placed) (word : List ℕ) → IsNext line at t → t.what ≡ AWord word → ⊥) → AreTokens line at tokens None → NoWord (lexemes tokens)
+no_word_first line at [] none are = tt
+no_word_first line at (x ∷ xs) none are = by_kind x.what refl
+  where
+    by_kind : (what : Lexeme) → x.what ≡ what → NoWord (what ∷ lexemes xs)
+    by_kind (AWord word) e = absurd (none x word are.0 e)
+    by_kind (ANumber number) e = tt
+    by_kind (AQuote text) e = tt
+    by_kind (AMark mark) e = tt
+
+-- and so it is with a number
+pub no_number_first : (line : List ℕ) (at : ℕ) (tokens : List Placed) → ((t : Placed) (number : List ℕ) → IsNext line at t → t.what ≡ ANumber number → ⊥) → AreTokens line at tokens None → NoNumber (lexemes tokens)
+no_number_first line at [] none are = tt
+no_number_first line at (x ∷ xs) none are = by_kind x.what refl
+  where
+    by_kind : (what : Lexeme) → x.what ≡ what → NoNumber (what ∷ lexemes xs)
+    by_kind (AWord word) e = tt
+    by_kind (ANumber number) e = absurd (none x number are.0 e)
+    by_kind (AQuote text) e = tt
+    by_kind (AMark mark) e = tt

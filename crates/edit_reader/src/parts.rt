@@ -7,7 +7,7 @@ ghost use Rattle.edit_reader.specs.Taken.{OfRest, IsReached, IsWhole, IsTaken, N
 ghost use Rattle.edit_reader.specs.Taken.{AreSpan, NoSpan, AreNameAndSpan, NoNameAndSpan, IsOnlyName, NoOnlyName};
 
 use itpg_base::{MAX_NAME, Name, TextCode};
-use script_lex::{What, next_token, value_of};
+use script_lex::{What, is_end, next_number, next_token, next_word, value_of};
 
 // What stands in a line from a place on.
 #[derive(Clone, Copy)]
@@ -61,9 +61,15 @@ impl<'a> Parts<'a> {
             (λ code. (code ≡ TextCode.Text) × NoWord (lexemes tokens))) }
         ensures line { IfOk result (λ r. r.1.line.now ≡ self.entry.line.now) }
     {
-        match self.token() {
-            Some((What::Word(word), rest)) => Ok((word, rest)),
-            _ => Err(TextCode::Text),
+        match next_word(self.line, self.at) {
+            Some(word) => Ok((
+                word.bytes,
+                Parts {
+                    line: self.line,
+                    at: word.to,
+                },
+            )),
+            None => Err(TextCode::Text),
         }
     }
 
@@ -76,9 +82,15 @@ impl<'a> Parts<'a> {
         ensures number { IfOk result (λ r. IsNumber r.0.now) }
         ensures line { IfOk result (λ r. r.1.line.now ≡ self.entry.line.now) }
     {
-        match self.token() {
-            Some((What::Number(number), rest)) => Ok((number, rest)),
-            _ => Err(TextCode::Text),
+        match next_number(self.line, self.at) {
+            Some(number) => Ok((
+                number.bytes,
+                Parts {
+                    line: self.line,
+                    at: number.to,
+                },
+            )),
+            None => Err(TextCode::Text),
         }
     }
 
@@ -102,10 +114,10 @@ impl<'a> Parts<'a> {
             MatchResult result (λ _. tokens ≡ []) (λ code. (code ≡ TextCode.Text) × (tokens ≢ []))) }
         ensures whole { IfOk result (λ _. IsWhole self.entry.line.now) }
     {
-        match next_token(self.line, self.at) {
-            Ok(None) => Ok(()),
-            Ok(Some(_)) => Err(TextCode::Text),
-            Err(_) => Err(TextCode::Text),
+        if is_end(self.line, self.at) {
+            Ok(())
+        } else {
+            Err(TextCode::Text)
         }
     }
 

@@ -128,7 +128,7 @@ mark_read marks bytes t e = by_mark (find (λ k. starts_with nat_eq bytes (mark_
     by_mark None f = absurd (let g : None ≡ Some t = sym (ap (option_map AMark) f) ∙ e in let none : ⊥ = cc in none)
     by_mark (Some m) f = subst (IsRead bytes) (same_Some (AMark m) t (sym (ap (option_map AMark) f) ∙ e)) (record { front = mark_front marks bytes m f; number = tt })
 
-row_or_later : (r : Option Lexeme) (rows : List (Option Lexeme)) (t : Lexeme) → first_some (r ∷ rows) ≡ Some t → (r ≡ Some t) ⊎ (first_some rows ≡ Some t)
+pub row_or_later : (r : Option Lexeme) (rows : List (Option Lexeme)) (t : Lexeme) → first_some (r ∷ rows) ≡ Some t → (r ≡ Some t) ⊎ (first_some rows ≡ Some t)
 row_or_later None rows t e = inr e
 row_or_later (Some s) rows t e = inl e
 

@@ -4,3 +4,4 @@ pub mod Fronts
 pub mod Places
 pub mod OneList
 pub mod Digits
+pub mod NextKinds

@@ -51,7 +51,7 @@ pub fn next_token<'a>(line: &'a [u8], at: usize) -> Result<Option<Token<'a>>, Te
 }
 
 // The place of the first byte from `at` on that is no blank, or the end of the line.
-fn skip_blanks(line: &[u8], at: usize) -> usize
+pub(crate) fn skip_blanks(line: &[u8], at: usize) -> usize
     requires { at ≤ length line.now }
     ensures place { result ≡ behind_blanks line.now at }
     ensures within { result ≤ length line.now }
@@ -82,7 +82,7 @@ fn read_token(bytes: &[u8]) -> Result<What<'_>, TextCode>
 }
 
 // The first byte, with as many bytes of the kind as follow.
-fn first_and_run(bytes: &[u8], class: Class) -> &[u8]
+pub(crate) fn first_and_run(bytes: &[u8], class: Class) -> &[u8]
     requires { 0 < length bytes.now }
     ensures { result.now ≡ slice_index bytes.now 0 ∷ take_while (is_in class) (drop 1 bytes.now) }
 {
@@ -90,7 +90,7 @@ fn first_and_run(bytes: &[u8], class: Class) -> &[u8]
 }
 
 // Whether a number begins with the first byte: it is a digit, or a `-` directly before one.
-fn is_number(first: u8, rest: &[u8]) -> bool
+pub(crate) fn is_number(first: u8, rest: &[u8]) -> bool
     ensures { result ≡ begins_number (first ∷ rest.now) }
 {
     first.is_ascii_digit() || first == b'-' && begins_with_digit(rest)

@@ -11,9 +11,11 @@ mod lexing;
 mod mark;
 mod numbers;
 mod token;
+mod wanted;
 
 pub use laws::{law_of_lines, law_of_places, law_of_reading, law_of_tokens};
 pub use lexing::next_token;
 pub use mark::Mark;
 pub use numbers::{MAX_NUMBER, value_of};
 pub use token::{MAX_TOKENS, Token, What};
+pub use wanted::{Taken, is_end, next_number, next_word};
