@@ -1,5 +1,5 @@
 //! The one kind of splice that each change of a list makes.
-ghost use Rattle.std.specs.Prelude.{◌≡◌, ℕ, ◌*◌, ◌^◌, ◌<◌, ◌≤◌, ◌++◌, length, take, drop, vec_len, OnOk, OnErr};
+ghost use Rattle.std.specs.Prelude.{◌≡◌, ℕ, ◌*◌, ◌^◌, ◌<◌, ◌≤◌, ◌++◌, ◌∷◌, length, take, drop, vec_len, OnOk, OnErr};
 ghost use Rattle.std.specs.Mem.{type_size};
 ghost use Rattle.interval_set.specs.Splices.{CanSplice, spliced};
 
@@ -43,6 +43,7 @@ impl<T: Copy> Splice<T> {
         let (first, last) = (self.first, self.last);
         match (self.before, self.own, self.after) {
             (None, None, None) => replace_run(items, first, last, &[]),
+            (None, Some(own), None) if first == last => insert_at(items, first, own),
             (Some(a), None, None) | (None, Some(a), None) | (None, None, Some(a)) => replace_run(
                 items,
                 first,
@@ -54,6 +55,20 @@ impl<T: Copy> Splice<T> {
             (Some(a), Some(b), Some(c)) => replace_run(items, first, last, &[a, b, c]),
         }
     }
+}
+
+/// Puts the piece before the item at the place. Most changes of a list do no more.
+fn insert_at<T: Copy>(items: &mut Vec<T>, place: usize, piece: T) -> Result<(), AllocError>
+    requires { place ≤ vec_len items.old }
+    ensures ok { OnOk result (items.new.items ≡ take place items.old.items ++ (piece ∷ drop place items.old.items)) }
+    ensures err { OnErr result (items.new.items ≡ items.old.items) }
+{
+    if items.is_empty() {
+        // Most lists never get a second item.
+        items.reserve_exact(1)?;
+    }
+    items.insert(place, piece)?;
+    Ok(())
 }
 
 /// Puts `pieces` in place of the items from `first` to before `last`. Only what lies behind them moves.
