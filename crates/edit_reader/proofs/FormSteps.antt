@@ -5,7 +5,7 @@ use Rattle.script_lex.specs.Lexemes.{AWord, AQuote}
 use Rattle.script_lex.specs.Lines.{Placed}
 use Rattle.edit_reader.specs.Readings.{Changes}
 use Rattle.edit_reader.specs.Forms.{lexemes}
-use Rattle.edit_reader.specs.Steps.{name_then, node_names_then, edge_names_then, node_told, edge_told, put_told, clear_told}
+use Rattle.edit_reader.specs.Steps.{name_then, node_names_then, edge_names_then, node_told, edge_told, live_told, put_told, clear_told}
 use Rattle.edit_reader.specs.Taken.{IsTaken, AreSpan, NoWord, AreListed, NoneListed}
 use Rattle.edit_reader.proofs.Stepping.{word_step, quoted_step}
 use Rattle.edit_reader.proofs.PartSteps.{goes_to_end, stops_at_end, stops_at_word, goes_on_span, labels_step, stops_at_labels}
@@ -18,6 +18,11 @@ module _ {l l1 l2 : List ℕ} {at1 at2 : ℕ} {tokens : List Placed} {id second 
   pub put_steps : {l3 : List ℕ} {at3 : ℕ} {text : List ℕ} (v : IsTaken l2 u.rest (AQuote text) l3 at3) (from to : ℤ) → AreSpan (lexemes v.rest) from to → put_told (lexemes tokens) ≡ name_then id (λ a. name_then second (λ b. name_then text (λ c. Ok (Changes (Edit.Put a b c from to)))))
   put_steps {text = text} v from to span =
       word_step t _ ∙ word_step u _ ∙ quoted_step v _ ∙ goes_on_span (lexemes v.rest) span (λ from to. name_then id (λ a. name_then second (λ b. name_then text (λ c. Ok (Changes (Edit.Put a b c from to))))))
+
+-- behind a name stands a span
+module _ {l l1 : List ℕ} {at1 : ℕ} {tokens : List Placed} {id : List ℕ} (t : IsTaken l tokens (AWord id) l1 at1) where
+  pub live_steps : (from to : ℤ) → AreSpan (lexemes t.rest) from to → live_told (lexemes tokens) ≡ name_then id (λ a. Ok (Changes (Edit.Live a from to)))
+  live_steps from to span = word_step t _ ∙ goes_on_span (lexemes t.rest) span (λ from to. name_then id (λ a. Ok (Changes (Edit.Live a from to))))
 
 -- behind a name stands a list of labels
 module _ {l l1 : List ℕ} {at1 : ℕ} {tokens : List Placed} {id : List ℕ} (t : IsTaken l tokens (AWord id) l1 at1) where

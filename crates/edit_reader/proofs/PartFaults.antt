@@ -1,5 +1,5 @@
 -- The faults of the parts of a form.
-use Rattle.std.proofs.Common.{◌≡◌, ◌⊎◌, inl, inr, ℕ, pos, neg_ℤ, ◌<◌, ◌≤◌, List, [], ◌∷◌, Bool, true, false, Err, length, refl, sym, ap, arith, ℤ}
+use Rattle.std.proofs.Common.{◌≡◌, ◌⊎◌, inl, inr, true≢false, ℕ, pos, neg_ℤ, ◌<◌, ◌≤◌, List, [], ◌∷◌, Bool, true, false, Err, length, refl, sym, ap, arith, ℤ}
 use Rattle.std.specs.Prelude.{nat_eq, nat_le, slice_index, if◌then◌else◌}
 use Rattle.std.specs.Str.Parse.{digits_value}
 use Rattle.std.proofs.lemmas.Bool.{leb-true, leb-false, le-leb, lt-leb}
@@ -51,6 +51,14 @@ named {text = text} is go_on = rw (le-leb (length text) MAX_NAME is.0) (ap go_on
 
 pub overlong : (text : Word) {code : TextCode} → IsLong text code → (go_on : Word → Told) → name_then text go_on ≡ Err code
 overlong text is go_on = rw (lt-leb (length text) MAX_NAME is.1) (ap Err (sym is.0))
+
+-- a name was made of the text, so that it isn't too long
+pub name_of : {text name : Word} → (MAX_NAME < length text → true ≡ false) → name ≡ text → Names text name
+name_of {text = text} {name = name} long same = by_test (nat_le (length text) MAX_NAME) refl
+  where
+    by_test : (t : Bool) → nat_le (length text) MAX_NAME ≡ t → Names text name
+    by_test true e = (leb-true _ _ e, same)
+    by_test false e = absurd (true≢false (long (leb-false _ _ e)))
 
 -- some number is too far, or none is
 pub near_or_far : (parts : List Lexeme) (go_on : Told) → (HasFarNumber parts × (near parts go_on ≡ Err TextCode.Number)) ⊎ ((¬ HasFarNumber parts) × (near parts go_on ≡ go_on))

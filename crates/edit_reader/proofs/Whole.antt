@@ -1,8 +1,6 @@
 -- What a line is, from what was found out of its tokens and their form.
-use Rattle.std.proofs.Common.{◌≡◌, ℕ, ◌≤◌, List, [], ◌∷◌, false, Option, Some, None, Result, Ok, Err, length, drop, refl, sym, ap, ap₂, ◌∙◌, subst}
-use Rattle.std.specs.Prelude.{slice_get, IfOk}
-use Rattle.std.specs.Result.{is_err}
-use Rattle.edit_reader.specs.declared.line.Line.{Line}
+use Rattle.std.proofs.Common.{◌≡◌, ℕ, ◌≤◌, List, [], ◌∷◌, false, Option, Some, None, Err, length, drop, refl, sym, ap, ap₂, ◌∙◌, subst}
+use Rattle.std.specs.Prelude.{slice_get}
 use Rattle.itpg_base.specs.Words.{Word}
 use Rattle.itpg_base.specs.declared.text_code.TextCode.{TextCode}
 use Rattle.edit_reader.specs.declared.reading.TheConstants.{MAX_LINE}
@@ -74,8 +72,3 @@ module _ (line : List ℕ) {left : List ℕ} {at : ℕ} {tokens : List Placed} {
 
       of_first : r ≡ form_told (form_of line (t.first ∷ t.rest)) (parts_of (t.first ∷ t.rest))
       of_first = rw some_at (form text (ap₂ (λ (k : ℕ) (bytes : List ℕ). drop k bytes) (sym t.to) (sym t.same)) (behind 0) (behind 1))
-
--- what holds where something was read holds where the answer is no fault
-pub if_read : (answer : Result Line TextCode) (P : Type 0) → is_err answer ≡ false → IfOk answer (λ _. P) → P
-if_read (Ok line) P good holds = holds
-if_read (Err code) P good holds = let never : ⊥ = cc in absurd never

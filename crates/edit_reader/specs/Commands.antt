@@ -31,16 +31,18 @@ command_word Command.Follow = codes "follow"
 command_word Command.Near = codes "near"
 command_word Command.Unfollow = codes "unfollow"
 
--- a query text stands behind the command word
-abbrev pub has_query : Command → Bool
-has_query Command.Ask = true
-has_query Command.First = true
-has_query Command.Last = true
-has_query Command.Count = true
-has_query Command.Watch = true
-has_query Command.In = true
-has_query Command.Follow = true
-has_query _ = false
+-- the graph changes by what stands behind the command word
+abbrev pub is_edit : Command → Bool
+is_edit Command.Graph = true
+is_edit Command.Extend = true
+is_edit Command.Node = true
+is_edit Command.Edge = true
+is_edit Command.Live = true
+is_edit Command.Gone = true
+is_edit Command.Set = true
+is_edit Command.Unset = true
+is_edit Command.Drop = true
+is_edit _ = false
 
 -- all commands
 abbrev pub commands : List Command

@@ -1,6 +1,6 @@
 //! The command words.
 ghost use Rattle.std.specs.Prelude.{◌≡◌};
-ghost use Rattle.edit_reader.specs.Commands.{command_word, command_of, has_query};
+ghost use Rattle.edit_reader.specs.Commands.{command_word, command_of, is_edit};
 
 #[derive(Clone, Copy)]
 pub(crate) enum Command {
@@ -67,19 +67,21 @@ impl Command {
             .find(|command| command.word() == word)
     }
 
-    // Whether a query text stands behind the word.
-    pub(crate) fn has_query(self) -> bool
-        ensures { result ≡ has_query self }
+    // Whether the graph changes by what a line with this word asks for.
+    pub(crate) fn is_edit(self) -> bool
+        ensures { result ≡ is_edit self }
     {
         matches!(
             self,
-            Command::Ask
-                | Command::First
-                | Command::Last
-                | Command::Count
-                | Command::Watch
-                | Command::In
-                | Command::Follow
+            Command::Graph
+                | Command::Extend
+                | Command::Node
+                | Command::Edge
+                | Command::Live
+                | Command::Gone
+                | Command::Set
+                | Command::Unset
+                | Command::Drop
         )
     }
 

@@ -1,40 +1,39 @@
-//! The lines that change the graph: what stands behind their command words.
+//! The lines that change the graph: what stands behind their command words is written into the room.
 ghost use Rattle.std.specs.Prelude.{IfOk};
 ghost use Rattle.edit_reader.specs.Steps.{begin_told, extend_told, node_told, edge_told, live_told, gone_told, put_told, clear_told, remove_told};
-ghost use Rattle.edit_reader.specs.Answers.{Tells};
+ghost use Rattle.edit_reader.specs.Answers.{WritesEdit};
 ghost use Rattle.edit_reader.specs.Taken.{IsWhole};
 
-use crate::line::Line;
 use crate::parts::{Parts, name};
-use itpg_base::{LabelSet, TextCode};
+use itpg_base::{LabelSet, Name, TextCode};
 use itpg_edit::Edit;
 
 // `NAME LO HI`
 #[inline(never)]
-pub(crate) fn begin<'a>(parts: Parts<'a>, room: &'a mut Edit) -> Result<Line<'a>, TextCode>
-    ensures told { Tells parts.entry.line.now parts.entry.at begin_told result }
+pub(crate) fn begin(parts: Parts<'_>, room: &mut Edit) -> Result<(), TextCode>
+    ensures told { WritesEdit parts.entry.line.now parts.entry.at begin_told result room.new }
     ensures whole { IfOk result (λ _. IsWhole parts.entry.line.now) }
 {
     let (name, lo, hi) = parts.name_and_span()?;
     *room = Edit::Begin { name, lo, hi };
-    Ok(Line::Edit(room))
+    Ok(())
 }
 
 // `LO HI`
 #[inline(never)]
-pub(crate) fn extend<'a>(parts: Parts<'a>, room: &'a mut Edit) -> Result<Line<'a>, TextCode>
-    ensures told { Tells parts.entry.line.now parts.entry.at extend_told result }
+pub(crate) fn extend(parts: Parts<'_>, room: &mut Edit) -> Result<(), TextCode>
+    ensures told { WritesEdit parts.entry.line.now parts.entry.at extend_told result room.new }
     ensures whole { IfOk result (λ _. IsWhole parts.entry.line.now) }
 {
     let (lo, hi) = parts.span()?;
     *room = Edit::Extend { lo, hi };
-    Ok(Line::Edit(room))
+    Ok(())
 }
 
 // `ID LABELS`. Mostly the list is one word, which is then read once, and no array is made for it.
 #[inline(never)]
-pub(crate) fn node<'a>(parts: Parts<'a>, room: &'a mut Edit) -> Result<Line<'a>, TextCode>
-    ensures told { Tells parts.entry.line.now parts.entry.at node_told result }
+pub(crate) fn node(parts: Parts<'_>, room: &mut Edit) -> Result<(), TextCode>
+    ensures told { WritesEdit parts.entry.line.now parts.entry.at node_told result room.new }
     ensures whole { IfOk result (λ _. IsWhole parts.entry.line.now) }
 {
     let (id, listed) = parts.word()?;
@@ -43,21 +42,25 @@ pub(crate) fn node<'a>(parts: Parts<'a>, room: &'a mut Edit) -> Result<Line<'a>,
         Some(_) => node_of_labels(parts, room),
         None => {
             rest.end()?;
-            let id = name(id)?;
-            let label = name(label)?;
+            let Some(id) = Name::new(id) else {
+                return Err(TextCode::Name);
+            };
+            let Some(label) = Name::new(label) else {
+                return Err(TextCode::Name);
+            };
             *room = Edit::AddNode {
                 id,
                 labels: LabelSet::one(label),
             };
-            Ok(Line::Edit(room))
+            Ok(())
         }
     }
 }
 
 // The same, whatever the number of labels.
 #[inline(never)]
-fn node_of_labels<'a>(parts: Parts<'a>, room: &'a mut Edit) -> Result<Line<'a>, TextCode>
-    ensures told { Tells parts.entry.line.now parts.entry.at node_told result }
+fn node_of_labels(parts: Parts<'_>, room: &mut Edit) -> Result<(), TextCode>
+    ensures told { WritesEdit parts.entry.line.now parts.entry.at node_told result room.new }
     ensures whole { IfOk result (λ _. IsWhole parts.entry.line.now) }
 {
     let (id, listed) = parts.word()?;
@@ -66,13 +69,13 @@ fn node_of_labels<'a>(parts: Parts<'a>, room: &'a mut Edit) -> Result<Line<'a>, 
     let id = name(id)?;
     let labels = listed.labels()?;
     *room = Edit::AddNode { id, labels };
-    Ok(Line::Edit(room))
+    Ok(())
 }
 
 // `ID LABELS SRC TGT`, as for a node.
 #[inline(never)]
-pub(crate) fn edge<'a>(parts: Parts<'a>, room: &'a mut Edit) -> Result<Line<'a>, TextCode>
-    ensures told { Tells parts.entry.line.now parts.entry.at edge_told result }
+pub(crate) fn edge(parts: Parts<'_>, room: &mut Edit) -> Result<(), TextCode>
+    ensures told { WritesEdit parts.entry.line.now parts.entry.at edge_told result room.new }
     ensures whole { IfOk result (λ _. IsWhole parts.entry.line.now) }
 {
     let (id, listed) = parts.word()?;
@@ -83,25 +86,33 @@ pub(crate) fn edge<'a>(parts: Parts<'a>, room: &'a mut Edit) -> Result<Line<'a>,
             let (source, rest) = rest.word()?;
             let (target, rest) = rest.word()?;
             rest.end()?;
-            let id = name(id)?;
-            let label = name(label)?;
-            let source = name(source)?;
-            let target = name(target)?;
+            let Some(id) = Name::new(id) else {
+                return Err(TextCode::Name);
+            };
+            let Some(label) = Name::new(label) else {
+                return Err(TextCode::Name);
+            };
+            let Some(source) = Name::new(source) else {
+                return Err(TextCode::Name);
+            };
+            let Some(target) = Name::new(target) else {
+                return Err(TextCode::Name);
+            };
             *room = Edit::AddEdge {
                 id,
                 labels: LabelSet::one(label),
                 source,
                 target,
             };
-            Ok(Line::Edit(room))
+            Ok(())
         }
     }
 }
 
 // The same, whatever the number of labels.
 #[inline(never)]
-fn edge_of_labels<'a>(parts: Parts<'a>, room: &'a mut Edit) -> Result<Line<'a>, TextCode>
-    ensures told { Tells parts.entry.line.now parts.entry.at edge_told result }
+fn edge_of_labels(parts: Parts<'_>, room: &mut Edit) -> Result<(), TextCode>
+    ensures told { WritesEdit parts.entry.line.now parts.entry.at edge_told result room.new }
     ensures whole { IfOk result (λ _. IsWhole parts.entry.line.now) }
 {
     let (id, listed) = parts.word()?;
@@ -119,44 +130,54 @@ fn edge_of_labels<'a>(parts: Parts<'a>, room: &'a mut Edit) -> Result<Line<'a>, 
         source,
         target,
     };
-    Ok(Line::Edit(room))
+    Ok(())
 }
 
 // `ID FROM TO`
 #[inline(never)]
-pub(crate) fn live<'a>(parts: Parts<'a>, room: &'a mut Edit) -> Result<Line<'a>, TextCode>
-    ensures told { Tells parts.entry.line.now parts.entry.at live_told result }
+pub(crate) fn live(parts: Parts<'_>, room: &mut Edit) -> Result<(), TextCode>
+    ensures told { WritesEdit parts.entry.line.now parts.entry.at live_told result room.new }
     ensures whole { IfOk result (λ _. IsWhole parts.entry.line.now) }
 {
-    let (id, from, to) = parts.name_and_span()?;
+    let (id, rest) = parts.word()?;
+    let (from, to) = rest.span()?;
+    let Some(id) = Name::new(id) else {
+        return Err(TextCode::Name);
+    };
     *room = Edit::Live { id, from, to };
-    Ok(Line::Edit(room))
+    Ok(())
 }
 
 // `ID FROM TO`
 #[inline(never)]
-pub(crate) fn gone<'a>(parts: Parts<'a>, room: &'a mut Edit) -> Result<Line<'a>, TextCode>
-    ensures told { Tells parts.entry.line.now parts.entry.at gone_told result }
+pub(crate) fn gone(parts: Parts<'_>, room: &mut Edit) -> Result<(), TextCode>
+    ensures told { WritesEdit parts.entry.line.now parts.entry.at gone_told result room.new }
     ensures whole { IfOk result (λ _. IsWhole parts.entry.line.now) }
 {
     let (id, from, to) = parts.name_and_span()?;
     *room = Edit::Gone { id, from, to };
-    Ok(Line::Edit(room))
+    Ok(())
 }
 
 // `ID PROP 'VALUE' FROM TO`
 #[inline(never)]
-pub(crate) fn put<'a>(parts: Parts<'a>, room: &'a mut Edit) -> Result<Line<'a>, TextCode>
-    ensures told { Tells parts.entry.line.now parts.entry.at put_told result }
+pub(crate) fn put(parts: Parts<'_>, room: &mut Edit) -> Result<(), TextCode>
+    ensures told { WritesEdit parts.entry.line.now parts.entry.at put_told result room.new }
     ensures whole { IfOk result (λ _. IsWhole parts.entry.line.now) }
 {
     let (id, rest) = parts.word()?;
     let (prop, rest) = rest.word()?;
     let (value, rest) = rest.quoted()?;
     let (from, to) = rest.span()?;
-    let id = name(id)?;
-    let prop = name(prop)?;
-    let value = name(value)?;
+    let Some(id) = Name::new(id) else {
+        return Err(TextCode::Name);
+    };
+    let Some(prop) = Name::new(prop) else {
+        return Err(TextCode::Name);
+    };
+    let Some(value) = Name::new(value) else {
+        return Err(TextCode::Name);
+    };
     *room = Edit::Put {
         id,
         prop,
@@ -164,13 +185,13 @@ pub(crate) fn put<'a>(parts: Parts<'a>, room: &'a mut Edit) -> Result<Line<'a>, 
         from,
         to,
     };
-    Ok(Line::Edit(room))
+    Ok(())
 }
 
 // `ID PROP FROM TO`
 #[inline(never)]
-pub(crate) fn clear<'a>(parts: Parts<'a>, room: &'a mut Edit) -> Result<Line<'a>, TextCode>
-    ensures told { Tells parts.entry.line.now parts.entry.at clear_told result }
+pub(crate) fn clear(parts: Parts<'_>, room: &mut Edit) -> Result<(), TextCode>
+    ensures told { WritesEdit parts.entry.line.now parts.entry.at clear_told result room.new }
     ensures whole { IfOk result (λ _. IsWhole parts.entry.line.now) }
 {
     let (id, rest) = parts.word()?;
@@ -179,16 +200,16 @@ pub(crate) fn clear<'a>(parts: Parts<'a>, room: &'a mut Edit) -> Result<Line<'a>
     let id = name(id)?;
     let prop = name(prop)?;
     *room = Edit::Clear { id, prop, from, to };
-    Ok(Line::Edit(room))
+    Ok(())
 }
 
 // `ID`
 #[inline(never)]
-pub(crate) fn remove<'a>(parts: Parts<'a>, room: &'a mut Edit) -> Result<Line<'a>, TextCode>
-    ensures told { Tells parts.entry.line.now parts.entry.at remove_told result }
+pub(crate) fn remove(parts: Parts<'_>, room: &mut Edit) -> Result<(), TextCode>
+    ensures told { WritesEdit parts.entry.line.now parts.entry.at remove_told result room.new }
     ensures whole { IfOk result (λ _. IsWhole parts.entry.line.now) }
 {
     let id = parts.only_name()?;
     *room = Edit::Remove { id };
-    Ok(Line::Edit(room))
+    Ok(())
 }

@@ -4,7 +4,7 @@ ghost use Rattle.edit_reader.specs.Readings.{told};
 ghost use Rattle.edit_reader.specs.Forms.{lexemes, bytes_behind};
 ghost use Rattle.edit_reader.specs.Steps.{follow_told, near_told, unfollow_told};
 ghost use Rattle.edit_reader.specs.Answers.{Tells};
-ghost use Rattle.edit_reader.specs.Taken.{OfRest, IsWhole};
+ghost use Rattle.edit_reader.specs.Taken.{OfRest};
 
 use crate::line::Line;
 use crate::parts::{Parts, name};
@@ -23,8 +23,7 @@ pub(crate) fn follow(parts: Parts<'_>) -> Result<Line<'_>, TextCode>
 // `NAME ID`
 #[inline(never)]
 pub(crate) fn near(parts: Parts<'_>) -> Result<Line<'_>, TextCode>
-    ensures told { Tells parts.entry.line.now parts.entry.at near_told result }
-    ensures whole { IfOk result (λ _. IsWhole parts.entry.line.now) }
+    ensures { Tells parts.entry.line.now parts.entry.at near_told result }
 {
     let (follow, rest) = parts.word()?;
     let (id, rest) = rest.word()?;
@@ -35,8 +34,7 @@ pub(crate) fn near(parts: Parts<'_>) -> Result<Line<'_>, TextCode>
 // `NAME`
 #[inline(never)]
 pub(crate) fn unfollow(parts: Parts<'_>) -> Result<Line<'_>, TextCode>
-    ensures told { Tells parts.entry.line.now parts.entry.at unfollow_told result }
-    ensures whole { IfOk result (λ _. IsWhole parts.entry.line.now) }
+    ensures { Tells parts.entry.line.now parts.entry.at unfollow_told result }
 {
     Ok(Line::Unfollow(parts.only_name()?))
 }

@@ -4,7 +4,7 @@ ghost use Rattle.edit_reader.specs.Readings.{told};
 ghost use Rattle.edit_reader.specs.Forms.{lexemes, bytes_behind};
 ghost use Rattle.edit_reader.specs.Steps.{open_told, close_told, in_told};
 ghost use Rattle.edit_reader.specs.Answers.{Tells};
-ghost use Rattle.edit_reader.specs.Taken.{OfRest, IsWhole};
+ghost use Rattle.edit_reader.specs.Taken.{OfRest};
 
 use crate::line::Line;
 use crate::parts::{Parts, name};
@@ -13,8 +13,7 @@ use itpg_base::TextCode;
 // `NAME`
 #[inline(never)]
 pub(crate) fn open(parts: Parts<'_>) -> Result<Line<'_>, TextCode>
-    ensures told { Tells parts.entry.line.now parts.entry.at open_told result }
-    ensures whole { IfOk result (λ _. IsWhole parts.entry.line.now) }
+    ensures { Tells parts.entry.line.now parts.entry.at open_told result }
 {
     Ok(Line::OpenPin(parts.only_name()?))
 }
@@ -22,8 +21,7 @@ pub(crate) fn open(parts: Parts<'_>) -> Result<Line<'_>, TextCode>
 // `NAME`
 #[inline(never)]
 pub(crate) fn close(parts: Parts<'_>) -> Result<Line<'_>, TextCode>
-    ensures told { Tells parts.entry.line.now parts.entry.at close_told result }
-    ensures whole { IfOk result (λ _. IsWhole parts.entry.line.now) }
+    ensures { Tells parts.entry.line.now parts.entry.at close_told result }
 {
     Ok(Line::ClosePin(parts.only_name()?))
 }

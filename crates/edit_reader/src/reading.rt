@@ -1,18 +1,18 @@
 //! Reading a line.
 //!
-//! What leads to a form is inlined, and the forms are not, so that each writes what the line asks for straight to where the
-//! caller wants it. An edit is larger than a result should be, and is written into a place of the caller's.
-ghost use Rattle.std.specs.Prelude.{◌≡◌, ℕ, List, Option, Result, Err, IfOk, IsFalse, length, drop, slice_get};
+//! An edit is larger than a result should be: it is written into a place of the caller's, and a form of an edit says only whether
+//! the line has a fault. What leads to the forms is inlined, and the forms are not.
+ghost use Rattle.std.specs.Prelude.{◌≡◌, ℕ, List, Option, Result, Err, IfOk, IsTrue, length, drop, slice_get};
 ghost use Rattle.itpg_base.specs.declared.text_code.TextCode.{TextCode};
 ghost use Rattle.edit_reader.specs.Readings.{Reading, reading_of, told};
 ghost use Rattle.edit_reader.specs.Forms.{form, lexemes, before_query, bytes_behind};
-ghost use Rattle.edit_reader.specs.Commands.{has_query};
+ghost use Rattle.edit_reader.specs.Commands.{is_edit};
 ghost use Rattle.script_lex.specs.Lines.{Placed, AreTokens};
 ghost use Rattle.edit_reader.specs.Lines.{LineOf};
 ghost use Rattle.edit_reader.specs.Moments.{AsksOfMoments};
 ghost use Rattle.edit_reader.specs.Steps.{show_told, unwatch_told, tick_told, watch_told};
 ghost use Rattle.edit_reader.specs.Telling.{form_told, tokens_told, line_told};
-ghost use Rattle.edit_reader.specs.Answers.{Tells};
+ghost use Rattle.edit_reader.specs.Answers.{Tells, written};
 ghost use Rattle.edit_reader.specs.Taken.{OfRest, IsWhole};
 
 use crate::command::Command;
@@ -56,7 +56,7 @@ pub const MAX_LINE: usize = 65_536;
 ///
 /// A blank line or a comment has no fault but `Long`, and the bytes of a query text are looked at only as tokens: its
 /// numbers and words may have any size.
-#[inline(always)]
+#[inline(never)]
 pub fn read_line<'a>(line: &'a [u8], room: &'a mut Edit) -> Result<Line<'a>, TextCode>
     ensures line { LineOf line.now (told result) }
     ensures only { (other : Result Reading TextCode) → LineOf line.now other → other ≡ told result }
@@ -74,7 +74,7 @@ pub fn read_line<'a>(line: &'a [u8], room: &'a mut Edit) -> Result<Line<'a>, Tex
 
 // What a line that is neither blank nor a comment asks for, or its first fault.
 //
-// Where a form without a query text is there, all tokens have been read, and each is good.
+// Where the form of an edit is there, all tokens have been read, and each is good.
 #[inline(always)]
 fn read_form<'a>(line: &'a [u8], room: &'a mut Edit) -> Result<Line<'a>, TextCode>
     ensures { (tokens : List Placed) (end : Option TextCode) → AreTokens line.now 0 tokens end →
@@ -86,53 +86,55 @@ fn read_form<'a>(line: &'a [u8], room: &'a mut Edit) -> Result<Line<'a>, TextCod
     let Some(command) = Command::of(word) else {
         return Err(no_form(line));
     };
-    if command.has_query() || line.len() > MAX_TOKENS {
-        check_tokens(line)?;
-        return read_command(command, parts, room);
+    if command.is_edit() && line.len() <= MAX_TOKENS {
+        if let Err(code) = write_edit(command, parts, room) {
+            return Err(first_fault(line, code));
+        }
+        return Ok(Line::Edit(room));
     }
-    let read = read_command(command, parts, room);
-    if read.is_err() {
-        check_tokens(line)?;
+    check_tokens(line)?;
+    read_command(command, parts, room)
+}
+
+// The first fault of a line with this fault of its form.
+fn first_fault(line: &[u8], code: TextCode) -> TextCode
+    ensures { (tokens : List Placed) (end : Option TextCode) → AreTokens line.now 0 tokens end →
+        Err result ≡ tokens_told end (length tokens) (Err code) }
+{
+    match check_tokens(line) {
+        Ok(()) => code,
+        Err(first) => first,
     }
-    read
 }
 
 // The first fault of a line whose tokens are no form.
+#[inline(never)]
 fn no_form(line: &[u8]) -> TextCode
     ensures { (tokens : List Placed) (end : Option TextCode) → AreTokens line.now 0 tokens end →
         Err result ≡ tokens_told end (length tokens) (Err TextCode.Text) }
 {
-    match check_tokens(line) {
-        Ok(()) => TextCode::Text,
-        Err(code) => code,
-    }
+    first_fault(line, TextCode::Text)
 }
 
 // What a line with this command word asks for, where what stands behind the word is a form.
-#[inline(always)]
+#[inline(never)]
 fn read_command<'a>(
     command: Command,
     parts: Parts<'a>,
     room: &'a mut Edit,
 ) -> Result<Line<'a>, TextCode>
-    ensures told { OfRest parts.entry.line.now parts.entry.at (λ tokens. (text : ℕ → List ℕ) →
+    ensures { OfRest parts.entry.line.now parts.entry.at (λ tokens. (text : ℕ → List ℕ) →
         text 0 ≡ drop parts.entry.at parts.entry.line.now →
         text 1 ≡ bytes_behind parts.entry.line.now (slice_get tokens 0) →
         text 2 ≡ bytes_behind parts.entry.line.now (slice_get tokens 1) →
         told result ≡ form_told (form text command (lexemes tokens))
         (before_query command (lexemes tokens))) }
-    ensures whole { IsFalse (has_query command) → IfOk result (λ _. IsWhole parts.entry.line.now) }
 {
+    if command.is_edit() {
+        write_edit(command, parts, room)?;
+        return Ok(Line::Edit(room));
+    }
     match command {
-        Command::Graph => begin(parts, room),
-        Command::Extend => extend(parts, room),
-        Command::Node => node(parts, room),
-        Command::Edge => edge(parts, room),
-        Command::Live => live(parts, room),
-        Command::Gone => gone(parts, room),
-        Command::Set => put(parts, room),
-        Command::Unset => clear(parts, room),
-        Command::Drop => remove(parts, room),
         Command::Ask => Ok(Line::Ask(parts.text())),
         Command::First => Ok(Line::First(parts.text())),
         Command::Last => Ok(Line::Last(parts.text())),
@@ -147,6 +149,30 @@ fn read_command<'a>(
         Command::Follow => follow(parts),
         Command::Near => near(parts),
         Command::Unfollow => unfollow(parts),
+        _ => unreachable!(),
+    }
+}
+
+// Writes the edit into the room that a line with this command word asks for, where what stands behind the word is a form.
+#[inline(always)]
+fn write_edit(command: Command, parts: Parts<'_>, room: &mut Edit) -> Result<(), TextCode>
+    requires { IsTrue (is_edit command) }
+    ensures told { OfRest parts.entry.line.now parts.entry.at (λ tokens. (text : ℕ → List ℕ) →
+        written result room.new ≡ form_told (form text command (lexemes tokens))
+        (before_query command (lexemes tokens))) }
+    ensures whole { IfOk result (λ _. IsWhole parts.entry.line.now) }
+{
+    match command {
+        Command::Graph => begin(parts, room),
+        Command::Extend => extend(parts, room),
+        Command::Node => node(parts, room),
+        Command::Edge => edge(parts, room),
+        Command::Live => live(parts, room),
+        Command::Gone => gone(parts, room),
+        Command::Set => put(parts, room),
+        Command::Unset => clear(parts, room),
+        Command::Drop => remove(parts, room),
+        _ => unreachable!(),
     }
 }
 
@@ -163,8 +189,7 @@ fn watch(parts: Parts<'_>) -> Result<Line<'_>, TextCode>
 // `NAME`
 #[inline(never)]
 fn show(parts: Parts<'_>) -> Result<Line<'_>, TextCode>
-    ensures told { Tells parts.entry.line.now parts.entry.at show_told result }
-    ensures whole { IfOk result (λ _. IsWhole parts.entry.line.now) }
+    ensures { Tells parts.entry.line.now parts.entry.at show_told result }
 {
     Ok(Line::Show(parts.only_name()?))
 }
@@ -172,8 +197,7 @@ fn show(parts: Parts<'_>) -> Result<Line<'_>, TextCode>
 // `NAME`
 #[inline(never)]
 fn unwatch(parts: Parts<'_>) -> Result<Line<'_>, TextCode>
-    ensures told { Tells parts.entry.line.now parts.entry.at unwatch_told result }
-    ensures whole { IfOk result (λ _. IsWhole parts.entry.line.now) }
+    ensures { Tells parts.entry.line.now parts.entry.at unwatch_told result }
 {
     Ok(Line::Unwatch(parts.only_name()?))
 }
@@ -181,8 +205,7 @@ fn unwatch(parts: Parts<'_>) -> Result<Line<'_>, TextCode>
 // nothing
 #[inline(never)]
 fn tick(parts: Parts<'_>) -> Result<Line<'_>, TextCode>
-    ensures told { Tells parts.entry.line.now parts.entry.at tick_told result }
-    ensures whole { IfOk result (λ _. IsWhole parts.entry.line.now) }
+    ensures { Tells parts.entry.line.now parts.entry.at tick_told result }
 {
     parts.end()?;
     Ok(Line::Tick)

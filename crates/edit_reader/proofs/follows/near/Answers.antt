@@ -4,8 +4,8 @@ use Rattle.edit_reader.proofs.Stepping.{word_step}
 use Rattle.edit_reader.proofs.PartSteps.{stops_at_end}
 use Rattle.edit_reader.proofs.follows.near.Goals as goal
 
-pub returns-in_err-end-clause-told : goal.returns-in_err-end-clause-told
-returns-in_err-end-clause-told c = λ tokens are.
+pub returns-in_err-end : goal.returns-in_err-end
+returns-in_err-end c = λ tokens are.
     let p = err_from_is_err_and c.from_residual-in_err-end.result c.from_residual-in_err-end.ensures.1 in
     let t = c.in_ok-follow.ensures.taken tokens are in
     let u = c.in_ok-id.ensures.taken t.rest t.behind in
