@@ -16,7 +16,7 @@ use Rattle.relation_rows.specs.declared.rows.Row.{Row}
 use Rattle.relation_rows.specs.declared.timetable.Leg.{Leg}
 use Rattle.relation_rows.specs.Rows.{InRow, RowsHold, RowBefore}
 use Rattle.relation_rows.specs.Relations.{Item, InItem, ItemsHold, HasMiddlePoint}
-use Rattle.relation_rows.specs.Timetables.{DepartsWithin, HasZone}
+use Rattle.relation_rows.specs.Timetables.{DepartsWithin}
 use Rattle.relation_rows.specs.Ways.{ItemThere, GoesBy, GoesOn, GoesOnBy, GoesThrough, IsStill, AreComposed}
 use Rattle.relation_rows.proofs.Pushing.{items_more, rows_more}
 use Rattle.relation_rows.proofs.Arriving.{end_up}
@@ -59,10 +59,10 @@ item_at [] (suc k) i e x y h = let none : ⊥ = cc in absurd none
 item_at (j ∷ js) zero i e x y h = let same : j ≡ i = cc in (i, inl same, h)
 item_at (j ∷ js) (suc k) i e x y h = let w = item_at js k i e x y h in (w.0, inr w.1, w.2)
 
--- an item of the list has them
-pub had_by : (source : ObjNo) (zone : Bounds) (s : Row) (items : List Item) (k : ℕ) (i : Item) → slice_get items k ≡ Some i → ((x : Point) → (y : Point) → GoesBy source zone s x y → InItem i x y)
+-- the list has them, so that they add nothing
+pub had_all : (source : ObjNo) (zone : Bounds) (s : Row) (items : List Item) → ((x y : Point) → GoesBy source zone s x y → ItemsHold items x y)
     → (x y : Point) → ItemsHold items x y ↔ (ItemsHold items x y ⊎ GoesBy source zone s x y)
-had_by source zone s items k i e has x y = (λ h. inl h, λ h. ⊎_elim (λ a. a) (λ a. item_at items k i e x y (has x y a)) h)
+had_all source zone s items has x y = (λ h. inl h, λ h. ⊎_elim (λ a. a) (λ a. has x y a) h)
 
 -- differences of a band's first and last arrival and a zone's departures are in range
 pub soon_fits : (band : Band) (low : ℤ) → IsWellFormed band → low ≡ end_at band.low band.from → (k : Bounds) → IsNear k → SFits w64 (to_z w64 (of_z w64 low) -ℤ to_z w64 (of_z w64 k.b))
@@ -241,14 +241,14 @@ module _ (row : Row) (zone : Bounds) (is : (t u : ℤ) → Meets zone t u ↔ In
 
   -- one more leg
   pub leg_more : (items now next : List Item) (legs : List Leg) (k : ℕ) (d : Leg) → k < length legs
-      → (second : Bounds) → ((t u : ℤ) → Meets second t u ↔ InBand (slice_index_or legs k d).row.band t u) → (slice_index_or legs k d).row.source.0 ≡ row.target.0 → (way : Option Bounds) → IsZoneOf (HasMiddle zone second) way
-      → ((x y : Point) → ItemsHold next x y ↔ (ItemsHold now x y ⊎ ItemThere row.source (slice_index_or legs k d).row.target way x y))
+      → (slice_index_or legs k d).row.source.0 ≡ row.target.0
+      → ((x y : Point) → ItemsHold next x y ↔ (ItemsHold now x y ⊎ GoesBy row.source zone (slice_index_or legs k d).row x y))
       → ((x y : Point) → ItemsHold now x y ↔ (ItemsHold items x y ⊎ GoesOnBy row (take k legs) x y))
       → (x y : Point) → ItemsHold next x y ↔ (ItemsHold items x y ⊎ GoesOnBy row (take (k + 1) legs) x y)
-  leg_more items now next legs k d lt second its same way of pushed old x y =
+  leg_more items now next legs k d lt same pushed old x y =
       let s : Leg = slice_index_or legs k d in
       let e = take_more legs k d lt in
-      let one = one_way (slice_index_or legs k d).row same way (through zone second (slice_index_or legs k d).row.band its way of) x y in (
+      let one = by_one (slice_index_or legs k d).row same x y in (
         λ h. ⊎_elim
             (λ a. ⊎_elim
             (λ b. inl b)
@@ -362,8 +362,8 @@ pub every_row : (base items : List Item) (rows : List Row) (second : List Row) (
     → (x y : Point) → ItemsHold items x y ↔ (ItemsHold base x y ⊎ HasMiddlePoint rows second x y)
 every_row base items rows second k le = subst (λ (v : List Row). (x y : Point) → ItemsHold items x y ↔ (ItemsHold base x y ⊎ HasMiddlePoint v second x y)) (take_all k rows le)
 
-pub leg_zone : (legs found : List Leg) (k : ℕ) (d : Leg) → k < length found → ((s : Leg) → Among found s → Among legs s) → ((s : Leg) → Among legs s → HasZone s) → HasZone (slice_index_or found k d)
-leg_zone legs found k d lt there zones = zones (slice_index_or found k d) (there (slice_index_or found k d) (among_at found k d lt))
+pub leg_formed : (legs found : List Leg) (k : ℕ) (d : Leg) → k < length found → ((s : Leg) → Among found s → Among legs s) → ((s : Leg) → Among legs s → IsWellFormed s.row.band) → IsWellFormed (slice_index_or found k d).row.band
+leg_formed legs found k d lt there formed = formed (slice_index_or found k d) (there (slice_index_or found k d) (among_at found k d lt))
 
 pub leg_source : (found : List Leg) (o k : ℕ) (d : Leg) → k < length found → ((s : Leg) → Among found s → s.row.source.0 ≡ o) → (slice_index_or found k d).row.source.0 ≡ o
 leg_source found o k d lt same = same (slice_index_or found k d) (among_at found k d lt)

@@ -122,6 +122,28 @@ whole_without old new zone cut o is none e t u =
       λ h. ⊎_elim (λ a. more.1 (inl a)) (λ a. more.1 (inr a.0)) h,
     )
 
+-- no zone that was read shares a pair with the cut
+abbrev pub AreClear : List Bounds → Bounds → Type 0
+AreClear zones cut = (t : ℤ) (u : ℤ) → SomeMeets zones t u → Meets cut t u → ⊥
+
+pub none_clear : (zones : List Bounds) (cut : Bounds) → AreClear (take 0 zones) cut
+none_clear zones cut t u h m = none_meets zones t u h
+
+pub one_more_clear : (zones : List Bounds) (cut : Bounds) (k : ℕ) (d z : Bounds) → k < length zones → z ≡ slice_index_or zones k d
+    → (o : Option Bounds) → IsZoneOf (MeetsBoth z cut) o → o ≡ None → AreClear (take k zones) cut → AreClear (take (k + 1) zones) cut
+one_more_clear zones cut k d z lt read o is none so t u h m =
+    ⊎_elim
+    (λ a. so t u a m)
+    (λ a. subst (λ (v : Option Bounds). Holds v t u) none ((is.pairs t u).1 (a, m)))
+    ((read_more zones k d z lt read t u).0 h)
+
+pub all_clear : (zones : List Bounds) (cut : Bounds) (k : ℕ) → length zones ≤ k → AreClear (take k zones) cut → AreClear zones cut
+all_clear zones cut k le = subst (λ (v : List Bounds). AreClear v cut) (take_all k zones le)
+
+-- zones that share no pair with the cut stay whole
+pub clear_without : (zones : List Bounds) (cut : Bounds) → AreClear zones cut → AreWithout zones cut zones
+clear_without zones cut clear t u = (λ h. (h, clear t u h), λ h. h.0)
+
 -- the places of the difference are pushed
 pub split_without : (old new : List Bounds) (zone cut : Bounds) (places : List (Option Bounds)) → ((t : ℤ) (u : ℤ) → SomeHolds places t u ↔ MeetsFirstOnly zone cut t u) → PlacesPushed old places new
     → (t : ℤ) (u : ℤ) → SomeMeets new t u ↔ (SomeMeets old t u ⊎ MeetsFirstOnly zone cut t u)
@@ -178,15 +200,15 @@ AreLeft zones cuts left = (t : ℤ) (u : ℤ) → SomeMeets left t u ↔ OnlyFir
 pub none_cut : (zones cuts left : List Bounds) → left ≡ zones → AreLeft zones (take 0 cuts) left
 none_cut zones cuts left e = subst (λ (v : List Bounds). AreLeft zones (take 0 cuts) v) (sym e) (λ t u. (λ h. (h, none_meets cuts t u), λ h. h.0))
 
-pub cut_more : (zones cuts : List Bounds) (k : ℕ) (d z : Bounds) → k < length cuts → z ≡ slice_index_or cuts k d → (now next copied : List Bounds) → copied ≡ now
-    → AreWithout copied z next → AreLeft zones (take k cuts) now → AreLeft zones (take (k + 1) cuts) next
-cut_more zones cuts k d z lt read now next copied e less so t u =
+pub cut_more : (zones cuts : List Bounds) (k : ℕ) (d z : Bounds) → k < length cuts → z ≡ slice_index_or cuts k d → (now next : List Bounds)
+    → AreWithout now z next → AreLeft zones (take k cuts) now → AreLeft zones (take (k + 1) cuts) next
+cut_more zones cuts k d z lt read now next less so t u =
     let more = read_more cuts k d z lt read t u in (
       λ h.
           let a = (less t u).0 h in
-          let b = (so t u).0 (subst (λ (v : List Bounds). SomeMeets v t u) e a.0) in
+          let b = (so t u).0 a.0 in
           (b.0, λ s. ⊎_elim (λ c. b.1 c) (λ c. a.1 c) (more.0 s)),
-      λ h. (less t u).1 (subst (λ (v : List Bounds). SomeMeets v t u) (sym e) ((so t u).1 (h.0, λ s. h.1 (more.1 (inl s)))), λ m. h.1 (more.1 (inr m))),
+      λ h. (less t u).1 ((so t u).1 (h.0, λ s. h.1 (more.1 (inl s))), λ m. h.1 (more.1 (inr m))),
     )
 
 pub all_cut : (zones cuts : List Bounds) (k : ℕ) (left : List Bounds) → length cuts ≤ k → AreLeft zones (take k cuts) left → AreLeft zones cuts left

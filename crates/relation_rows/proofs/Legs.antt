@@ -14,7 +14,7 @@ use Rattle.itpg_base.proofs.Lists.{ordered_from_neighbours, permutation_among, a
 use Rattle.relation_rows.specs.declared.rows.Row.{Row}
 use Rattle.relation_rows.specs.declared.timetable.Leg.{Leg}
 use Rattle.relation_rows.specs.Rows.{InRow, RowsHold}
-use Rattle.relation_rows.specs.Timetables.{DepartsUpTo, LegUpTo, LegsHold, AreReached, HasZone, IsTimetable}
+use Rattle.relation_rows.specs.Timetables.{DepartsUpTo, LegUpTo, LegsHold, AreReached, IsTimetable}
 use Rattle.relation_rows.proofs.Objects.{Compared, compared, less, equal, greater}
 
 abbrev pub row_of : Leg → Row
@@ -89,5 +89,5 @@ module _ (rows sorted : List Row) (p : IsPermutation rows sorted) (legs : List L
         (w.0, w.1, subst (λ (v : Row). InRow v x y) (sym w.2) h.2),
   )
 
-  pub table_of : Ordered LegUpTo legs → ((depth : ℕ) → AreReached depth legs) → ((r : Row) → Among rows r → IsWellFormed r.band) → ((s : Leg) → Among legs s → HasZone s) → IsTimetable legs
-  table_of order reach formed zones = record { order = order; reach = reach; formed = λ s a. formed s.row (leg_row s a); zones = zones }
+  pub table_of : Ordered LegUpTo legs → ((depth : ℕ) → AreReached depth legs) → ((r : Row) → Among rows r → IsWellFormed r.band) → IsTimetable legs
+  table_of order reach formed = record { order = order; reach = reach; formed = λ s a. formed s.row (leg_row s a) }

@@ -1,15 +1,12 @@
 -- How far rows reach, and the legs that are made of them by halves.
-use Rattle.std.proofs.Common.{◌≡◌, ◌↔◌, ⊎_elim, ℤ, ℕ, zero, suc, ◌+◌, ◌<◌, ◌≤◌, ◌/◌, List, [], ◌∷◌, ◌++◌, length, map, slice_index_or, take, drop, refl, sym, ◌∙◌, ap, subst, arith, append_assoc}
+use Rattle.std.proofs.Common.{◌≡◌, ⊎_elim, ℕ, zero, suc, ◌+◌, ◌<◌, ◌≤◌, ◌/◌, List, [], ◌∷◌, ◌++◌, length, map, slice_index_or, take, drop, refl, sym, ◌∙◌, ap, subst, arith, append_assoc}
 use Rattle.std.proofs.lemmas.List.{take_all, take_at, drop_at, take_more, append-nil, map-append, length-map}
-use Rattle.zone_core.specs.declared.Bounds.{Bounds}
-use Rattle.zone_core.specs.Zone.{Meets}
 use Rattle.itpg_base.specs.Lists.{Among}
-use Rattle.band_normal.specs.Bands.{InBand}
 use Rattle.itpg_base.proofs.Lists.{among_append}
 use Rattle.relation_rows.specs.declared.rows.Row.{Row}
 use Rattle.relation_rows.specs.declared.timetable.Farthest.{Farthest}
 use Rattle.relation_rows.specs.declared.timetable.Leg.{Leg}
-use Rattle.relation_rows.specs.Timetables.{Reaches, AreReached, HasZone, HasLegs}
+use Rattle.relation_rows.specs.Timetables.{Reaches, AreReached, HasLegs}
 use Rattle.relation_rows.proofs.Legs.{row_of, row_among}
 
 pub none_reached : (rows : List Row) (reach : Farthest) (r : Row) → Among (take 0 rows) r → Reaches reach r
@@ -36,7 +33,7 @@ none_reach (suc depth) = λ before behind middle is half. absurd (empty before b
     empty (x ∷ xs) behind middle is = let none : ⊥ = cc in none
 
 pub no_legs : (rows : List Row) (legs : List Leg) → length rows ≡ 0 → HasLegs rows legs legs
-no_legs [] legs e = ([], sym (append-nil legs), refl, none_reach, λ s a. absurd a)
+no_legs [] legs e = ([], sym (append-nil legs), refl, none_reach)
 no_legs (r ∷ rs) legs e = absurd (omega arith)
 
 -- what stands before, in the middle and behind, of two lists that are one
@@ -62,10 +59,9 @@ halves_reached before behind middle half reaches first last (suc depth) = λ us 
     )
 
 -- the legs of the rows before the middle one, of this, and of those behind it
-module _ (rows before behind : List Row) (row : Row) (is : rows ≡ before ++ row ∷ behind) (half : length before ≡ length rows / 2) (reach : Farthest) (reaches : (r : Row) → Among rows r → Reaches reach r)
-    (zone : Bounds) (is_zone : (t u : ℤ) → Meets zone t u ↔ InBand row.band t u) where
+module _ (rows before behind : List Row) (row : Row) (is : rows ≡ before ++ row ∷ behind) (half : length before ≡ length rows / 2) (reach : Farthest) (reaches : (r : Row) → Among rows r → Reaches reach r) where
   abbrev pub leg : Leg
-  leg = record { row = row; reach = reach; zone = zone }
+  leg = record { row = row; reach = reach }
 
   pub legs_by_halves : (old first more new : List Leg) → HasLegs before old first → more ≡ first ++ leg ∷ [] → HasLegs behind more new → HasLegs rows old new
   legs_by_halves old first more new a e b = (
@@ -74,7 +70,6 @@ module _ (rows before behind : List Row) (row : Row) (is : rows ≡ before ++ ro
     made,
     halves_reached a.0 b.0 leg (count ∙ half ∙ ap (λ (v : ℕ). v / 2) whole)
         (λ s i. reaches s.row (subst (λ (v : List Row). Among v s.row) made (row_among (a.0 ++ leg ∷ b.0) s i))) a.3 b.3,
-    λ s i. ⊎_elim (λ k. a.4 s k) (λ k. ⊎_elim (λ (e : leg ≡ s). subst HasZone e is_zone) (λ j. b.4 s j) k) (among_append a.0 (leg ∷ b.0) s i),
   )
     where
       made : map row_of (a.0 ++ leg ∷ b.0) ≡ rows

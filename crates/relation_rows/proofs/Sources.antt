@@ -193,7 +193,7 @@ pub none_composed : (second : List Row) (legs : List Leg) → legs ≡ [] → Or
 none_composed second legs none order formed = subst (λ (v : List Leg). AreComposed second v) (sym none) (record {
   order = order;
   formed = formed;
-  table = record { order = tt; reach = none_reach; formed = λ s a. absurd a; zones = λ s a. absurd a };
+  table = record { order = tt; reach = none_reach; formed = λ s a. absurd a };
   there = λ x y h. absurd (h.1);
   all = λ o group are many some x y h. absurd (omega arith);
 })

@@ -2,8 +2,7 @@
 use Rattle.std.specs.Prelude.{◌≡◌, ◌⊎◌, ◌↔◌, ◌==◌, ◌&&◌, ◌||◌, nat_lt, int_le, int_lt, Bool, ℕ, ◌<◌, ◌/◌, zero, suc, ℤ, ◌≤ℤ◌, List, ◌∷◌, ◌++◌, length, map}
 use Rattle.itpg_base.specs.Points.{Relation}
 use Rattle.itpg_base.specs.Lists.{Among, Ordered}
-use Rattle.zone_core.specs.Zone.{Meets}
-use Rattle.band_normal.specs.Bands.{InBand, IsWellFormed}
+use Rattle.band_normal.specs.Bands.{IsWellFormed}
 use Rattle.relation_rows.specs.declared.rows.Row.{Row}
 use Rattle.relation_rows.specs.declared.timetable.Farthest.{Farthest}
 use Rattle.relation_rows.specs.declared.timetable.Leg.{Leg}
@@ -27,13 +26,9 @@ AreReached zero legs = Unit {0}
 AreReached (suc depth) legs = (before behind : List Leg) (middle : Leg) → legs ≡ before ++ middle ∷ behind → length before ≡ length legs / 2
     → ((s : Leg) → Among legs s → Reaches middle.reach s.row) × AreReached depth before × AreReached depth behind
 
--- the leg's zone has the pairs of its row's band
-abbrev pub HasZone : Leg → Type 0
-HasZone s = (t u : ℤ) → Meets s.zone t u ↔ InBand s.row.band t u
-
 -- the rows have legs, which are added
 abbrev pub HasLegs : List Row → List Leg → List Leg → Type 0
-HasLegs rows old new = (legs : List Leg) × (new ≡ old ++ legs) × (map (λ (s : Leg). s.row) legs ≡ rows) × ((depth : ℕ) → AreReached depth legs) × ((s : Leg) → Among legs s → HasZone s)
+HasLegs rows old new = (legs : List Leg) × (new ≡ old ++ legs) × (map (λ (s : Leg). s.row) legs ≡ rows) × ((depth : ℕ) → AreReached depth legs)
 
 -- some leg's row has the pair
 abbrev pub LegsHold : List Leg → Relation
@@ -44,7 +39,6 @@ pub record IsTimetable (legs : List Leg) : Type 0 where
   pub order : Ordered LegUpTo legs
   pub reach : (depth : ℕ) → AreReached depth legs
   pub formed : (s : Leg) → Among legs s → IsWellFormed s.row.band
-  pub zones : (s : Leg) → Among legs s → HasZone s
 
 -- the leg's row leads from object o, at a moment of the span from the first to the last
 pub record DepartsWithin (s : Leg) (o : ℕ) (first last : ℤ) : Type 0 where

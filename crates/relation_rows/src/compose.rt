@@ -146,7 +146,7 @@ pub(crate) fn by_zones(
     let sorted = by_departure(alloc, rows)?;
     let mut kept = Vec::new(alloc);
     let mut count = 0;
-    let mut ways = Vec::new(alloc);
+    let mut ways = Vec::with_capacity(alloc, rows.len().saturating_mul(FEW).min(MANY))?;
     let mut left = &sorted[..];
     while !left.is_empty() {
         let (part, later) = left.split_at(stretch_len(left));

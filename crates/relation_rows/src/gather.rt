@@ -181,7 +181,7 @@ fn push_outer(items: &mut Vec<Item>, item: &Item) -> Result<(), AllocError>
 fn outer_of(alloc: Global, items: &[Item]) -> Result<Vec<Item>, AllocError>
     ensures { IfOk result (λ left. (x : Point) → (y : Point) → ItemsHold left.items x y ↔ ItemsHold items.now x y) }
 {
-    let mut left = Vec::new(alloc);
+    let mut left = Vec::with_capacity(alloc, items.len())?;
     for item in items {
         push_outer(&mut left, item)?;
     }

@@ -17,6 +17,7 @@ mod halves;
 mod held;
 mod idle;
 mod known;
+mod latest;
 pub mod laws;
 mod minus;
 mod offsets;

@@ -3,7 +3,7 @@
 //! The zones of both are parted, over and over, by departures, arrivals or differences, as long as that leaves less to do. Then
 //! a zone is split only by those that it shares a pair with.
 
-ghost use Rattle.std.specs.Prelude.{◌≡◌, ◌⊎◌, ◌↔◌, ◌<◌, ◌≤◌, ℤ, length, take, slice_get, Some, IfOk, OnOk};
+ghost use Rattle.std.specs.Prelude.{◌≡◌, ◌⊎◌, ◌↔◌, ◌<◌, ◌≤◌, ℤ, length, take, slice_get, Some, IfOk, OnOk, IsTrue};
 ghost use Rattle.itpg_base.specs.Points.{Point};
 ghost use Rattle.zone_core.specs.Zone.{Meets, MeetsBoth, MeetsFirstOnly, SomeHolds};
 ghost use Rattle.itpg_base.specs.Lists.{Among, Ordered};
@@ -26,6 +26,9 @@ use zone_core::Zone;
 
 // Zones are parted so many times, one within the other, at most.
 const MOST_PARTINGS: u32 = 96;
+
+// For so many zones more than there are there is room, where one is taken from each.
+const ROOM: usize = 8;
 
 fn push_places(zones: &mut Vec<Zone>, places: &[Option<Zone>]) -> Result<(), AllocError>
     ensures { OnOk result ((t : ℤ) → (u : ℤ) → SomeMeets zones.new.items t u ↔ (SomeMeets zones.old.items t u ⊎ SomeHolds places.now t u)) }
@@ -54,10 +57,33 @@ fn push_without(left: &mut Vec<Zone>, zone: &Zone, cut: &Zone) -> Result<(), All
 fn without(alloc: Global, zones: &[Zone], cut: &Zone) -> Result<Vec<Zone>, AllocError>
     ensures { IfOk result (λ left. (t : ℤ) → (u : ℤ) → SomeMeets left.items t u ↔ (SomeMeets zones.now t u × (¬ Meets cut.now t u))) }
 {
-    let mut left = Vec::new(alloc);
+    let mut left = Vec::with_capacity(alloc, zones.len().saturating_add(ROOM))?;
     for zone in zones {
         push_without(&mut left, zone, cut)?;
     }
+    Ok(left)
+}
+
+// Whether no zone shares a pair with the cut.
+fn are_clear_of(zones: &[Zone], cut: &Zone) -> bool
+    ensures { IsTrue result → (t : ℤ) → (u : ℤ) → SomeMeets zones.now t u → ¬ Meets cut.now t u }
+{
+    for zone in zones {
+        if let Some(_) = zone.meet(cut) {
+            return false;
+        }
+    }
+    true
+}
+
+// The zones without the pairs of one more, of which most often they have none.
+fn less(zones: Vec<Zone>, cut: &Zone) -> Result<Vec<Zone>, AllocError>
+    ensures { IfOk result (λ left. (t : ℤ) → (u : ℤ) → SomeMeets left.items t u ↔ (SomeMeets zones.items t u × (¬ Meets cut.now t u))) }
+{
+    if are_clear_of(&zones, cut) {
+        return Ok(zones);
+    }
+    let left = without(*zones.allocator(), &zones, cut)?;
     Ok(left)
 }
 
@@ -67,7 +93,7 @@ fn without_each(alloc: Global, zones: &[Zone], cuts: &[Zone]) -> Result<Vec<Zone
 {
     let mut left = Vec::from_slice(alloc, zones)?;
     for cut in cuts {
-        left = without(alloc, &left, cut)?;
+        left = less(left, cut)?;
     }
     Ok(left)
 }
@@ -86,7 +112,7 @@ fn push_shared(shared: &mut Vec<Zone>, zone: &Zone, part: &Zone) -> Result<(), A
 fn within(alloc: Global, zones: &[Zone], part: &Zone) -> Result<Vec<Zone>, AllocError>
     ensures { IfOk result (λ shared. (t : ℤ) → (u : ℤ) → SomeMeets shared.items t u ↔ (SomeMeets zones.now t u × Meets part.now t u)) }
 {
-    let mut shared = Vec::new(alloc);
+    let mut shared = Vec::with_capacity(alloc, zones.len())?;
     for zone in zones {
         push_shared(&mut shared, zone, part)?;
     }
@@ -125,7 +151,7 @@ fn zones_of_bands(alloc: Global, rows: &[Row]) -> Result<Vec<Zone>, AllocError>
     requires { (r : PlainRow) → Among rows.now r → IsWellFormed r.band }
     ensures { IfOk result (λ zones. (t : ℤ) → (u : ℤ) → SomeMeets zones.items t u ↔ SomeHasBand rows.now t u) }
 {
-    let mut zones = Vec::new(alloc);
+    let mut zones = Vec::with_capacity(alloc, rows.len())?;
     for row in rows {
         zones.push(zone_of(&row.band))?;
     }

@@ -15,10 +15,8 @@ ghost use Rattle.relation_rows.specs.Rows.{RowsHold};
 ghost use Rattle.relation_rows.specs.Timetables.{DepartsUpTo, LegUpTo, LegsHold, IsTimetable, Reaches, AreReached, HasLegs, HasFound, DepartsWithin, departs_within, departs_by, is_short_of};
 
 use crate::rows::Row;
-use band_normal::zone_of;
 use itpg_base::ObjNo;
 use std::alloc::{AllocError, Global};
-use zone_core::Zone;
 
 /// The last source of some rows, and the last departure from it.
 #[derive(Clone, Copy)]
@@ -32,8 +30,6 @@ pub(crate) struct Farthest {
 pub(crate) struct Leg {
     pub(crate) row: Row,
     pub(crate) reach: Farthest,
-    /// The zone of the row's band, which is made once.
-    pub(crate) zone: Zone,
 }
 
 // How far the row reaches, or the others where that is farther.
@@ -66,7 +62,6 @@ fn reach_of(rows: &[Row], one: &Row) -> Farthest
 
 // Adds the legs of the rows.
 fn push_legs(legs: &mut Vec<Leg>, rows: &[Row]) -> Result<(), AllocError>
-    requires { (r : PlainRow) → Among rows.now r → IsWellFormed r.band }
     ensures { OnOk result (HasLegs rows.now legs.old.items legs.new.items) }
 {
     let (before, rest) = rows.split_at(rows.len() / 2);
@@ -77,7 +72,6 @@ fn push_legs(legs: &mut Vec<Leg>, rows: &[Row]) -> Result<(), AllocError>
     legs.push(Leg {
         row: *row,
         reach: reach_of(rows, row),
-        zone: zone_of(&row.band),
     })?;
     push_legs(legs, behind)?;
     Ok(())

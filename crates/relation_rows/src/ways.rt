@@ -2,7 +2,7 @@
 //!
 //! The rows from one object stand together, from a place that is listed. A few of them are gone through; if there are more, those
 //! that depart in time are searched in a timetable, which has only the rows from such busy objects, and which is made only if few of
-//! them do. A way that lies within the last one is passed over. Where the ways become many they are made fewer (`fewer`), so that ways
+//! them do. A way that lies within the last one to its target is passed over. Where the ways become many they are made fewer (`fewer`), so that ways
 //! that lie within others take no memory for long.
 
 ghost use Rattle.std.specs.Prelude.{◌≡◌, ◌⊎◌, ◌↔◌, ◌<◌, ℤ, length, IsTrue, IfOk, OnOk};
@@ -19,6 +19,7 @@ ghost use Rattle.relation_rows.specs.Ways.{ItemThere, GoesBy, GoesOn, GoesOnBy, 
 use crate::direct::{first_arrival, last_arrival};
 use crate::fewer::{fewer_beyond, most_ways};
 use crate::gather::Item;
+use crate::latest::{NOTED, are_had, is_missed, note, noted};
 use crate::offsets::Offsets;
 use crate::rows::Row;
 use crate::timetable::{Leg, find_departing};
@@ -114,8 +115,8 @@ fn is_around(zone: &Zone, first: &Zone, band: &Band) -> bool
     high - departing.a <= all.f
 }
 
-// Whether the item has each way from the source by the zone and then the row. False also where that isn't seen.
-fn has_ways(item: &Item, source: ObjNo, zone: &Zone, next: &Row) -> bool
+/// Whether the item has each way from the source by the zone and then the row. False also where that isn't seen.
+pub(crate) fn has_ways(item: &Item, source: ObjNo, zone: &Zone, next: &Row) -> bool
     requires { IsWellFormed next.now.band }
     ensures { IsTrue result → (x : Point) → (y : Point) → GoesBy source zone.now next.now x y → InItem item.now x y }
 {
@@ -125,9 +126,10 @@ fn has_ways(item: &Item, source: ObjNo, zone: &Zone, next: &Row) -> bool
     is_around(&item.2, zone, &next.band)
 }
 
-// Adds the ways from the source by the zone and then the row, unless the last item has them.
+// Adds the ways from the source by the zone and then the row, unless the item that was last added for its target has them.
 fn push_way(
     items: &mut Vec<Item>,
+    latest: &mut [usize],
     source: ObjNo,
     zone: &Zone,
     span: (i64, i64),
@@ -137,19 +139,25 @@ fn push_way(
     requires next { IsWellFormed next.now.band }
     ensures { OnOk result ((x : Point) → (y : Point) → ItemsHold items.new.items x y ↔ (ItemsHold items.old.items x y ⊎ GoesBy source zone.now next.now x y)) }
 {
-    let last = items.last().copied();
-    if let Some(last) = last
-        && has_ways(&last, source, zone, next)
-    {
+    if is_missed(zone, span, &next.band) {
         return Ok(());
     }
+    if are_had(items, noted(latest, next.target), source, zone, next) {
+        return Ok(());
+    }
+    note(latest, next.target, items.len());
     let way = way_by(zone, span, &next.band);
     push_there(items, source, next.target, way)?;
     Ok(())
 }
 
 // Adds the ways by the row and one of those from where it arrives.
-fn push_scanned(items: &mut Vec<Item>, row: &Row, here: &[Row]) -> Result<(), AllocError>
+fn push_scanned(
+    items: &mut Vec<Item>,
+    latest: &mut [usize],
+    row: &Row,
+    here: &[Row],
+) -> Result<(), AllocError>
     requires row { IsWellFormed row.now.band }
     requires here { (r : PlainRow) → Among here.now r → IsWellFormed r.band }
     requires source { (r : PlainRow) → Among here.now r → r.source.0 ≡ row.now.target.0 }
@@ -158,7 +166,7 @@ fn push_scanned(items: &mut Vec<Item>, row: &Row, here: &[Row]) -> Result<(), Al
     let zone = zone_of(&row.band);
     let span = arrivals(&zone);
     for next in here {
-        push_way(items, row.source, &zone, span, next)?;
+        push_way(items, latest, row.source, &zone, span, next)?;
     }
     Ok(())
 }
@@ -166,6 +174,7 @@ fn push_scanned(items: &mut Vec<Item>, row: &Row, here: &[Row]) -> Result<(), Al
 // Adds the ways by the row and a leg's row. What is in `found` is for this call alone, in memory that all rows share.
 fn push_searched(
     items: &mut Vec<Item>,
+    latest: &mut [usize],
     found: &mut Vec<Leg>,
     row: &Row,
     legs: &[Leg],
@@ -175,10 +184,10 @@ fn push_searched(
     ensures { OnOk result ((x : Point) → (y : Point) → ItemsHold items.new.items x y ↔ (ItemsHold items.old.items x y ⊎ GoesOnBy row.now legs.now x y)) }
 {
     let zone = zone_of(&row.band);
-    find_departing(found, legs, row.target, arrivals(&zone))?;
+    let span = arrivals(&zone);
+    find_departing(found, legs, row.target, span)?;
     for leg in found.as_slice() {
-        let way = compose(&zone, &leg.zone);
-        push_there(items, row.source, leg.row.target, way)?;
+        push_way(items, latest, row.source, &zone, span, &leg.row)?;
     }
     Ok(())
 }
@@ -237,6 +246,7 @@ fn is_searched(here: &[Row], busy: &[Leg], band: &Band) -> bool
 // Adds the ways that begin with the row.
 fn push_ways(
     items: &mut Vec<Item>,
+    latest: &mut [usize],
     found: &mut Vec<Leg>,
     row: &Row,
     second: &Offsets<'_>,
@@ -248,10 +258,10 @@ fn push_ways(
 {
     let here = second.from(row.target);
     if is_searched(here, busy, &row.band) {
-        push_searched(items, found, row, busy)?;
+        push_searched(items, latest, found, row, busy)?;
         return Ok(());
     }
-    push_scanned(items, row, here)?;
+    push_scanned(items, latest, row, here)?;
     Ok(())
 }
 
@@ -267,10 +277,11 @@ pub(crate) fn with_ways(
     requires second { AreComposed second.now busy.now }
     ensures { IfOk result (λ all. (x : Point) → (y : Point) → ItemsHold all.items x y ↔ (ItemsHold ways.items x y ⊎ HasMiddlePoint rows.now second.now x y)) }
 {
+    let mut latest = [0usize; NOTED];
     let mut all = ways;
     let mut most = most_ways(&all);
     for row in rows {
-        push_ways(&mut all, found, row, second, busy)?;
+        push_ways(&mut all, &mut latest, found, row, second, busy)?;
         let (left, count) = fewer_beyond(all, most)?;
         all = left;
         most = count;

@@ -21,7 +21,7 @@ returns-then-rows-le-BATCH c =
 
 pub loop-left-init : goal.loop-left-init
 loop-left-init c =
-    start c.args.second.now c.deref.result.now c.new-kept.result.items c.new-ways.result.items c.args.room c.new-kept.ensures.items c.new-ways.ensures.items
+    start c.args.second.now c.deref.result.now c.new-kept.result.items c.in_ok-ways-2.ways.items c.args.room c.new-kept.ensures.items c.in_ok-ways-2.ensures.items
     (subst (λ (v : List Row). Ordered DepartsNoLater v) (sym c.deref.ensures.value) c.in_ok-sorted.ensures.order)
 
 pub stretch_len-requires-clause-order : goal.stretch_len-requires-clause-order
@@ -39,26 +39,26 @@ returns-in_err-complete c =
     rw (fault.1, fault.2)
     (fault_now c.args.second.now c.deref.result.now c.loop-left.left.now c.loop-left.kept.items c.loop-left.ways.items c.loop-left.count c.args.room c.loop-left.invariant
     c.split_at.result.0.now c.split_at.result.1.now c.stretch_len.result c.split_at.ensures.by_index.0 c.split_at.ensures.front c.split_at.ensures.back c.stretch_len.ensures.apart
-    c.in_ok-ways-2.ways.items c.in_ok-ways-2.ensures c.args.rows.now
+    c.in_ok-ways-3.ways.items c.in_ok-ways-3.ensures c.args.rows.now
     (subst (λ (v : List Row). (r : Row) → Among v r ↔ Among c.args.rows.now r) (sym c.deref.ensures.value) c.in_ok-sorted.ensures.same) _ c.in_err-complete.ensures.gives)
 
 pub loop-left-preserved-in_ok-push_zones : goal.loop-left-preserved-in_ok-push_zones
 loop-left-preserved-in_ok-push_zones c =
     let is = c.deref-then-len-gt-MANY.ensures.value ∙ c.complete.view_is in
     let many : c.len-count.result ≡ length c.complete.inside.rows.items = omega arith in
-    subst (λ (v : ℕ). IsUnderway c.args.second.now c.deref.result.now c.split_at.result.1.now c.push_zones.new.items.items c.new-ways-then-len-gt-MANY.result.items (c.loop-left.count + v) c.args.room)
+    subst (λ (v : ℕ). IsUnderway c.args.second.now c.deref.result.now c.split_at.result.1.now c.push_zones.new.items.items c.new-ways.result.items (c.loop-left.count + v) c.args.room)
     (sym (many ∙ ap length c.complete.view_is))
     (count_all c.args.second.now c.deref.result.now c.loop-left.left.now c.loop-left.kept.items c.loop-left.ways.items c.loop-left.count c.args.room c.loop-left.invariant
     c.split_at.result.0.now c.split_at.result.1.now c.stretch_len.result c.split_at.ensures.by_index.0 c.split_at.ensures.front c.split_at.ensures.back c.stretch_len.ensures.apart
-    c.in_ok-ways-2.ways.items c.in_ok-ways-2.ensures c.in_ok-complete.complete c.in_ok-complete.ensures.gives c.push_zones.new.items.items c.new-ways-then-len-gt-MANY.result.items
+    c.in_ok-ways-3.ways.items c.in_ok-ways-3.ensures c.in_ok-complete.complete c.in_ok-complete.ensures.gives c.push_zones.new.items.items c.new-ways.result.items
     (subst (λ (v : List Row). (x y : Point) → ItemsHold c.push_zones.new.items.items x y ↔ (ItemsHold c.loop-left.kept.items x y ⊎ RowsHold v x y)) is c.in_ok-push_zones.ensures)
-    c.new-ways-then-len-gt-MANY.ensures.items)
+    c.new-ways.ensures.items)
 
 pub loop-left-preserved : goal.loop-left-preserved
 loop-left-preserved c =
     step c.args.second.now c.deref.result.now c.loop-left.left.now c.loop-left.kept.items c.loop-left.ways.items c.loop-left.count c.args.room c.loop-left.invariant
     c.split_at.result.0.now c.split_at.result.1.now c.stretch_len.result c.split_at.ensures.by_index.0 c.split_at.ensures.front c.split_at.ensures.back c.stretch_len.ensures.apart
-    c.in_ok-ways-2.ways.items c.in_ok-ways-2.ensures
+    c.in_ok-ways-3.ways.items c.in_ok-ways-3.ensures
 
 pub returns : goal.returns
 returns c =

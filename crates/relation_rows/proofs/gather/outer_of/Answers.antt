@@ -2,7 +2,7 @@ use Rattle.relation_rows.proofs.Thinning.{none_left, one_more_left, all_left}
 use Rattle.relation_rows.proofs.gather.outer_of.Goals as goal
 
 pub loop-item-init : goal.loop-item-init
-loop-item-init c = none_left c.args.items.now c.new-left.result.items c.new-left.ensures.items
+loop-item-init c = none_left c.args.items.now c.in_ok-left.left.items c.in_ok-left.ensures.items
 
 pub loop-item-preserved : goal.loop-item-preserved
 loop-item-preserved c =

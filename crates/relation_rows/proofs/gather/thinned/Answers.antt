@@ -1,5 +1,5 @@
 use Rattle.std.proofs.Common.{List, subst}
-use Rattle.relation_rows.specs.Relations.{Item, ItemsHold}
+use Rattle.relation_rows.specs.Relations.{Item}
 use Rattle.relation_rows.proofs.Sorting.{items_to, items_from}
 use Rattle.relation_rows.proofs.Thinning.{HoldAlike}
 use Rattle.relation_rows.proofs.gather.thinned.Goals as goal

@@ -2,7 +2,7 @@ use Rattle.relation_rows.proofs.Leaving.{none_within, within_more, all_within}
 use Rattle.relation_rows.proofs.minus.within.Goals as goal
 
 pub loop-zone-init : goal.loop-zone-init
-loop-zone-init c = none_within c.args.zones.now c.args.part.now c.new-shared.result.items c.new-shared.ensures.items
+loop-zone-init c = none_within c.args.zones.now c.args.part.now c.in_ok-shared.shared.items c.in_ok-shared.ensures.items
 
 pub loop-zone-preserved : goal.loop-zone-preserved
 loop-zone-preserved c =

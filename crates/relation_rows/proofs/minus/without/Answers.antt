@@ -2,7 +2,7 @@ use Rattle.relation_rows.proofs.Leaving.{none_without, without_more, all_without
 use Rattle.relation_rows.proofs.minus.without.Goals as goal
 
 pub loop-zone-init : goal.loop-zone-init
-loop-zone-init c = none_without c.args.zones.now c.args.cut.now c.new-left.result.items c.new-left.ensures.items
+loop-zone-init c = none_without c.args.zones.now c.args.cut.now c.in_ok-left.left.items c.in_ok-left.ensures.items
 
 pub loop-zone-preserved : goal.loop-zone-preserved
 loop-zone-preserved c =

@@ -7,7 +7,7 @@ loop-cut-init c = none_cut c.args.zones.now c.args.cuts.now c.in_ok-left.left.it
 pub loop-cut-preserved : goal.loop-cut-preserved
 loop-cut-preserved c =
     cut_more c.args.zones.now c.args.cuts.now c.loop-cut.cut-index _ c.cut-item.result c.loop-cut-test.true c.cut-item.is
-    c.loop-cut.left.items c.in_ok-left-2.left.items c.deref.result.now c.deref.ensures.value c.in_ok-left-2.ensures c.loop-cut.invariant
+    c.loop-cut.left.items c.in_ok-left-2.left.items c.in_ok-left-2.ensures c.loop-cut.invariant
 
 pub returns : goal.returns
 returns c = all_cut c.args.zones.now c.args.cuts.now c.loop-cut.cut-index c.loop-cut.left.items c.loop-cut-test.false c.loop-cut.invariant

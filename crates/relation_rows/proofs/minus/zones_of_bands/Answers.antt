@@ -6,7 +6,7 @@ pub zone_of-requires : goal.zone_of-requires
 zone_of-requires c = row_formed c.args.rows.now c.loop-row.row-index _ c.loop-row-test.true c.requires
 
 pub loop-row-init : goal.loop-row-init
-loop-row-init c = no_bands c.args.rows.now c.new-zones.result.items c.new-zones.ensures.items
+loop-row-init c = no_bands c.args.rows.now c.in_ok-zones.zones.items c.in_ok-zones.ensures.items
 
 pub loop-row-preserved : goal.loop-row-preserved
 loop-row-preserved c =

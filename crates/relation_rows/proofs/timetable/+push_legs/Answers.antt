@@ -1,6 +1,4 @@
-use Rattle.std.proofs.Common.{rules, List, ◌∷◌, ◌++◌, ◌∙◌, inl, inr, ap, refl, sym, subst, arith}
-use Rattle.itpg_base.specs.Lists.{Among}
-use Rattle.itpg_base.proofs.Lists.{append_first, append_second}
+use Rattle.std.proofs.Common.{List, ◌++◌, ◌∙◌, ap, arith}
 use Rattle.relation_rows.specs.declared.rows.Row.{Row}
 use Rattle.relation_rows.proofs.Reaching.{no_legs, legs_by_halves}
 use Rattle.relation_rows.proofs.timetable.+push_legs.Goals as goal
@@ -13,24 +11,4 @@ returns t c =
     let pushed = c.in_ok-push.ensures.items in
     legs_by_halves c.args.rows.now c.split_at.result.0.now c.in-Some.behind.now c.in-Some.row.now
     (c.split_at.ensures.by_index.0 ∙ ap (λ (v : List Row). c.split_at.result.0.now ++ v) c.in-Some.ensures.cases.0) c.split_at.ensures.front_len
-    c.reach_of.result c.reach_of.ensures c.zone_of.result c.zone_of.ensures c.args.legs.now.items c.push_legs.new.legs.items c.push.new.self.items c.push_legs-2.new.legs.items c.in_ok-push_legs.ensures pushed c.in_ok-push_legs-2.ensures
-
-pub zone_of-requires : goal.zone_of-requires
-zone_of-requires t c =
-    c.requires c.in-Some.row.now
-    (subst (λ (v : List Row). Among v c.in-Some.row.now) (sym (c.split_at.ensures.by_index.0 ∙ ap (λ (v : List Row). c.split_at.result.0.now ++ v) c.in-Some.ensures.cases.0))
-    (append_second c.split_at.result.0.now (c.in-Some.row.now ∷ c.in-Some.behind.now) c.in-Some.row.now (inl refl)))
-
-pub push_legs-requires : goal.push_legs-requires
-push_legs-requires t c = (
-  search rules,
-  λ r a. c.requires r (subst (λ (v : List Row). Among v r) (sym c.split_at.ensures.by_index.0) (append_first c.split_at.result.0.now c.split_at.result.1.now r a)),
-)
-
-pub push_legs-requires-2 : goal.push_legs-requires-2
-push_legs-requires-2 t c = (
-  search rules,
-  λ r a. c.requires r
-      (subst (λ (v : List Row). Among v r) (sym (c.split_at.ensures.by_index.0 ∙ ap (λ (v : List Row). c.split_at.result.0.now ++ v) c.in-Some.ensures.cases.0))
-      (append_second c.split_at.result.0.now (c.in-Some.row.now ∷ c.in-Some.behind.now) r (inr a))),
-)
+    c.reach_of.result c.reach_of.ensures c.args.legs.now.items c.push_legs.new.legs.items c.push.new.self.items c.push_legs-2.new.legs.items c.in_ok-push_legs.ensures pushed c.in_ok-push_legs-2.ensures

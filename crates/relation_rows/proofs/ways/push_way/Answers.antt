@@ -1,15 +1,19 @@
-use Rattle.std.proofs.Common.{◌≡◌, ◌-◌, List, Some, length, ◌∙◌, sym, subst}
-use Rattle.std.specs.Prelude.{slice_get}
-use Rattle.relation_rows.specs.Relations.{Item}
-use Rattle.relation_rows.proofs.Going.{had_by, pushed_by}
+use Rattle.std.proofs.Common.{List, subst}
+use Rattle.itpg_base.specs.Points.{Point}
+use Rattle.relation_rows.specs.Relations.{Item, ItemsHold}
+use Rattle.relation_rows.specs.Ways.{GoesBy}
+use Rattle.relation_rows.proofs.Going.{had_all, pushed_by}
 use Rattle.relation_rows.proofs.ways.push_way.Goals as goal
 
-pub returns : goal.returns
-returns c =
-    let at : slice_get c.deref.result.now (length c.deref.result.now - 1) ≡ Some c.in-Some.last = sym c.last.ensures.value ∙ sym c.copied-last.ensures ∙ c.in-Some.is in
-    had_by c.args.source c.args.zone.now c.args.next.now c.args.items.now.items (length c.deref.result.now - 1) c.in-Some.last
-    (subst (λ (v : List Item). slice_get v (length c.deref.result.now - 1) ≡ Some c.in-Some.last) c.deref.ensures.value at)
-    (c.has_ways.ensures c.if-has_ways.true)
+pub returns-then-is_missed : goal.returns-then-is_missed
+returns-then-is_missed c =
+    had_all c.args.source c.args.zone.now c.args.next.now c.args.items.now.items
+    (λ x y g. absurd (c.is_missed.ensures c.if-is_missed.true x.moment y.moment g.pair))
 
-pub returns-2 : goal.returns-2
-returns-2 c = pushed_by c.args.source c.args.zone.now c.args.next.now c.args.items.now.items c.push_there.new.items.items c.way_by-way.result c.way_by-way.ensures c.in_ok-push_there.ensures
+pub returns-then-are_had : goal.returns-then-are_had
+returns-then-are_had c =
+    had_all c.args.source c.args.zone.now c.args.next.now c.args.items.now.items
+    (subst (λ (v : List Item). (x y : Point) → GoesBy c.args.source c.args.zone.now c.args.next.now x y → ItemsHold v x y) c.deref.ensures.value (c.are_had.ensures c.if-are_had.true))
+
+pub returns : goal.returns
+returns c = pushed_by c.args.source c.args.zone.now c.args.next.now c.args.items.now.items c.push_there.new.items.items c.way_by-way.result c.way_by-way.ensures c.in_ok-push_there.ensures
