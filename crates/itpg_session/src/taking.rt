@@ -58,6 +58,10 @@ impl Session {
             return Ok(Seen::Answered);
         }
         let reply = self.decide(what)?;
+        if let Reply::Silent = reply {
+            // Most lines are edits, of which nothing is said.
+            return Ok(Seen::Quiet);
+        }
         self.write(form, no, &reply, out)?;
         let seen = reply.seen();
         self.settle(reply);
