@@ -5,6 +5,9 @@ ghost use Rattle.interval_set.specs.Splices.{CanSplice, spliced};
 
 use std::alloc::AllocError;
 
+// Lists of fewer items get no more room than they take.
+const FEW: usize = 4;
+
 /// A change of a list: up to three pieces in place of the items from `first` to before `last`.
 ///
 /// ```text
@@ -63,8 +66,8 @@ fn insert_at<T: Copy>(items: &mut Vec<T>, place: usize, piece: T) -> Result<(), 
     ensures ok { OnOk result (items.new.items ≡ take place items.old.items ++ (piece ∷ drop place items.old.items)) }
     ensures err { OnErr result (items.new.items ≡ items.old.items) }
 {
-    if items.is_empty() {
-        // Most lists never get a second item.
+    if items.len() < FEW {
+        // Most lists stay so short.
         items.reserve_exact(1)?;
     }
     items.insert(place, piece)?;
@@ -87,10 +90,6 @@ fn replace_run<T: Copy>(
     let gone = last - first;
     let added = pieces.len();
     if gone < added {
-        if items.is_empty() {
-            // Most lists never get a second item.
-            items.reserve_exact(added)?;
-        }
         items.extend_from_slice(&pieces[gone..])?;
     }
     items.copy_within(last..len, first + added);

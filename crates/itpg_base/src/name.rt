@@ -4,6 +4,7 @@ ghost use Rattle.std.specs.Cmp.{partial_equiv_from_equiv};
 ghost use Rattle.std.specs.Cmp.Lexicographic.{nat_list_eq_equiv, pointwise, slice_cmp};
 ghost use Rattle.std.specs.Cmp.Rules.{comparing, hashing};
 ghost use Rattle.std.specs.Hash as fed;
+ghost use Rattle.itpg_base.specs.Names.{with_zeros};
 ghost use Rattle.std.specs.Ordering.{nat_cmp};
 ghost use Rattle.std.proofs.Common.{rules};
 
@@ -20,8 +21,8 @@ pub const MAX_NAME: usize = 64;
 ///
 /// It is copied, and takes no memory beyond its own. A contract sees it as the list of its bytes.
 pub struct Name {
-    bytes: [u8; MAX_NAME],
     size: u8,
+    bytes: [u8; MAX_NAME],
 }
 
 impl Model for Name {
@@ -48,10 +49,18 @@ impl Name {
         if bytes.len() > MAX_NAME {
             return None;
         }
-        Some(Name {
-            bytes: padded_block(bytes),
+        Some(Name::of(bytes))
+    }
+
+    // The name of these bytes.
+    pub(crate) fn of(bytes: &[u8]) -> Name
+        requires { length bytes.now ≤ MAX_NAME }
+        ensures { result ≡ bytes.now }
+    {
+        Name {
             size: bytes.len() as u8,
-        })
+            bytes: padded_block(bytes),
+        }
     }
 
     /// The bytes of the name, at most `MAX_NAME`.
@@ -66,7 +75,7 @@ impl Name {
 // The bytes with zeros behind them.
 fn padded_block(bytes: &[u8]) -> [u8; MAX_NAME]
     requires { length bytes.now ≤ MAX_NAME }
-    ensures { result ≡ bytes.now ++ replicate (MAX_NAME - length bytes.now) 0 }
+    ensures { result ≡ with_zeros MAX_NAME bytes.now }
 {
     let mut block = [0; MAX_NAME];
     block[..bytes.len()].copy_from_slice(bytes);
@@ -136,8 +145,8 @@ impl Default for Name {
         ensures { result ≡ [] }
     {
         Name {
-            bytes: [0; MAX_NAME],
             size: 0,
+            bytes: [0; MAX_NAME],
         }
     }
 }

@@ -6,6 +6,7 @@ pub mod Kinds
 pub mod LabelLists
 pub mod Links
 pub mod Objects
+pub mod KeptNames
 pub mod Records
 pub mod Stores
 pub mod Tables

@@ -6,7 +6,6 @@ ghost use Rattle.itpg_graph.specs.Families.{FitCut, FitPut, FitClear, HasPlace};
 ghost use Rattle.itpg_graph.specs.Changes.{begun_as, widened, with_node, with_edge, without, JoinsLive, FitFamily, CutsLive, PutsValue, ClearsValue};
 
 use crate::graph::Graph;
-use crate::numbers::list;
 use crate::stored::{Opened, Stored};
 use interval_set::Span;
 use itpg_base::{LabelSet, MAX_LABELS, MAX_OBJECTS, Name, ObjNo};
@@ -57,7 +56,7 @@ impl Graph {
         let shared = self.sets.shared(alloc, &labels)?;
         let node = Stored::new(alloc, name, shared, None)?;
         self.by_label.reserve(alloc, &labels)?;
-        list(&mut self.numbers, name, number.0)?;
+        self.numbers.list(name, number.0)?;
         self.out.push();
         self.into.push();
         self.by_label.push(&labels, number);
@@ -92,7 +91,7 @@ impl Graph {
         let ends = Some((source, target));
         let edge = Stored::new(alloc, name, shared, ends)?;
         self.by_label.reserve(alloc, &labels)?;
-        list(&mut self.numbers, name, number.0)?;
+        self.numbers.list(name, number.0)?;
         self.out.push_at(source, number);
         self.into.push_at(target, number);
         self.by_label.push(&labels, number);

@@ -10,10 +10,9 @@ ghost use Rattle.itpg_graph.specs.WithLabel.{StandsWith};
 
 use crate::by_label::ByLabel;
 use crate::links::Links;
-use crate::numbers::number_of;
+use crate::numbers::Numbers;
 use crate::shared_labels::LabelSets;
 use crate::stored::{Opened, Stored};
-use indexmap::IndexMap;
 use interval_set::{IntervalSet, Span, ValuedSet};
 use itpg_base::{LabelSet, MAX_PROPERTIES, MAX_SPANS, Name, ObjNo};
 use std::alloc::{AllocError, Global};
@@ -35,7 +34,7 @@ pub enum Kind {
 pub struct Graph {
     pub(crate) opened: Option<Opened>,
     pub(crate) objects: Vec<Stored>,
-    pub(crate) numbers: IndexMap<Name, u32>,
+    pub(crate) numbers: Numbers,
     pub(crate) out: Links,
     pub(crate) into: Links,
     pub(crate) by_label: ByLabel,
@@ -65,7 +64,7 @@ impl Graph {
         Graph {
             opened: None,
             objects: Vec::new(alloc),
-            numbers: IndexMap::new(alloc),
+            numbers: Numbers::new(alloc),
             out: Links::new(alloc),
             into: Links::new(alloc),
             by_label: ByLabel::new(alloc),
@@ -86,7 +85,7 @@ impl Graph {
         Ok(Graph {
             opened: self.opened,
             objects,
-            numbers: self.numbers.clone()?,
+            numbers: self.numbers.copy()?,
             out: self.out.copy()?,
             into: self.into.copy()?,
             by_label: self.by_label.copy()?,
@@ -115,7 +114,7 @@ impl Graph {
         ensures none { IsNone result → (o : ℕ) → Named self.now o name.now → ⊥ }
         ensures good { Good self.now }
     {
-        let number = number_of(&self.numbers, name)?;
+        let number = self.numbers.get(name)?;
         if self.objects[number as usize].stands() {
             Some(ObjNo(number))
         } else {

@@ -8,6 +8,7 @@
 mod by_label;
 mod changing;
 mod graph;
+mod kept_name;
 mod laws;
 mod links;
 mod numbers;

@@ -7,6 +7,7 @@ ghost use Rattle.interval_set.specs.Runs.{AreRunsOf};
 ghost use Rattle.itpg_graph.specs.Families.{AreProperties};
 ghost use Rattle.itpg_graph.specs.Tables.{IsPlace, IsGap, HasLess, HasMore, IsWidest};
 
+use crate::kept_name::KeptName;
 use interval_set::{Span, ValuedSet};
 use itpg_base::Name;
 use std::alloc::{AllocError, Global};
@@ -15,7 +16,7 @@ use std::marker::Model;
 /// A property and its values.
 #[derive(Drop)]
 pub(crate) struct Property {
-    name: Name,
+    name: KeptName,
     values: ValuedSet,
 }
 
@@ -63,11 +64,9 @@ impl Properties {
     {
         let mut list = Vec::with_capacity(*self.list.allocator(), self.list.len())?;
         for property in &self.list {
+            let name = property.name.share()?;
             let values = property.values.copy()?;
-            list.push(Property {
-                name: property.name,
-                values,
-            })?;
+            list.push(Property { name, values })?;
         }
         Ok(Properties { list })
     }
@@ -99,7 +98,7 @@ impl Properties {
         ensures missing { IfErr result (IsGap self.now name.now) }
     {
         self.list
-            .binary_search_by(|property| property.name.cmp(name))
+            .binary_search_by(|property| property.name.order(name))
     }
 
     /// Gives the property the value at each moment of the span. Without memory nothing changes.
@@ -125,12 +124,12 @@ impl Properties {
         ensures err { OnErr result (self.new ≡ self.old) }
     {
         prove!(s.from() <= s.to());
-        let mut values = ValuedSet::new(*self.list.allocator());
+        let alloc = *self.list.allocator();
+        let name = KeptName::new(alloc, &name)?;
+        let mut values = ValuedSet::new(alloc);
         values.put(s, value)?;
-        if self.list.is_empty() {
-            // Most objects never get a second property.
-            self.list.reserve_exact(1)?;
-        }
+        // Most objects have few properties, and each takes much room.
+        self.list.reserve_exact(1)?;
         self.list.insert(place, Property { name, values })?;
         Ok(())
     }
@@ -160,10 +159,8 @@ impl Properties {
             let mut values = property.values.copy()?;
             values.clear(s)?;
             if !values.runs().is_empty() {
-                list.push(Property {
-                    name: property.name,
-                    values,
-                })?;
+                let name = property.name.share()?;
+                list.push(Property { name, values })?;
             }
         }
         Ok(Properties { list })

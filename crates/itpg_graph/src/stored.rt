@@ -5,6 +5,7 @@ ghost use Rattle.itpg_graph.specs.Changes.{new_object, dropped};
 ghost use Rattle.itpg_graph.specs.Kinds.{ends_of};
 ghost use Rattle.itpg_graph.specs.Objects.{ObjectJoins, ObjectCuts, ObjectPuts, ObjectClears};
 
+use crate::kept_name::KeptName;
 use crate::properties::Properties;
 use crate::shared_labels::SharedLabels;
 use interval_set::{IntervalSet, Span};
@@ -25,17 +26,18 @@ pub(crate) struct Opened {
 pub(crate) struct Record {
     pub(crate) live: IntervalSet,
     pub(crate) properties: Properties,
-    pub(crate) name: Name,
+    pub(crate) name: KeptName,
 }
 
 impl Clone for Record {
     ghost is_clone = { λ old copy. copy ≡ old };
 
     fn clone(&self) -> Result<Record, AllocError> {
+        let name = self.name.share()?;
         let live = self.live.copy()?;
         let properties = self.properties.copy()?;
         Ok(Record {
-            name: self.name,
+            name,
             live,
             properties,
         })
@@ -91,7 +93,7 @@ impl Stored {
         ensures { IfOk result (λ object. object ≡ new_object name labels (ends_of ends)) }
     {
         let first = Record {
-            name,
+            name: KeptName::new(alloc, &name)?,
             live: IntervalSet::new(alloc),
             properties: Properties::new(alloc),
         };
@@ -128,7 +130,7 @@ impl Stored {
     pub(crate) fn name(&self) -> Name
         ensures { result ≡ self.now.name }
     {
-        self.shared.name
+        self.shared.name.name()
     }
 
     /// Of an edge, its source and its target.

@@ -184,24 +184,7 @@ none_through zone first last band span apart t u = (λ h. absurd h, λ h. absurd
     missed s low high from to (inr l) = omega (arith, ints)
 
 module _ (row : Row) (zone : Bounds) (is : (t u : ℤ) → Meets zone t u ↔ InBand row.band t u) where
-  -- the ways by one row
-  pub one_way : (s : Row) → s.source.0 ≡ row.target.0 → (way : Option Bounds) → ((t : ℤ) → (u : ℤ) → Holds way t u ↔ GoesThrough zone s.band t u)
-      → (x y : Point) → ItemThere row.source s.target way x y ↔ ((m : Point) × InRow row x m × InRow s m y)
-  one_way s same way of x y = (
-    λ h.
-        let k = there_holds row.source s.target way x y h in
-        let w = (of x.moment y.moment).0 k.2 in (
-          record { object = row.target.0; moment = w.0 },
-          record { source = k.0; target = refl; pair = (is x.moment w.0).0 w.1 },
-          record { source = same; target = k.1; pair = w.2 },
-        ),
-    λ h.
-        let a = h.1 in let b = h.2 in
-        holds_there row.source s.target way x y a.source b.target
-        ((of x.moment y.moment).1 ((h.0).moment, (is x.moment (h.0).moment).1 a.pair, b.pair)),
-  )
-
-  -- and by the zone and then the row
+  -- the ways by the zone and then one row
   by_one : (s : Row) → s.source.0 ≡ row.target.0 → (x y : Point) → GoesBy row.source zone s x y ↔ ((m : Point) × InRow row x m × InRow s m y)
   by_one s same x y = (
     λ h.

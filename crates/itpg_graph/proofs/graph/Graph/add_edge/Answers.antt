@@ -22,7 +22,7 @@ invariant_of-self-2 c =
     let items : c.push_reserved.new.self.items ≡ old ++ edge ∷ [] = search rules in
     let count : c.len-2.result ≡ length old = search rules in
     let next : number.0 ≡ length old = count in
-    let table : listed c.list.new.numbers c.args.name ≡ Some (length old) = c.in_ok-list.ensures.ok ∙ ap Some next in
+    let table : listed c.list.new.self c.args.name ≡ Some (length old) = c.in_ok-list.ensures.ok ∙ ap Some next in
     let out = links_of c.self.inside.out in
     let into = links_of c.self.inside.into in
     let add : List ObjNo → List ObjNo = λ list. list ++ number ∷ [] in
@@ -31,7 +31,7 @@ invariant_of-self-2 c =
     let more_out : links_of c.push_at.new.self ≡ now_out = c.push_at.ensures ∙ ap (λ ls. changed_at ls c.args.source.0 add ++ [] ∷ []) c.reserve_at.ensures.same in
     let more_into : links_of c.push_at-2.new.self ≡ now_into = c.push_at-2.ensures ∙ ap (λ ls. changed_at ls c.args.target.0 add ++ [] ∷ []) c.reserve_at-2.ensures.same in
     let now = with_edge g c.args.name c.args.labels c.args.source.0 c.args.target.0 in
-    let store = edge_store g c.args.name c.args.labels c.self.inside.numbers c.list.new.numbers out into c.self.invariant.store c.len.ensures.set
+    let store = edge_store g c.args.name c.args.labels c.self.inside.numbers c.list.new.self out into c.self.invariant.store c.len.ensures.set
     (subst (λ g. (o : ℕ) → Named g o c.args.name → ⊥) is c.requires.free) (subst (λ g. length g.objects < 200000) is c.requires.room) table c.in_ok-list.ensures.others
     c.args.source c.args.target number next (subst (λ g. IsNode g c.args.source.0) is c.requires.source) (subst (λ g. IsNode g c.args.target.0) is c.requires.target) in
     let ends : Ends = record { source = c.args.source.0; target = c.args.target.0 } in
@@ -41,9 +41,9 @@ invariant_of-self-2 c =
     (λ label has. c.push.ensures.own label has ∙ ap (λ l. l ++ number ∷ []) (c.reserve-2.ensures.same label)) (λ label out. c.push.ensures.others label out ∙ c.reserve-2.ensures.same label) in
     let view : graph_of c.self.inside.opened c.push_reserved.new.self.items ≡ pushed g (new_object c.args.name c.args.labels (Some (record { source = c.args.source.0; target = c.args.target.0 }))) = ap (graph_of c.self.inside.opened) items ∙ added c.self.inside.opened old edge ∙ ap (pushed g) (c.in_ok-edge.ensures ∙ ap (λ ls. new_object c.args.name ls (Some ends)) c.in_ok-shared.ensures) in
     record {
-      store = subst (λ h. IsStore h c.list.new.numbers (links_of c.push_at.new.self) (links_of c.push_at-2.new.self)) (sym view)
-          (subst (λ ls. IsStore now c.list.new.numbers ls (links_of c.push_at-2.new.self)) (sym more_out)
-          (subst (λ ls. IsStore now c.list.new.numbers now_out ls) (sym more_into) store));
+      store = subst (λ h. IsStore h c.list.new.self (links_of c.push_at.new.self) (links_of c.push_at-2.new.self)) (sym view)
+          (subst (λ ls. IsStore now c.list.new.self ls (links_of c.push_at-2.new.self)) (sym more_out)
+          (subst (λ ls. IsStore now c.list.new.self now_out ls) (sym more_into) store));
       labels = subst (λ h. AreHeld h lists) (sym view) labels;
     }
 

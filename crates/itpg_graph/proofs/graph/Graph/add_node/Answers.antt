@@ -21,12 +21,12 @@ invariant_of-self-2 c =
     let number : ObjNo = record { 0 = c.len-2.result } in
     let count : c.len-2.result ≡ length old = search rules in
     let next : number.0 ≡ length old = count in
-    let table : listed c.list.new.numbers c.args.name ≡ Some (length old) = c.in_ok-list.ensures.ok ∙ ap Some next in
+    let table : listed c.list.new.self c.args.name ≡ Some (length old) = c.in_ok-list.ensures.ok ∙ ap Some next in
     let out = links_of c.self.inside.out in
     let into = links_of c.self.inside.into in
     let more_out : links_of c.push.new.self ≡ out ++ [] ∷ [] = c.push.ensures ∙ ap (λ ls. ls ++ [] ∷ []) c.reserve-2.ensures.same in
     let more_into : links_of c.push-2.new.self ≡ into ++ [] ∷ [] = c.push-2.ensures ∙ ap (λ ls. ls ++ [] ∷ []) c.reserve-3.ensures.same in
-    let store = node_store g c.args.name c.args.labels c.self.inside.numbers c.list.new.numbers out into c.self.invariant.store c.len.ensures.set
+    let store = node_store g c.args.name c.args.labels c.self.inside.numbers c.list.new.self out into c.self.invariant.store c.len.ensures.set
     (subst (λ g. (o : ℕ) → Named g o c.args.name → ⊥) is c.requires.free) (subst (λ g. length g.objects < 200000) is c.requires.room) table c.in_ok-list.ensures.others
     (subst (λ g. IsSome g.begun) is c.requires.begun) in
     let was = held c.self.inside.by_label in
@@ -35,9 +35,9 @@ invariant_of-self-2 c =
     (λ label has. c.push-3.ensures.own label has ∙ ap (λ l. l ++ number ∷ []) (c.reserve-4.ensures.same label)) (λ label out. c.push-3.ensures.others label out ∙ c.reserve-4.ensures.same label) in
     let view : graph_of c.self.inside.opened c.push_reserved.new.self.items ≡ pushed g (new_object c.args.name c.args.labels None) = ap (graph_of c.self.inside.opened) items ∙ added c.self.inside.opened old node ∙ ap (pushed g) (c.in_ok-node.ensures ∙ ap (λ ls. new_object c.args.name ls None) c.in_ok-shared.ensures) in
     record {
-      store = subst (λ h. IsStore h c.list.new.numbers (links_of c.push.new.self) (links_of c.push-2.new.self)) (sym view)
-          (subst (λ ls. IsStore (with_node g c.args.name c.args.labels) c.list.new.numbers ls (links_of c.push-2.new.self)) (sym more_out)
-          (subst (λ ls. IsStore (with_node g c.args.name c.args.labels) c.list.new.numbers (out ++ [] ∷ []) ls) (sym more_into) store));
+      store = subst (λ h. IsStore h c.list.new.self (links_of c.push.new.self) (links_of c.push-2.new.self)) (sym view)
+          (subst (λ ls. IsStore (with_node g c.args.name c.args.labels) c.list.new.self ls (links_of c.push-2.new.self)) (sym more_out)
+          (subst (λ ls. IsStore (with_node g c.args.name c.args.labels) c.list.new.self (out ++ [] ∷ []) ls) (sym more_into) store));
       labels = subst (λ h. AreHeld h lists) (sym view) labels;
     }
 
