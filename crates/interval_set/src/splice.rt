@@ -5,9 +5,6 @@ ghost use Rattle.interval_set.specs.Splices.{CanSplice, spliced};
 
 use std::alloc::AllocError;
 
-// Lists of fewer items get no more room than they take.
-const FEW: usize = 4;
-
 /// A change of a list: up to three pieces in place of the items from `first` to before `last`.
 ///
 /// ```text
@@ -66,8 +63,8 @@ fn insert_at<T: Copy>(items: &mut Vec<T>, place: usize, piece: T) -> Result<(), 
     ensures ok { OnOk result (items.new.items ≡ take place items.old.items ++ (piece ∷ drop place items.old.items)) }
     ensures err { OnErr result (items.new.items ≡ items.old.items) }
 {
-    if items.len() < FEW {
-        // Most lists stay so short.
+    if items.is_empty() {
+        // Most lists never get a second item.
         items.reserve_exact(1)?;
     }
     items.insert(place, piece)?;

@@ -1,5 +1,5 @@
 -- The tables of an equal graph.
-use Rattle.std.proofs.Common.{◌≡◌, ℕ, List, [], ◌∷◌, Bool, true, false, Option, Some, cond, refl, sym, ap, ◌∙◌, subst}
+use Rattle.std.proofs.Common.{◌≡◌, List, [], ◌∷◌, Bool, true, false, Option, Some, cond, refl, sym, ◌∙◌, subst}
 use Rattle.std.specs.Prelude.{vec_len}
 use Rattle.std.specs.List.{AllZip, each_same}
 use Rattle.std.specs.Map.{lookup}
@@ -10,14 +10,6 @@ use Rattle.itpg_base.specs.Graphs.{Graph}
 use Rattle.itpg_base.specs.declared.object_number.ObjNo.{ObjNo}
 use Rattle.itpg_graph.specs.LabelLists.{numbers_or_none}
 use Rattle.itpg_graph.specs.Stores.{Table, listed, IsStore}
-
--- of copied entries the same number is found
-pub number_alike : (test : Word → Bool) (xs ys : List (Word × ℕ)) → AllZip (λ p q. (q.0 ≡ p.0) × (q.1 ≡ p.1)) xs ys → lookup test ys ≡ lookup test xs
-number_alike test [] [] h = refl
-number_alike test [] (y ∷ ys) h = absurd h
-number_alike test (x ∷ xs) [] h = absurd h
-number_alike test (x ∷ xs) (y ∷ ys) h =
-    ap (λ name. cond (test name) (Some y.1) (lookup test ys)) h.0.0 ∙ ap (λ number. cond (test x.0) (Some number) (lookup test ys)) h.0.1 ∙ ap (cond (test x.0) (Some x.1)) (number_alike test xs ys h.1)
 
 -- one list has the numbers of the other
 abbrev pub IsCopy : Vec ObjNo Global → Vec ObjNo Global → Type 0

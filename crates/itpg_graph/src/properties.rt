@@ -128,8 +128,10 @@ impl Properties {
         let name = KeptName::new(alloc, &name)?;
         let mut values = ValuedSet::new(alloc);
         values.put(s, value)?;
-        // Most objects have few properties, and each takes much room.
-        self.list.reserve_exact(1)?;
+        if self.list.is_empty() {
+            // Most objects never get a second property.
+            self.list.reserve_exact(1)?;
+        }
         self.list.insert(place, Property { name, values })?;
         Ok(())
     }
