@@ -1,4 +1,5 @@
 //! The lines that change the graph: what stands behind their command words is written into the room.
+//! The forms that scripts have most of make each name by a test of its own, since a `Result` of a name is copied several times.
 ghost use Rattle.std.specs.Prelude.{IfOk};
 ghost use Rattle.edit_reader.specs.Steps.{begin_told, extend_told, node_told, edge_told, live_told, gone_told, put_told, clear_told, remove_told};
 ghost use Rattle.edit_reader.specs.Answers.{WritesEdit};
