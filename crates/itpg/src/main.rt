@@ -3,10 +3,15 @@
 
 use itpg_base::{StdSink, StdSource};
 use itpg_run::{Ending, Status, serve};
+use std::alloc::Global;
 use std::process::ExitCode;
 use std::{env, io};
 
+// How many bytes the block has that is taken and given back before anything else.
+const BLOCK: usize = 16_777_216;
+
 fn main(rt: HostRuntime) -> ExitCode {
+    have_blocks_kept(rt.alloc());
     let status = match words(&rt) {
         Ok(words) => {
             let mut source = StdSource::new(rt.reader());
@@ -19,6 +24,12 @@ fn main(rt: HostRuntime) -> ExitCode {
         let _ = eprintln!(rt; "itpg: {status}");
     }
     ExitCode::from(status.code())
+}
+
+// Takes a large block and gives it back. Until the C library has seen one come back, it hands each on to the system, and the memory of
+// which answers are made is asked for again and again. Where there is no memory nothing is lost.
+fn have_blocks_kept(alloc: Global) {
+    let _block = Vec::<u8>::with_capacity(alloc, BLOCK);
 }
 
 /// The words of the command line without the program's name. A word that isn't UTF-8 is in no sentence.
