@@ -8,7 +8,7 @@ use std::process::ExitCode;
 use std::{env, io};
 
 // How many bytes the block has that is taken and given back before anything else.
-const BLOCK: usize = 16_777_216;
+const BLOCK: usize = 4_194_304;
 
 fn main(rt: HostRuntime) -> ExitCode {
     have_blocks_kept(rt.alloc());
