@@ -19,6 +19,30 @@ use zone_core::Zone;
 // How often at most zones are cut in two.
 const CUTS: u32 = 48;
 
+// Whether all pairs of the zone have one difference.
+fn is_thin(zone: &Zone) -> bool {
+    let bounds = zone.bounds();
+    bounds.e == bounds.f
+}
+
+// Whether between the least differences of the zones a number is free.
+fn differ(one: &Zone, other: &Zone) -> bool {
+    one.bounds().e.abs_diff(other.bounds().e) > 1
+}
+
+// The measure that is to part the zones first. Where each zone has one difference, and these are apart, that parts them at once; a look
+// at the first two and the last zone tells. It has no clause, since any measure is right.
+fn first_measure(zones: &[Zone]) -> Measure {
+    let ([first, second, ..], Some(last)) = (zones, zones.last()) else {
+        return Measure::Departure;
+    };
+    if is_thin(first) && is_thin(second) && is_thin(last) && differ(first, second) {
+        Measure::Difference
+    } else {
+        Measure::Departure
+    }
+}
+
 /// The normal list of the union of the zones.
 ///
 /// The zone of the pairs t, t with t from 0 to 9 has one band. With the pair 5, 6 beside it there are
@@ -50,5 +74,6 @@ pub fn normal(alloc: Global, zones: Vec<Zone>) -> Result<Vec<Band>, AllocError>
         push_present(&mut rows, bands_of(zone))?;
         return Ok(rows);
     }
-    in_order(add_parted(alloc, rows, &zones, Measure::Departure, ROUNDS, 0, CUTS)?)
+    let measure = first_measure(&zones);
+    in_order(add_parted(alloc, rows, &zones, measure, ROUNDS, 0, CUTS)?)
 }

@@ -17,10 +17,16 @@ const FEW: usize = 8;
 // So many rows are a run, at least on the average.
 const LONG: usize = 64;
 
+// Rows that go on by themselves are halved on both sides if they are so many runs at most, among so many runs of all rows.
+const FEW_RUNS: usize = 4;
+
+const RUNS: usize = 16;
+
 // Where no row leads to so great a part of all rows, these are of many objects.
 const PART: usize = 8;
 
-/// Which of two lists, of which one goes on by the other, is taken by halves: the first if it is even runs, or else the second if that is.
+/// Which of two lists, of which one goes on by the other, is taken by halves: the first if it is even runs, or else the second if that is;
+/// both where the rows go on by themselves in a few such runs.
 #[derive(Clone, Copy)]
 pub(crate) struct AreEven {
     pub(crate) first: bool,
@@ -69,6 +75,32 @@ pub(crate) fn part_len(rows: &[Row], are_even: bool) -> usize
     if are_even { run_len(rows) } else { rows.len() }
 }
 
+// Whether the first of the others departs from where the first row arrives.
+fn leads_to(rows: &[Row], others: &[Row]) -> bool {
+    let (Some(row), Some(other)) = (rows.first(), others.first()) else {
+        return false;
+    };
+    row.target.0 == other.source.0
+}
+
+/// Whether the rows are the list to halve, if they are many. Where the others are even too, they are it while they are the longer list: a
+/// half takes as long as the ways that are made, so two lists that shrink in turn take far less. Few rows, and those that lead nowhere,
+/// aren't worth it. It has no clause, since any answer is right.
+pub(crate) fn comes_first(rows: &[Row], others: &[Row], even: AreEven) -> bool {
+    if !even.second {
+        return even.first;
+    }
+    even.first && rows.len() >= others.len() && others.len() > FEW && leads_to(rows, others)
+}
+
+/// Whether the others are the list to halve, where the rows aren't. It has no clause, since any answer is right.
+pub(crate) fn comes_second(rows: &[Row], others: &[Row], even: AreEven) -> bool {
+    if !even.first {
+        return even.second;
+    }
+    even.second && rows.len() > FEW && leads_to(rows, others)
+}
+
 /// Whether so many rows are halved: where they are even and many.
 pub(crate) fn is_halved(rows: usize, are_even: bool) -> bool
     ensures { IsTrue result → 8 < rows }
@@ -76,10 +108,10 @@ pub(crate) fn is_halved(rows: usize, are_even: bool) -> bool
     are_even && rows > FEW
 }
 
-// Whether the rows are so many, and in so few runs, that halves pay.
-fn are_in_runs(rows: &[Row]) -> bool {
+// Whether the rows are so many runs at most.
+fn are_runs(rows: &[Row], most: usize) -> bool {
     let mut left = rows;
-    for _ in 0..rows.len() / LONG {
+    for _ in 0..most {
         if left.is_empty() {
             return true;
         }
@@ -87,6 +119,11 @@ fn are_in_runs(rows: &[Row]) -> bool {
         left = later;
     }
     left.is_empty()
+}
+
+// Whether the rows are so many, and in so few runs, that halves pay.
+fn are_in_runs(rows: &[Row]) -> bool {
+    are_runs(rows, rows.len() / LONG)
 }
 
 // Whether one of the rows leads to a great part of the second ones.
@@ -99,6 +136,19 @@ fn lead_to_many(rows: &[Row], second: &Offsets<'_>) -> bool {
     false
 }
 
+// Whether the rows go on by themselves, in so few runs that the ways by each two of these pay. What leads on from their source is these
+// rows, and they are a great part of all second ones, which are few runs too, since each of those is gone through.
+fn are_squared(rows: &[Row], second: &Offsets<'_>) -> bool {
+    let all = second.rows();
+    let Some(row) = rows.first() else {
+        return false;
+    };
+    if rows.len() < all.len() / PART || second.from(row.source) != rows {
+        return false;
+    }
+    are_runs(rows, FEW_RUNS) && are_runs(all, RUNS)
+}
+
 /// Which of the lists is even runs, where so many ways are to be listed that halves pay. It has no clause, since any answer is right.
 pub(crate) fn evenness(rows: &[Row], second: &Offsets<'_>) -> AreEven {
     let all = second.rows();
@@ -109,6 +159,12 @@ pub(crate) fn evenness(rows: &[Row], second: &Offsets<'_>) -> AreEven {
         };
     }
     let first = are_in_runs(rows);
+    if first && are_squared(rows, second) {
+        return AreEven {
+            first: true,
+            second: true,
+        };
+    }
     AreEven {
         first,
         second: !first && lead_to_many(rows, second) && are_in_runs(all),

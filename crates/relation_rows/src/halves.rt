@@ -3,7 +3,8 @@
 //! Such ways take the rows of both relations multiplied. So only those by a few rows are listed. The ways that begin with the second half
 //! are the step and then those that begin with the first; the ways that go on by the second half are those that go on by the first, and
 //! then the step. Where both lists are even, the first is halved: a step before them moves departures, so that the many rows which the ways
-//! may have at a few departures aren't made anew for each half.
+//! may have at a few departures aren't made anew for each half. Only where rows go on by themselves the longer of the two lists is halved
+//! each time: their ways are about as many as they are, so that all halves together take hardly longer than the last ones to be joined.
 
 ghost use Rattle.std.specs.Prelude.{◌≡◌, List, Ok, IfOk, IfSome};
 ghost use Rattle.itpg_base.specs.Lists.{Among, Ordered};
@@ -12,7 +13,7 @@ ghost use Rattle.relation_rows.specs.declared.rows.Row.{Row as PlainRow};
 ghost use Rattle.relation_rows.specs.Rows.{RowBefore, NormalRows};
 ghost use Rattle.relation_rows.specs.Relations.{EitherHolds, HasMiddlePoint};
 
-use crate::evenness::{AreEven, evenness, is_halved, part_len};
+use crate::evenness::{AreEven, comes_first, comes_second, evenness, is_halved, part_len};
 use crate::known::Known;
 use crate::offsets::Offsets;
 use crate::relations::Relation;
@@ -54,7 +55,7 @@ fn by_halves(
     requires others { (r : PlainRow) → Among others.now r → IsWellFormed r.band }
     ensures { IfOk result (λ found. IfSome found (λ all. NormalRows (HasMiddlePoint rows.now others.now) all)) }
 {
-    if is_halved(rows.len(), even.first) {
+    if is_halved(rows.len(), comes_first(rows, others, even)) {
         let (front, last) = rows.split_at(rows.len() / 2 * 2);
         let (first, half) = front.split_at(rows.len() / 2);
         let Some(step) = step_to(known, first, half)? else {
@@ -72,7 +73,7 @@ fn by_halves(
         };
         return both_of(&both, &more);
     }
-    if is_halved(others.len(), even.second) {
+    if is_halved(others.len(), comes_second(rows, others, even)) {
         let (front, last) = others.split_at(others.len() / 2 * 2);
         let (first, half) = front.split_at(others.len() / 2);
         let Some(step) = step_from(known, first, half)? else {

@@ -36,7 +36,7 @@ in_order-requires c = can_order _ _ (first_adds _ _ _ c.new-rows.ensures.items c
 
 pub returns-clause-normal : goal.returns-clause-normal
 returns-clause-normal c =
-    subst (λ (zones : List Bounds). IfOk c.in_order.result (λ v. Normal (SomeMeets zones) v.items)) c.deref-2.ensures.value
+    subst (λ (zones : List Bounds). IfOk c.in_order.result (λ v. Normal (SomeMeets zones) v.items)) c.deref-3.ensures.value
     (ok_ordered _ _ _ (first_adds _ _ _ c.new-rows.ensures.items c.in_ok-add_parted.ensures) c.in_order.ensures)
 
 pub returns-clause-well_formed : goal.returns-clause-well_formed
