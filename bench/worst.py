@@ -20,6 +20,8 @@ LAST = 10**12 - 1
 ONE = [f"graph g 0 {LAST}", "node a A", f"live a 0 {LAST}"]
 LOOP = [f"graph g 0 {LAST}", "node a A", f"live a 0 {LAST}", "node b B", f"live b 0 {LAST}", "edge e L a a", f"live e 0 {LAST}",
         "edge f L a b", f"live f 0 {LAST}"]
+# A node that exists late.
+LATE = [f"graph g 0 {LAST}", "node a A", "live a 500000000000 599999999999"]
 INNER = "(x {time >= 1000000 AND time < 1000000000})"
 
 
@@ -33,6 +35,8 @@ SCRIPTS = [
     (ONE, "ask MATCH (x)-/(N/N + FWD/FWD + P/P)[3,_]/-(y)", ["wide"]),
     (ONE, "ask MATCH (x)-/(N/N/N + P/P/P)*/-(y)", ["wide"]),
     (ONE, "ask MATCH (x)-/(N/N + P/P/P)*/-(y)", ["rows 1"]),
+    (LATE, "ask MATCH (x)-/(NEXT[0,3]/N/N)*/-(y)", ["wide"]),
+    (LATE, "ask MATCH (x)-/((NEXT[0,21])[7,_]/N/N)*/-(y)", ["wide"]),
     (LOOP, "ask MATCH (x)-/(FWD/FWD/N + P/P)*/-(y)", ["wide"]),
     (LOOP, "ask MATCH (x)-/(FWD/FWD/N/N + P/P)*/-(y)", ["wide"]),
     (LOOP, "ask MATCH (x)-/(NEXT/NEXT + FWD/FWD/P)*/-(y)", ["wide"]),
@@ -42,6 +46,7 @@ SCRIPTS = [
     (ONE, f"ask MATCH {INNER}-/(N/N)[0,8000]/(P/P/P)[0,6000]/-(y)", ["rows 3"]),
     (ONE, f"ask MATCH {INNER}-/(N/N)[0,90000]/(P/P/P)[0,60000]/-(y)", ["wide"]),
     (ONE, "ask MATCH (x)-/(N + P)[60000,_]/-(y)", ["rows 1"]),
+    (ONE, "ask MATCH (x)-/(N + P)[3000000021,_]/-(y)", ["wide"]),
     (ONE, "ask MATCH (x)-/(N/N)[0,40000]/(N/N)[0,40000]/-(y)", ["rows 80001"]),
     (ONE, "ask MATCH (x)-/(N/N)[0,90000]/-(y)", ["rows 90001"]),
     (ONE, "ask MATCH (x)-/((N/N)[0,40000] + (P/P/P)[0,30000])/-(y)", ["rows 70001"]),

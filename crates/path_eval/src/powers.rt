@@ -17,6 +17,7 @@ use plan_cache::{PlanNo, Plans};
 use relation_rows::{RelFault, Relation};
 use repeat_engine::{Composed, closure, power, up_to};
 use std::alloc::AllocError;
+use wide_witness::is_seen_wide;
 
 // So many times the limit of rows may be made on the way to a union.
 const MORE: u32 = 4;
@@ -99,6 +100,19 @@ impl Composed for Powers<'_, '_> {
         } else {
             Err(RelFault::Wide)
         }
+    }
+
+    fn check_union(&self, x: &Relation, n: u64) -> Result<(), RelFault> {
+        let limit = self.ground.max_rows;
+        if n > self.many() && is_seen_wide(self.ground.alloc, x, n, limit)? {
+            return Err(RelFault::Wide);
+        }
+        Ok(())
+    }
+
+    // With each power, one point most often leads to one run more.
+    fn many(&self) -> u64 {
+        self.ground.max_rows as u64
     }
 
     fn size(&self, x: &Relation) -> u64 {

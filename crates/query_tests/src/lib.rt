@@ -22,6 +22,8 @@ mod of_repeat_engine;
 #[cfg(test)]
 mod of_source_rows;
 #[cfg(test)]
+mod of_wide_witness;
+#[cfg(test)]
 mod of_zone_compose;
 #[cfg(test)]
 mod of_zone_core;

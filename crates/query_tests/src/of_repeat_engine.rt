@@ -83,6 +83,14 @@ impl Composed for Lengths {
         Ok(*x)
     }
 
+    fn check_union(&self, _x: &(u64, u64), _n: u64) -> Result<(), TooMany> {
+        Ok(())
+    }
+
+    fn many(&self) -> u64 {
+        3
+    }
+
     fn size(&self, x: &(u64, u64)) -> u64 {
         x.1.saturating_sub(x.0)
     }

@@ -33,7 +33,7 @@ starting [] spans o = tt
 starting (r ∷ rows) spans o = (λ s a. starts_of r s (spans r (inl refl)) (o.0 s a), starting rows (λ s a. spans s (inr a)) o.1)
 
 -- no row has the moment before a row's first, nor that after its last
-not_touched : (rows : List OneRow) → ((r : OneRow) → Among rows r → IsSpan r.span) → Ordered TimeBefore rows → (r : OneRow) → Among rows r → (t : ℤ)
+pub not_touched : (rows : List OneRow) → ((r : OneRow) → Among rows r → IsSpan r.span) → Ordered TimeBefore rows → (r : OneRow) → Among rows r → (t : ℤ)
     → (t ≡ r.span.from -ℤ pos 1) ⊎ (t ≡ r.span.to +ℤ pos 1) → TimesHold rows r.object.0 t → ⊥
 not_touched rows spans o r a t at h =
     let s = h.0 in

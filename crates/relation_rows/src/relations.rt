@@ -18,7 +18,7 @@ use crate::known::Known;
 use crate::minus::only_in_first;
 use crate::offsets::offsets_of;
 use crate::rows::{RelFault, Row};
-use crate::search::{is_in_band, rows_between, rows_of_key};
+use crate::search::{is_in_band, rows_between, rows_from, rows_of_key};
 use crate::strike::struck;
 use crate::times::{OneTime, Side, times_of};
 use crate::union::united;
@@ -66,6 +66,17 @@ impl Relation {
         ensures relation { IsRelation self.now }
     {
         &self.rows
+    }
+
+    /// The rows from the object, which stand together.
+    ///
+    /// ```text
+    ///     a 0..9 to b, b 0..4 to a, b 5..9 to c      rows_from(b) is the second and the third
+    /// ```
+    pub fn rows_from(&self, source: ObjNo) -> &[Row]
+        ensures { (r : PlainRow) → Among result.now r ↔ (Among self.now r × (r.source.0 ≡ source.0)) }
+    {
+        rows_from(&self.rows, source)
     }
 
     /// The number of rows.

@@ -71,6 +71,14 @@ impl OneTime {
         }
     }
 
+    /// The runs of the moments that the rows have, in whatever order they stand.
+    pub fn from_spans(times: Vec<OneRow>) -> Result<OneTime, AllocError>
+        requires { (r : PlainOneRow) → Among times.items r → IsSpan r.span }
+        ensures { IfOk result (λ rows. AreTimes (TimesHold times.items) rows) }
+    {
+        runs_of(*times.allocator(), times)
+    }
+
     /// The same rows.
     pub(crate) fn copy(&self) -> Result<OneTime, AllocError>
         ensures { IfOk result (λ copy. copy ≡ self.now) }

@@ -5,6 +5,7 @@ pub mod Results
 pub mod Squaring
 pub mod Uniting
 pub mod Order
+mod Foreseeing
 pub mod Growth
 pub mod Steps
 pub mod Doubles

@@ -1,12 +1,17 @@
 -- What a result says, said of something alike.
 use Rattle.std.proofs.Common.{Result, Ok, Err, IfOk, Option, Some, None, IfSome}
 use Rattle.repeat_engine.specs.Powers.{Algebra}
-use Rattle.repeat_engine.specs.Composed.{IsLawful, IsOkWhere, IsSomeWhere}
+use Rattle.repeat_engine.specs.Composed.{IsLawful, IsOkWhere, IsSomeWhere, FailsOnlyWithout}
 
 -- Ok where the one condition holds is Ok where the other does
 pub exact_as : {T E A B : Type 0} (WantsMemory : E → Type 0) (r : Result T E) → (A → B) → (B → A) → IsOkWhere WantsMemory r A → IsOkWhere WantsMemory r B
 exact_as WantsMemory (Ok v) there back a = there a
 exact_as WantsMemory (Err e) there back unfit = λ other b. unfit other (back b)
+
+-- a fault only without the one condition is one only without what it follows from
+pub fails_as : {T E A B : Type 0} (WantsMemory : E → Type 0) (r : Result T E) → (B → A) → FailsOnlyWithout WantsMemory r A → FailsOnlyWithout WantsMemory r B
+fails_as WantsMemory (Ok v) there h = tt
+fails_as WantsMemory (Err e) there h = λ other b. h other (there b)
 
 module _ {M : Type 0} {Alike : M → M → Type 0} {Own Fits : M → Type 0} {algebra : Algebra M} (laws : IsLawful Alike Own Fits algebra) where
   -- what is alike to one's own is one's own, and what is alike to something that fits, fits

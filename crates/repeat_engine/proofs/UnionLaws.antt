@@ -36,7 +36,7 @@ module _ {M : Type 0} {Alike : M → M → Type 0} {Own Fits : M → Type 0} {al
   own_union x own (suc n) = laws.own_united _ _ (own_union x own n) (own_power laws x own (suc n))
 
   -- all powers to n, and each of them composed once more
-  union_more : (x : M) → Own x → (n : ℕ) → Alike (unite (To x n) (compose (To x n) x)) (To x (suc n))
+  pub union_more : (x : M) → Own x → (n : ℕ) → Alike (unite (To x n) (compose (To x n) x)) (To x (suc n))
   unfolding union_of_powers nth_power
   union_more x own zero = laws.same _
   union_more x own (suc n) =

@@ -1,5 +1,5 @@
 -- What composition and union keep, and where a call of them answers Ok.
-use Rattle.std.specs.Prelude.{ℕ, ◌≤◌, ◌^◌, Option, IfSome, Result, MatchResult}
+use Rattle.std.specs.Prelude.{ℕ, ◌≤◌, ◌^◌, Option, IfSome, Result, IfErr, MatchResult}
 use Rattle.repeat_engine.specs.Powers.{Algebra, nth_power, union_of_powers}
 
 -- the first includes the second: united with it, it stays what it is
@@ -19,6 +19,10 @@ IsOkWhere WantsMemory result Condition =
 abbrev pub IsSomeWhere : {T E : Type 0} → (E → Type 0) → Result (Option T) E → Type 0 → Type 0
 IsSomeWhere WantsMemory result Condition =
     MatchResult result (λ made. IfSome made (λ value. Condition)) (λ fault. ¬ WantsMemory fault → ¬ Condition)
+
+-- a fault other than that of memory only if the condition fails
+abbrev pub FailsOnlyWithout : {T E : Type 0} → (E → Type 0) → Result T E → Type 0 → Type 0
+FailsOnlyWithout WantsMemory result Condition = IfErr result (λ fault. ¬ WantsMemory fault → ¬ Condition)
 
 module _ {M : Type 0} (Alike : M → M → Type 0) (Own Fits : M → Type 0) (algebra : Algebra M) where
   open algebra use {one, compose, unite}

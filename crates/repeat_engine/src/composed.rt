@@ -2,8 +2,8 @@
 #![tactic(auto)]
 
 ghost use Rattle.std.specs.Prelude.{◌↔◌, IsTrue, IfOk, IfSome};
-ghost use Rattle.repeat_engine.specs.Powers.{Algebra};
-ghost use Rattle.repeat_engine.specs.Composed.{IsOkWhere, IsSomeWhere, IsLawful};
+ghost use Rattle.repeat_engine.specs.Powers.{Algebra, union_of_powers};
+ghost use Rattle.repeat_engine.specs.Composed.{IsOkWhere, IsSomeWhere, FailsOnlyWithout, IsLawful};
 
 /// Values that can be composed and united, of which some are c's own and some of these fit.
 ///
@@ -108,6 +108,18 @@ pub trait Composed {
             IfOk result (λ v. alike self.now (c.unite (means y.now) (means v)) (c.unite (means y.now) (means x.now))) }
         ensures own { IfOk result (λ v. own self.now (means v)) }
         ensures fits { IfOk result (λ v. fits self.now (means v)) };
+
+    /// Where it is seen that the union of the powers 0 to n of x doesn't fit, a fault. It needn't be seen, and memory may run out.
+    ///
+    /// It is asked before any union is made, for an n of more than `many` if the chain has one: where what is new in so many unions
+    /// is never much, it would take long until one of them doesn't fit.
+    fn check_union(&self, x: &Self::Value, n: u64) -> Result<(), Self::Fault>
+        requires own_x { own self.now (means x.now) }
+        requires fits_x { fits self.now (means x.now) }
+        ensures { FailsOnlyWithout wants_memory result (fits self.now (union_of_powers (algebra self.now) (means x.now) n)) };
+
+    /// So many powers may be united with each adding a little, and still fit. No result depends on it, so any number is right.
+    fn many(&self) -> u64;
 
     /// How much there is of x, by which it is guessed how long its compositions take. No result depends on it, so any
     /// number is right.

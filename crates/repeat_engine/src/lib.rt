@@ -10,6 +10,7 @@ mod calls;
 mod composed;
 mod costs;
 mod doubling;
+mod foreseen;
 mod grown_union;
 mod power_chain;
 mod powers;

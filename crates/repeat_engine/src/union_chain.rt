@@ -8,6 +8,7 @@ ghost use Rattle.repeat_engine.specs.GrownUnions.{IsSound, Grows};
 use crate::Composed;
 use crate::calls::union;
 use crate::doubling::doubled;
+use crate::foreseen::foreseen;
 use crate::grown_union::Grown;
 use crate::single_steps::stepped;
 
@@ -29,6 +30,7 @@ pub(crate) fn united_from_one<C: Composed>(
 {
     let one = c.one()?;
     let first = union(c, &one, x)?;
+    foreseen(c, x, n)?;
     let grown = united(c, x, &first, n)?;
     Ok(grown)
 }

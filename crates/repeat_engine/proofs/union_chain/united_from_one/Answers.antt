@@ -35,3 +35,8 @@ united-requires-clause-first g c =
     let one = m.means c.in_ok-one.one in
     let first = m.means c.in_ok-first.first in
     laws.joined _ _ _ c.in_ok-first.ensures.value (first_is laws x c.requires.own_x one c.in_ok-one.ensures.value)
+
+pub returns-in_err-foreseen-clause-exact : goal.returns-in_err-foreseen-clause-exact
+returns-in_err-foreseen-clause-exact g c =
+    let p = err_from_is_err_and c.from_residual-in_err-foreseen.result c.from_residual-in_err-foreseen.ensures.1 in
+    rw (p.1, p.2) (λ other fit. c.in_err-foreseen.ensures other fit.1)

@@ -1,0 +1,28 @@
+//! A relation that leads two moments on, and is seen to be wide.
+
+use itpg_base::ObjNo;
+use relation_rows::Relation;
+use wide_witness::is_seen_wide;
+use zone_core::{Bounds, tight};
+
+#[test]
+fn steps_lead_to_every_second_moment(rt: HostRuntime) {
+    let alloc = rt.alloc();
+    let zone = tight(Bounds {
+        a: 0,
+        b: 100,
+        c: 2,
+        d: 102,
+        e: 2,
+        f: 2,
+    })
+    .expect(&rt, "a zone");
+    let items = Vec::from_slice(alloc, &[(ObjNo(0), ObjNo(0), zone)]).expect(&rt, "memory");
+    let relation = Relation::from_zones(alloc, items, 1).expect(&rt, "one row");
+    // Three steps lead to 0, 2, 4 and 6.
+    assert!(rt; is_seen_wide(alloc, &relation, 3, 3) == Ok(true));
+    assert!(rt; is_seen_wide(alloc, &relation, 3, 4) == Ok(false));
+    assert!(rt; is_seen_wide(alloc, &Relation::empty(alloc), 3, 0) == Ok(false));
+    assert!(rt; relation.rows_from(ObjNo(0)).len() == 1);
+    assert!(rt; relation.rows_from(ObjNo(1)).is_empty());
+}

@@ -1,0 +1,92 @@
+//! Points from which steps are followed.
+
+ghost use Rattle.std.specs.Prelude.{IsTrue, IfOk};
+ghost use Rattle.itpg_base.specs.Lists.{Among};
+ghost use Rattle.band_normal.specs.Bands.{IsWellFormed};
+ghost use Rattle.relation_rows.specs.declared.rows.Row.{Row as PlainRow};
+ghost use Rattle.relation_rows.specs.Rows.{RowsHold};
+ghost use Rattle.wide_witness.specs.Steps.{IsSeenWide};
+
+use crate::reach::Reach;
+use interval_set::Span;
+use relation_rows::{OneRow, Relation, Row};
+use std::alloc::{AllocError, Global};
+
+// From so many points at most steps are tried.
+const POINTS: usize = 32;
+
+// So many steps are tried, before it is asked whether they lead to ever more runs.
+const TRIED: u64 = 256;
+
+// So many runs at most are added by those that are tried, and by all.
+const FEW_ADDED: u64 = 8_192;
+
+const MOST_ADDED: u64 = 4_194_304;
+
+// Whether it doesn't look as if further steps would lead to many runs. It has no clause, since either answer is right.
+fn is_hopeless(reach: &Reach, step: u64) -> bool {
+    if reach.newest.is_empty() || reach.looks > MOST_ADDED {
+        return true;
+    }
+    if step < TRIED {
+        return reach.looks > FEW_ADDED;
+    }
+    step == TRIED && (reach.all.len() as u64) < TRIED / 2
+}
+
+// Whether at most so many steps from where the row departs first lead to more runs than the limit, as far as it is tried.
+fn leads_to_many(
+    alloc: Global,
+    x: &Relation,
+    row: &Row,
+    steps: u64,
+    limit: u32,
+) -> Result<bool, AllocError>
+    requires row { Among x.now row.now }
+    requires rows { (r : PlainRow) → Among x.now r → IsWellFormed r.band }
+    ensures { IfOk result (λ many. IsTrue many → IsSeenWide (RowsHold x.now) steps limit) }
+{
+    let Some(span) = Span::new(row.band.from, row.band.from) else {
+        return Ok(false);
+    };
+    let start = [OneRow {
+        object: row.source,
+        span,
+    }];
+    let all = Vec::from_slice(alloc, &start)?;
+    let newest = Vec::from_slice(alloc, &start)?;
+    let mut reach = Reach::new(all, newest);
+    for step in 0..steps {
+        if is_hopeless(&reach, step) {
+            return Ok(false);
+        }
+        if reach.is_unsettled() || step == TRIED {
+            reach.settle()?;
+        }
+        reach.step(x)?;
+    }
+    reach.settle()?;
+    Ok(reach.all.len() > limit as usize)
+}
+
+/// Whether it is seen that at most so many steps of the relation lead from some point to more runs of moments than the limit. It is false
+/// also where that isn't seen.
+///
+/// ```text
+///     a at 0..10^12 leads two moments on      after 3 steps from 0 the runs are 0, 2, 4 and 6
+/// ```
+///
+/// # Errors
+///
+/// If memory runs out.
+pub fn is_seen_wide(alloc: Global, x: &Relation, steps: u64, limit: u32) -> Result<bool, AllocError>
+    ensures { IfOk result (λ seen. IsTrue seen → IsSeenWide (RowsHold x.now) steps limit) }
+{
+    let rows = x.rows();
+    for row in rows.iter().step_by(rows.len() / POINTS + 1) {
+        if leads_to_many(alloc, x, row, steps, limit)? {
+            return Ok(true);
+        }
+    }
+    Ok(false)
+}
