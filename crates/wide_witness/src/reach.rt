@@ -28,8 +28,6 @@ pub(crate) struct Reach {
     pub(crate) settled: usize,
     /// Those that the last step has added.
     pub(crate) newest: Vec<OneRow>,
-    /// How many rows were looked at.
-    pub(crate) looks: u64,
 }
 
 // Whether the other run has all moments of the run.
@@ -108,8 +106,16 @@ impl Reach {
             all,
             settled,
             newest,
-            looks: 0,
         }
+    }
+
+    /// How many rows the next step looks at. It has no clause, since no answer depends on it.
+    pub(crate) fn rows_ahead(&self, x: &Relation) -> u64 {
+        let mut count = 0u64;
+        for run in &self.newest {
+            count = count.saturating_add(x.rows_from(run.object).len() as u64);
+        }
+        count
     }
 
     // What a step adds.
@@ -134,13 +140,12 @@ impl Reach {
             AreReached (RowsHold x.now) from (n + 1) self.new.all.items self.new.newest.items) }
     {
         let added = self.added(x)?;
-        self.looks = self.looks.saturating_add(added.len() as u64);
         self.all.extend_from_slice(&added)?;
         self.newest = added;
         Ok(())
     }
 
-    /// Puts all runs in order, joined where they touch, if many were added.
+    /// Puts all runs in order, joined where they touch.
     pub(crate) fn settle(&mut self) -> Result<(), AllocError>
         requires { AreSpans self.old.all.items }
         ensures newest { self.new.newest ≡ self.old.newest }

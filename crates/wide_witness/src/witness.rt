@@ -18,29 +18,40 @@ const POINTS: usize = 32;
 // So many steps are tried, before it is asked whether they lead to ever more runs.
 const TRIED: u64 = 256;
 
-// So many runs at most are added by those that are tried, and by all.
-const FEW_ADDED: u64 = 8_192;
+// So many rows at most are looked at by those that are tried.
+const FEW_LOOKS: u64 = 8_192;
 
-const MOST_ADDED: u64 = 4_194_304;
+// And so many for each step that is wanted, from all points together.
+const LOOKS: u64 = 16;
 
-// Whether it doesn't look as if further steps would lead to many runs. It has no clause, since either answer is right.
-fn is_hopeless(reach: &Reach, step: u64) -> bool {
-    if reach.newest.is_empty() || reach.looks > MOST_ADDED {
+// How many rows were looked at: from one point, and from all.
+#[derive(Clone, Copy)]
+struct Looks {
+    own: u64,
+    all: u64,
+}
+
+// Whether it doesn't look as if further steps would lead to many runs, or as if it would take long. It has no clause, since either answer is
+// right.
+fn is_hopeless(reach: &Reach, step: u64, looks: Looks, steps: u64) -> bool {
+    if reach.newest.is_empty() || looks.all > steps.saturating_mul(LOOKS) {
         return true;
     }
     if step < TRIED {
-        return reach.looks > FEW_ADDED;
+        return looks.own > FEW_LOOKS;
     }
     step == TRIED && (reach.all.len() as u64) < TRIED / 2
 }
 
-// Whether at most so many steps from where the row departs first lead to more runs than the limit, as far as it is tried.
+// Whether at most so many steps from where the row departs first lead to more runs than the limit, as far as it is tried. How many rows
+// were looked at is added to `spent`.
 fn leads_to_many(
     alloc: Global,
     x: &Relation,
     row: &Row,
     steps: u64,
     limit: u32,
+    spent: &mut u64,
 ) -> Result<bool, AllocError>
     requires row { Among x.now row.now }
     requires rows { (r : PlainRow) → Among x.now r → IsWellFormed r.band }
@@ -56,8 +67,16 @@ fn leads_to_many(
     let all = Vec::from_slice(alloc, &start)?;
     let newest = Vec::from_slice(alloc, &start)?;
     let mut reach = Reach::new(all, newest);
+    let mut looks = Looks {
+        own: 0,
+        all: *spent,
+    };
     for step in 0..steps {
-        if is_hopeless(&reach, step) {
+        let ahead = reach.rows_ahead(x);
+        looks.own = looks.own.saturating_add(ahead);
+        looks.all = looks.all.saturating_add(ahead);
+        *spent = looks.all;
+        if is_hopeless(&reach, step, looks, steps) {
             return Ok(false);
         }
         if reach.is_unsettled() || step == TRIED {
@@ -83,8 +102,9 @@ pub fn is_seen_wide(alloc: Global, x: &Relation, steps: u64, limit: u32) -> Resu
     ensures { IfOk result (λ seen. IsTrue seen → IsSeenWide (RowsHold x.now) steps limit) }
 {
     let rows = x.rows();
+    let mut spent = 0;
     for row in rows.iter().step_by(rows.len() / POINTS + 1) {
-        if leads_to_many(alloc, x, row, steps, limit)? {
+        if leads_to_many(alloc, x, row, steps, limit, &mut spent)? {
             return Ok(true);
         }
     }
