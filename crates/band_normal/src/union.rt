@@ -30,17 +30,21 @@ fn differ(one: &Zone, other: &Zone) -> bool {
     one.bounds().e.abs_diff(other.bounds().e) > 1
 }
 
-// The measure that is to part the zones first. Where each zone has one difference, and these are apart, that parts them at once; a look
-// at the first two and the last zone tells. It has no clause, since any measure is right.
+// The measure that is to part the zones first. Where each zone has one difference, and these are apart, as the first two are, that parts
+// them at once. It has no clause, since any measure is right.
 fn first_measure(zones: &[Zone]) -> Measure {
-    let ([first, second, ..], Some(last)) = (zones, zones.last()) else {
+    let [first, second, ..] = zones else {
         return Measure::Departure;
     };
-    if is_thin(first) && is_thin(second) && is_thin(last) && differ(first, second) {
-        Measure::Difference
-    } else {
-        Measure::Departure
+    if !differ(first, second) {
+        return Measure::Departure;
     }
+    for zone in zones {
+        if !is_thin(zone) {
+            return Measure::Departure;
+        }
+    }
+    Measure::Difference
 }
 
 /// The normal list of the union of the zones.

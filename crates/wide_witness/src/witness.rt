@@ -15,14 +15,14 @@ use std::alloc::{AllocError, Global};
 // From so many points at most steps are tried.
 const POINTS: usize = 32;
 
-// So many steps are tried, before it is asked whether they lead to ever more runs.
+// After so many steps, and again after as many, it is asked whether they lead to ever more runs.
 const TRIED: u64 = 256;
 
-// So many rows at most are looked at by those that are tried.
+// So many rows at most are looked at by the first of these steps.
 const FEW_LOOKS: u64 = 8_192;
 
 // And so many for each step that is wanted, from all points together.
-const LOOKS: u64 = 16;
+const LOOKS: u64 = 8;
 
 // How many rows were looked at: from one point, and from all.
 #[derive(Clone, Copy)]
@@ -40,7 +40,7 @@ fn is_hopeless(reach: &Reach, step: u64, looks: Looks, steps: u64) -> bool {
     if step < TRIED {
         return looks.own > FEW_LOOKS;
     }
-    step == TRIED && (reach.all.len() as u64) < TRIED / 2
+    step % TRIED == 0 && (reach.all.len() as u64) < step / 2
 }
 
 // Whether at most so many steps from where the row departs first lead to more runs than the limit, as far as it is tried. How many rows
