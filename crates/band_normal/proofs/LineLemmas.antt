@@ -1,12 +1,10 @@
 -- Rows that stand from low to high, and strips that do so: each is passed once.
-use Rattle.std.proofs.Common.{◌≡◌, inl, inr, ⊎_elim, ℕ, zero, suc, ◌+◌, ◌<◌, ◌≤◌, ℤ, pos, ◌+ℤ◌, ◌≤ℤ◌, ◌<ℤ◌, List, [], ◌∷◌, ◌++◌, length, get_or, take, drop, Option, None, Some, Result, Ok, Err, refl, sym, ◌∙◌, subst, arith, append_assoc}
-use Rattle.std.specs.Prelude.{slice_get, IfSome, IfNone, IfOk}
-use Rattle.std.specs.declared.alloc.AllocError.{AllocError}
+use Rattle.std.proofs.Common.{◌≡◌, inl, inr, ⊎_elim, ℕ, zero, suc, ◌+◌, ◌<◌, ◌≤◌, ℤ, pos, ◌+ℤ◌, ◌≤ℤ◌, ◌<ℤ◌, List, [], ◌∷◌, ◌++◌, length, get_or, take, drop, Option, None, Some, refl, sym, ◌∙◌, subst, arith, append_assoc}
+use Rattle.std.specs.Prelude.{slice_get, IfSome, IfNone}
 use Rattle.std.specs.Option.{option_to_list}
 use Rattle.std.proofs.lemmas.Int.{ints}
 use Rattle.std.proofs.lemmas.List.{drop_more, take_more, take_all}
 use Rattle.band_normal.specs.declared.band.Band.{Band}
-use Rattle.band_normal.specs.declared.rows.Rows.{Rows}
 use Rattle.band_normal.specs.declared.strips.Stretch.{Stretch}
 use Rattle.band_normal.specs.declared.strips.Ends.{Ends}
 use Rattle.itpg_base.specs.Lists.{Among, Ordered}
@@ -217,15 +215,10 @@ pub first_in : (rows : List Band) (b : Band) → Some b ≡ slice_get rows 0 →
 first_in [] b e = let none : ⊥ = cc in absurd none
 first_in (r ∷ rs) b e = inl (cc)
 
-pub lining_rows : (R : ℤ → ℤ → Type 0) (s : Stretch) (runs : List Ends) (i : ℕ) (complete next passed waiting : List Band) (r : Result Rows AllocError) → AreRuns R s runs → s.from ≤ℤ s.to → length runs ≤ i → AreLining R s runs i complete next passed waiting
-    → IfOk r (λ v. v.complete.items ≡ complete ++ (passed ++ waiting)) → IfOk r (λ v. v.reaching.items ≡ next) → IfOk r (λ v. AreRowsTo R (s.to +ℤ pos 1) v.complete.items v.reaching.items)
-lining_rows R s runs i complete next passed waiting (Ok v) h span le l c o =
-    let P : List Band → Type 0 = λ w. AreRowsTo R (s.to +ℤ pos 1) w v.reaching.items in
+pub lining_rows : (R : ℤ → ℤ → Type 0) (s : Stretch) (runs : List Ends) (i : ℕ) (complete next passed waiting complete' reaching : List Band) → AreRuns R s runs → s.from ≤ℤ s.to → length runs ≤ i
+    → AreLining R s runs i complete next passed waiting → complete' ≡ complete ++ (passed ++ waiting) → reaching ≡ next → AreRowsTo R (s.to +ℤ pos 1) complete' reaching
+lining_rows R s runs i complete next passed waiting complete' reaching h span le l c o =
+    let P : List Band → Type 0 = λ w. AreRowsTo R (s.to +ℤ pos 1) w reaching in
     let Q : List Band → Type 0 = λ w. AreRowsTo R (s.to +ℤ pos 1) (complete ++ (passed ++ waiting)) w in
     let all = subst (λ (w : List Ends). AreJoining R s w complete next (passed ++ waiting)) (take_all i runs le) l.joining in
     subst P (sym c) (subst Q (sym o) (joining_end R s runs complete next (passed ++ waiting) h span all))
-lining_rows R s runs i complete next passed waiting (Err e) h span le l c o = tt
-
-pub lining_line : (next : List Band) (r : Result Rows AllocError) → Ordered RunsBelow next → IfOk r (λ v. v.reaching.items ≡ next) → IfOk r (λ v. Ordered RunsBelow v.reaching.items)
-lining_line next (Ok v) o e = subst (λ (w : List Band). Ordered RunsBelow w) (sym e) o
-lining_line next (Err x) o e = tt

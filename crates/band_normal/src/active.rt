@@ -10,20 +10,13 @@ ghost use Rattle.band_normal.specs.Strips.{Holds, IsFront, AreMerged, AreRuns, B
 use crate::band::Band;
 use crate::rows::push_all;
 use crate::strips::{Ends, Stretch, Strips, cut_to, with_band};
-use std::alloc::{AllocError, Global};
+use std::alloc::AllocError;
 
 /// The ends of a band that is active along a stretch, and its low end where the stretch begins.
 #[derive(Clone, Copy)]
 pub struct Reach {
     pub low: i64,
     pub ends: Ends,
-}
-
-/// What is active along a stretch.
-#[derive(Drop)]
-pub struct Active {
-    pub along: Stretch,
-    pub reaches: Vec<Reach>,
 }
 
 ghost use Rattle.band_normal.specs.declared.active.Reach.{Reach};
@@ -56,60 +49,61 @@ fn reach_of(band: Band, along: Stretch) -> Reach
     }
 }
 
-// The reaches with one more, and the stretch cut to where its band ends.
-fn with_reach(active: Active, band: Band) -> Result<Active, AllocError>
-    requires span { active.along.from ≤ℤ active.along.to }
+// Adds the band's reach; the stretch cut to where the band ends.
+fn add_reach(reaches: &mut Vec<Reach>, band: Band, along: Stretch) -> Result<Stretch, AllocError>
+    requires span { along.from ≤ℤ along.to }
     requires well_formed { IsWellFormed band }
-    requires active { IsActiveAt active.along.from band }
-    ensures { IfOk result (λ a. AddsReach active.along active.reaches.items band a.along a.reaches.items) }
+    requires active { IsActiveAt along.from band }
+    ensures { IfOk result (λ s. AddsReach along reaches.old.items band s reaches.new.items) }
 {
-    let Active { along, mut reaches } = active;
     reaches.push(reach_of(band, along))?;
-    Ok(Active {
-        along: cut_to(along, band.to),
-        reaches,
-    })
+    Ok(cut_to(along, band.to))
 }
 
-// The reaches of the bands, all active where the stretch begins, and the stretch cut to where none of them ends.
-fn active_along(alloc: Global, bands: &[Band], along: Stretch) -> Result<Active, AllocError>
+// Makes the reaches those of the bands, all active where the stretch begins; the stretch cut to where none of them ends.
+fn active_along(
+    reaches: &mut Vec<Reach>,
+    bands: &[Band],
+    along: Stretch,
+) -> Result<Stretch, AllocError>
     requires span { along.from ≤ℤ along.to }
     requires well_formed { (b : Band) → Among bands.now b → IsWellFormed b }
     requires active { (b : Band) → Among bands.now b → IsActiveAt along.from b }
-    ensures front { IfOk result (λ a. IsFront along a.along) }
-    ensures active { IfOk result (λ a. AreActive bands.now a.along a.reaches.items) }
+    ensures front { IfOk result (λ s. IsFront along s) }
+    ensures active { IfOk result (λ s. AreActive bands.now s reaches.new.items) }
 {
-    let mut active = Active {
-        along,
-        reaches: Vec::new(alloc),
-    };
+    reaches.clear();
+    let mut kept = along;
     for band in bands {
-        active = with_reach(active, *band)?;
+        kept = add_reach(reaches, *band, kept)?;
     }
-    Ok(active)
+    Ok(kept)
 }
 
-// The runs of the active bands, which come by their low ends.
-fn merged_runs(alloc: Global, active: &Active) -> Result<Strips, AllocError>
-    requires span { active.now.along.from ≤ℤ active.now.along.to }
-    requires from_near { Within moment_reach active.now.along.from }
-    requires fit { (r : Reach) → Among active.now.reaches.items r → IsFit active.now.along r }
-    requires order { Ordered BeginsLower active.now.reaches.items }
-    ensures front { IfOk result (λ s. IsFront active.now.along s.along) }
-    ensures merged { IfOk result (λ s. AreMerged (ends_of active.now.reaches.items) s.along s.runs.items) }
+// The runs of the active bands, which come by their low ends, in place of the old runs.
+fn merged_runs(mut runs: Vec<Ends>, reaches: &[Reach], along: Stretch) -> Result<Strips, AllocError>
+    requires span { along.from ≤ℤ along.to }
+    requires from_near { Within moment_reach along.from }
+    requires fit { (r : Reach) → Among reaches.now r → IsFit along r }
+    requires order { Ordered BeginsLower reaches.now }
+    ensures front { IfOk result (λ s. IsFront along s.along) }
+    ensures merged { IfOk result (λ s. AreMerged (ends_of reaches.now) s.along s.runs.items) }
 {
-    let mut strips = Strips {
-        along: active.along,
-        runs: Vec::new(alloc),
-    };
-    for reach in &active.reaches {
+    runs.clear();
+    let mut strips = Strips { along, runs };
+    for reach in reaches {
         strips = with_band(strips, reach.ends)?;
     }
     Ok(strips)
 }
 
-// The runs of the bands from where the stretch begins on, as far as they go alike.
-fn strips_along(alloc: Global, bands: &[Band], along: Stretch) -> Result<Strips, AllocError>
+// The runs of the bands from where the stretch begins on, as far as they go alike, in place of the old runs.
+fn strips_along(
+    reaches: &mut Vec<Reach>,
+    runs: Vec<Ends>,
+    bands: &[Band],
+    along: Stretch,
+) -> Result<Strips, AllocError>
     requires span { along.from ≤ℤ along.to }
     requires from_near { Within moment_reach along.from }
     requires well_formed { (b : Band) → Among bands.now b → IsWellFormed b }
@@ -117,9 +111,9 @@ fn strips_along(alloc: Global, bands: &[Band], along: Stretch) -> Result<Strips,
     ensures front { IfOk result (λ s. IsFront along s.along) }
     ensures runs { IfOk result (λ s. AreRuns (Holds bands.now) s.along s.runs.items) }
 {
-    let mut active = active_along(alloc, bands, along)?;
-    active.reaches.sort_by_key(|reach| reach.low)?;
-    merged_runs(alloc, &active)
+    let kept = active_along(reaches, bands, along)?;
+    reaches.sort_by_key(|reach| reach.low)?;
+    merged_runs(runs, reaches, kept)
 }
 
 fn begins_after(band: Band, left: Stretch) -> bool
@@ -153,8 +147,11 @@ pub fn advance(active: &mut Vec<Band>, begun: &[Band], left: Stretch) -> Result<
 }
 
 /// The runs of the active bands from where the stretch begins on, as far as they go alike and no other band begins.
+///
+/// They come in place of the old runs, and the reaches are made anew, so that a sweep takes their memory once.
 pub fn strips_before(
-    alloc: Global,
+    reaches: &mut Vec<Reach>,
+    runs: Vec<Ends>,
     waiting: &[Band],
     active: &[Band],
     left: Stretch,
@@ -170,7 +167,7 @@ pub fn strips_before(
     ensures before { IfOk result (λ s. (b : Band) → Among waiting.now b → s.along.to <ℤ b.from) }
 {
     match waiting.first() {
-        None => strips_along(alloc, active, left),
-        Some(band) => strips_along(alloc, active, until(left, *band)),
+        None => strips_along(reaches, runs, active, left),
+        Some(band) => strips_along(reaches, runs, active, until(left, *band)),
     }
 }

@@ -1,6 +1,6 @@
 //! Zones parted into groups that can't meet, adjoin or continue each other.
 
-ghost use Rattle.std.specs.Prelude.{◌≡◌, ◌↔◌, ◌≤◌, ◌<◌, ◌∷◌, [], ℤ, pos, ◌+ℤ◌, ◌≤ℤ◌, ◌<ℤ◌, IsTrue, IfOk, length, take, drop};
+ghost use Rattle.std.specs.Prelude.{◌≡◌, ◌↔◌, ◌≤◌, ◌<◌, ◌∷◌, [], ℤ, pos, ◌+ℤ◌, ◌≤ℤ◌, ◌<ℤ◌, IsTrue, IfOk, IfSome, IfNone, length, take, drop};
 ghost use Rattle.zone_core.specs.declared.Bounds.{Bounds as PlainBounds};
 ghost use Rattle.zone_core.specs.Zone.{Within, difference_reach};
 ghost use Rattle.itpg_base.specs.Lists.{Among, Ordered};
@@ -102,17 +102,22 @@ fn group_len(zones: &[Zone], measure: Measure) -> usize
     zones.len()
 }
 
-// The zones by where they begin.
-fn by_begin(alloc: Global, zones: &[Zone], measure: Measure) -> Result<Vec<Zone>, AllocError>
-    ensures order { IfOk result (λ v. Ordered (BeginsNoLater measure) v.items) }
-    ensures pairs { IfOk result (λ v. (t : ℤ) → (u : ℤ) → SomeMeets v.items t u ↔ SomeMeets zones.now t u) }
+// The zones by where they begin, if they don't stand so.
+fn reordered(
+    alloc: Global,
+    zones: &[Zone],
+    measure: Measure,
+) -> Result<Option<Vec<Zone>>, AllocError>
+    ensures kept { IfOk result (λ o. IfNone o (Ordered (BeginsNoLater measure) zones.now)) }
+    ensures order { IfOk result (λ o. IfSome o (λ v. Ordered (BeginsNoLater measure) v.items)) }
+    ensures pairs { IfOk result (λ o. IfSome o (λ v. (t : ℤ) → (u : ℤ) → SomeMeets v.items t u ↔ SomeMeets zones.now t u)) }
 {
-    let mut sorted = Vec::from_slice(alloc, zones)?;
-    if sorted.is_sorted_by_key(|zone| begin(zone, measure)) {
-        return Ok(sorted);
+    if zones.is_sorted_by_key(|zone| begin(zone, measure)) {
+        return Ok(None);
     }
+    let mut sorted = Vec::from_slice(alloc, zones)?;
     sorted.sort_by_key(|zone| begin(zone, measure))?;
-    Ok(sorted)
+    Ok(Some(sorted))
 }
 
 /// The rows of the zones, added to others: parted by the measure, for so many rounds, of which the last few parted nothing, and
@@ -155,6 +160,9 @@ pub fn add_parted(
             Effort::Limited
         };
         if let Some(more) = swept(alloc, zones, effort)? {
+            if rows.is_empty() {
+                return Ok(more);
+            }
             rows.extend_from_slice(&more)?;
             return Ok(rows);
         }
@@ -179,8 +187,11 @@ pub fn add_parted(
         )?;
         return add_linked(alloc, rows, zones, &parts, front, &back);
     }
-    let sorted = by_begin(alloc, zones, measure)?;
-    let mut left = &sorted[..];
+    let sorted = reordered(alloc, zones, measure)?;
+    let mut left = match &sorted {
+        Some(sorted) => &sorted[..],
+        None => zones,
+    };
     while !left.is_empty() {
         let (group, later) = left.split_at(group_len(left, measure));
         let idle = if group.len() == zones.len() {

@@ -13,7 +13,7 @@ ghost use Rattle.band_normal.specs.Rows.{strip, Continues, IsUnder, RunsBelow, C
 use crate::band::Band;
 use crate::joints::{continues, is_under, join_strip};
 use crate::strips::{Ends, Stretch, Strips};
-use std::alloc::{AllocError, Global};
+use std::alloc::AllocError;
 
 /// Rows under way along the departures.
 #[derive(Drop)]
@@ -22,6 +22,15 @@ pub struct Rows {
     pub complete: Vec<Band>,
     /// Rows that reach the last departure done.
     pub reaching: Vec<Band>,
+    /// What the last stretch is done with; the next one takes its memory.
+    pub spare: Spare,
+}
+
+/// Lists whose items are of no use any more.
+#[derive(Drop)]
+pub struct Spare {
+    pub reaching: Vec<Band>,
+    pub passed: Vec<Band>,
 }
 
 // Rows while the strips of a stretch are joined to them.
@@ -32,6 +41,25 @@ struct Joining {
     next: Vec<Band>,
     // Rows up to the stretch that no strip continues.
     passed: Vec<Band>,
+}
+
+// The complete rows, with no others yet.
+fn emptied(complete: Vec<Band>, spare: Spare) -> Joining
+    ensures complete { result.complete.items ≡ complete.items }
+    ensures next { result.next.items ≡ [] }
+    ensures passed { result.passed.items ≡ [] }
+{
+    let Spare {
+        reaching: mut next,
+        mut passed,
+    } = spare;
+    next.clear();
+    passed.clear();
+    Joining {
+        complete,
+        next,
+        passed,
+    }
 }
 
 // How many of the rows, from the first on, end too low for the strip to continue them.
@@ -137,39 +165,40 @@ fn with_strip(
 }
 
 // The rows once all strips are joined: those that no strip continued are complete.
-fn closed(joining: Joining, waiting: &[Band]) -> Result<Rows, AllocError>
-    ensures complete { IfOk result (λ r. r.complete.items ≡ joining.complete.items ++ (joining.passed.items ++ waiting.now)) }
-    ensures reaching { IfOk result (λ r. r.reaching.items ≡ joining.next.items) }
+fn closed(joining: Joining, waiting: &[Band]) -> Result<Joining, AllocError>
+    ensures complete { IfOk result (λ j. j.complete.items ≡ joining.complete.items ++ (joining.passed.items ++ waiting.now)) }
+    ensures next { IfOk result (λ j. j.next.items ≡ joining.next.items) }
 {
     let Joining {
         mut complete,
         next,
-        mut passed,
+        passed,
     } = joining;
-    push_all(&mut passed, waiting)?;
     push_all(&mut complete, &passed)?;
-    Ok(Rows {
+    push_all(&mut complete, waiting)?;
+    Ok(Joining {
         complete,
-        reaching: next,
+        next,
+        passed,
     })
 }
 
 /// The rows with the strips of one more stretch, which begins after their last departure.
 ///
 /// Both the rows that reach it and the strips stand from low to high, so each is passed once.
-pub fn join(alloc: Global, rows: Rows, strips: &Strips) -> Result<Rows, AllocError>
+pub fn join(rows: Rows, strips: &Strips) -> Result<Rows, AllocError>
     ghost held: { List Band }
     requires can { CanJoin (Holds held) rows.complete.items rows.reaching.items strips.now.along strips.now.runs.items }
     requires line { Ordered RunsBelow rows.reaching.items }
     ensures rows { IfOk result (λ r. AreRowsTo (Holds held) (strips.now.along.to +ℤ pos 1) r.complete.items r.reaching.items) }
     ensures line { IfOk result (λ r. Ordered RunsBelow r.reaching.items) }
 {
-    let Rows { complete, reaching } = rows;
-    let mut joining = Joining {
+    let Rows {
         complete,
-        next: Vec::new(alloc),
-        passed: Vec::new(alloc),
-    };
+        reaching,
+        spare,
+    } = rows;
+    let mut joining = emptied(complete, spare);
     let mut waiting = &reaching[..];
     for ends in &strips.runs {
         let strip = strip_along(strips.along, *ends);
@@ -179,5 +208,14 @@ pub fn join(alloc: Global, rows: Rows, strips: &Strips) -> Result<Rows, AllocErr
         joining = with_strip(joining, under, row, strip)?;
         waiting = later;
     }
-    closed(joining, waiting)
+    let Joining {
+        complete,
+        next,
+        passed,
+    } = closed(joining, waiting)?;
+    Ok(Rows {
+        complete,
+        reaching: next,
+        spare: Spare { reaching, passed },
+    })
 }

@@ -24,7 +24,7 @@ use crate::active::{advance, begun_count, strips_before};
 use crate::band::Band;
 use crate::lasting::span_of;
 use crate::pieces::first_piece;
-use crate::rows::{Rows, join, push_some};
+use crate::rows::{Rows, Spare, join, push_some};
 use crate::strips::Stretch;
 use crate::zones::bands_of;
 use std::alloc::{AllocError, Global};
@@ -79,9 +79,10 @@ fn bands_of_all(alloc: Global, zones: &[Zone]) -> Result<Vec<Band>, AllocError>
     ensures pairs { IfOk result (λ v. (t : ℤ) → (u : ℤ) → Holds v.items t u ↔ SomeMeets zones.now t u) }
     ensures well_formed { IfOk result (λ v. (b : Band) → Among v.items b → IsWellFormed b) }
 {
-    let mut bands = Vec::new(alloc);
+    // A zone has one band, or two or three.
+    let mut bands = Vec::with_capacity(alloc, zones.len().saturating_mul(2))?;
     for zone in zones {
-        push_present(&mut bands, bands_of(zone))?;
+        push_bands_of(&mut bands, zone)?;
     }
     Ok(bands)
 }
@@ -152,6 +153,20 @@ fn is_slow(effort: Effort, looks: u64, gains: u64) -> bool
     }
 }
 
+fn no_rows(alloc: Global) -> Rows
+    ensures complete { result.complete.items ≡ [] }
+    ensures reaching { result.reaching.items ≡ [] }
+{
+    Rows {
+        complete: Vec::new(alloc),
+        reaching: Vec::new(alloc),
+        spare: Spare {
+            reaching: Vec::new(alloc),
+            passed: Vec::new(alloc),
+        },
+    }
+}
+
 // The rows of all departures, up to the last one.
 fn rows_over(
     alloc: Global,
@@ -164,12 +179,11 @@ fn rows_over(
     ensures rows { IfOk result (λ o. IfSome o (λ r. AreRowsTo (Holds held) (span.to +ℤ pos 1) r.complete.items r.reaching.items)) }
     ensures full { effort ≡ Effort.Full → IfOk result (λ o. IsSome o) }
 {
-    let mut rows = Rows {
-        complete: Vec::new(alloc),
-        reaching: Vec::new(alloc),
-    };
+    let mut rows = no_rows(alloc);
     let mut waiting = bands;
     let mut active = Vec::new(alloc);
+    let mut reaches = Vec::new(alloc);
+    let mut runs = Vec::new(alloc);
     let mut left = span;
     let mut looks: u64 = 0;
     while left.from <= left.to {
@@ -184,9 +198,10 @@ fn rows_over(
         if is_slow(effort, looks, gains as u64) {
             return Ok(None);
         }
-        let strips = strips_before(alloc, waiting, &active, left)?;
-        rows = join(alloc, rows, &strips)?;
+        let strips = strips_before(&mut reaches, runs, waiting, &active, left)?;
+        rows = join(rows, &strips)?;
         left = after(left, strips.along);
+        runs = strips.runs;
     }
     Ok(Some(rows))
 }
@@ -196,6 +211,9 @@ fn is_hopeless(zones: &[Zone], effort: Effort) -> bool
     ensures { effort ≡ Effort.Full → result ≡ false }
 {
     if let Effort::Full = effort {
+        return false;
+    }
+    if (zones.len() as u64) <= FEW_TURNS {
         return false;
     }
     let span = span_of(zones);
@@ -230,7 +248,11 @@ pub fn swept(alloc: Global, zones: &[Zone], effort: Effort) -> Result<Option<Vec
     let Rows {
         mut complete,
         reaching,
+        spare: _,
     } = rows;
+    if complete.is_empty() {
+        return Ok(Some(reaching));
+    }
     complete.extend_from_slice(&reaching)?;
     Ok(Some(complete))
 }

@@ -1,14 +1,17 @@
 use Rattle.std.proofs.Common.{List, sym, subst}
 use Rattle.band_normal.specs.declared.band.Band.{Band}
 use Rattle.band_normal.specs.declared.strips.Ends.{Ends}
-use Rattle.itpg_base.specs.Lists.{Among}
+use Rattle.itpg_base.specs.Lists.{Among, Ordered}
 use Rattle.band_normal.specs.Strips.{Holds, AreRuns}
+use Rattle.band_normal.specs.Rows.{AreRowsTo, RunsBelow}
 use Rattle.itpg_base.proofs.Lists.{append_second}
-use Rattle.band_normal.proofs.LineLemmas.{lining_start, waiting_formed, strip_formed, waiting_next, lined_follow, lining_step, lining_rows, lining_line}
+use Rattle.band_normal.proofs.LineLemmas.{lining_start, waiting_formed, strip_formed, waiting_next, lined_follow, lining_step, lining_rows}
 use Rattle.band_normal.proofs.rows.join.Goals as goal
 
 pub loop-ends-init : goal.loop-ends-init
-loop-ends-init g c = lining_start (Holds g.held) _ _ _ _ c.new.result.items c.new-2.result.items _ c.new.ensures.items c.new-2.ensures.items c.deref.ensures.value c.requires.0.rows c.requires.0.span c.requires.1
+loop-ends-init g c =
+    let rows = subst (λ (v : List Band). AreRowsTo (Holds g.held) c.args.strips.now.along.from v c.args.rows.reaching.items) (sym c.emptied-joining.ensures.complete) c.requires.0.rows in
+    lining_start (Holds g.held) _ _ _ _ _ _ _ c.emptied-joining.ensures.next c.emptied-joining.ensures.passed c.deref.ensures.value rows c.requires.0.span c.requires.1
 
 pub under_count-requires-clause-rows_formed : goal.under_count-requires-clause-rows_formed
 under_count-requires-clause-rows_formed g c =
@@ -60,7 +63,7 @@ loop-ends-preserved g c =
 pub returns-clause-rows : goal.returns-clause-rows
 returns-clause-rows g c =
     let runs = subst (λ (v : List Ends). AreRuns (Holds g.held) c.args.strips.now.along v) (sym c.deref-ends-items.ensures.value) c.requires.0.runs_along in
-    lining_rows (Holds g.held) c.args.strips.now.along _ _ _ _ _ _ c.closed.result runs c.requires.0.span c.loop-ends-test.false c.loop-ends.invariant c.closed.ensures.complete c.closed.ensures.reaching
+    lining_rows (Holds g.held) c.args.strips.now.along _ _ _ _ _ _ _ _ runs c.requires.0.span c.loop-ends-test.false c.loop-ends.invariant c.in_ok-complete.ensures.complete c.in_ok-complete.ensures.next
 
 pub returns-clause-line : goal.returns-clause-line
-returns-clause-line g c = lining_line _ c.closed.result c.loop-ends.invariant.next_line c.closed.ensures.reaching
+returns-clause-line g c = subst (λ (v : List Band). Ordered RunsBelow v) (sym c.in_ok-complete.ensures.next) c.loop-ends.invariant.next_line

@@ -2,10 +2,9 @@ use Rattle.std.proofs.Common.{List, rules, subst}
 use Rattle.std.specs.List.Sorted.{IsPermutation}
 use Rattle.std.proofs.lemmas.Fn.{always_returns_same}
 use Rattle.zone_core.specs.declared.Bounds.{Bounds}
-use Rattle.itpg_base.specs.Lists.{Ordered}
-use Rattle.band_normal.specs.Parts.{begin_of, BeginsNoLater}
+use Rattle.band_normal.specs.Parts.{begin_of}
 use Rattle.band_normal.proofs.PartLemmas.{sorted_begins, found_begins, some-permutation}
-use Rattle.band_normal.proofs.parts.by_begin.Goals as goal
+use Rattle.band_normal.proofs.parts.reordered.Goals as goal
 
 pub returns-clause-order : goal.returns-clause-order
 returns-clause-order c =
@@ -14,7 +13,7 @@ returns-clause-order c =
 pub returns-clause-pairs : goal.returns-clause-pairs
 returns-clause-pairs c = λ t u. some-permutation _ _ (subst (λ (v : List Bounds). IsPermutation v c.sort_by_key.new.self.items) c.in_ok-sorted.ensures.items c.sort_by_key.ensures.permutation) t u
 
-pub returns-then-is_sorted_by_key-clause-order : goal.returns-then-is_sorted_by_key-clause-order
-returns-then-is_sorted_by_key-clause-order c =
+pub returns-then-is_sorted_by_key-clause-kept : goal.returns-then-is_sorted_by_key-clause-kept
+returns-then-is_sorted_by_key-clause-kept c =
     let up = c.if-is_sorted_by_key.ensures.cases (λ (z : Bounds). begin_of c.args.measure z) (always_returns_same _ _ _ (λ a r q k. search rules)) in
-    subst (λ (v : List Bounds). Ordered (BeginsNoLater c.args.measure) v) c.deref.ensures.value (found_begins c.args.measure c.deref.result.now up)
+    found_begins c.args.measure c.args.zones.now up

@@ -1,5 +1,5 @@
 use Rattle.std.proofs.Common.{SFits, w64, rules, to_z-of_z}
-use Rattle.band_normal.proofs.active.with_reach.Goals as goal
+use Rattle.band_normal.proofs.active.add_reach.Goals as goal
 
 pub returns : goal.returns
 returns c =
