@@ -7,8 +7,8 @@ use std::alloc::Global;
 use std::process::ExitCode;
 use std::{env, io};
 
-// How many bytes the block has that is taken and given back before anything else.
-const BLOCK: usize = 4_194_304;
+// How many bytes the block has that is taken and given back before anything else: 31 MiB. From one of 32 the C library learns nothing.
+const BLOCK: usize = 32_505_856;
 
 fn main(rt: HostRuntime) -> ExitCode {
     have_blocks_kept(rt.alloc());
