@@ -18,3 +18,6 @@ pub mod Walk
 pub mod Swept
 pub mod ExistsValues
 pub mod Changed
+pub mod Inserted
+pub mod ShortValues
+pub mod WithValue

@@ -1,4 +1,5 @@
 pub mod Runs
+pub mod KeptRuns
 pub mod Plain
 pub mod Places
 pub mod Borders

@@ -1,5 +1,6 @@
 //! The splices that put a run into a list and that clear a span of it.
-ghost use Rattle.std.specs.Prelude.{◌≡◌, ◌-◌, ℤ, List, length, map, slice_get, option_map, slice_range};
+ghost use Rattle.std.specs.Prelude.{◌≡◌, ◌-◌, ◌*◌, ◌^◌, ◌<◌, ℤ, List, length, map, slice_get, option_map, slice_range, OnOk, OnErr};
+ghost use Rattle.std.specs.Mem.{type_size};
 ghost use Rattle.itpg_base.specs.Spans.{IsSpan};
 ghost use Rattle.itpg_base.specs.Graphs.{Valued, AreRunsOfValues};
 ghost use Rattle.interval_set.specs.Runs.{AreRunsOf, HasPut, HasCleared};
@@ -10,6 +11,27 @@ ghost use Rattle.interval_set.specs.Borders.{IsLeftBefore, IsLeftAfter, LeavesBe
 use crate::places::{Spanned, neighbours};
 use crate::span::Span;
 use crate::splice::Splice;
+use std::alloc::AllocError;
+
+/// Gives each moment of the item's span its value, whatever was there. Without memory the list stays as it was.
+pub(crate) fn put_run<T: Spanned>(items: &mut Vec<T>, item: T) -> Result<(), AllocError>
+    requires runs { AreRunsOfValues (map T.as_run items.old.items) }
+    requires small { 3 * type_size T.row < 2 ^ 63 }
+    ensures ok { OnOk result (AreRunsOf (HasPut (map T.as_run items.old.items) (T.as_run item).span (T.as_run item).value) (map T.as_run items.new.items)) }
+    ensures err { OnErr result (items.new.items ≡ items.old.items) }
+{
+    putting(items, item).apply(items)
+}
+
+/// Takes the items' values at the moments of the span away. Without memory the list stays as it was.
+pub(crate) fn clear_runs<T: Spanned>(items: &mut Vec<T>, s: Span) -> Result<(), AllocError>
+    requires runs { AreRunsOfValues (map T.as_run items.old.items) }
+    requires small { 3 * type_size T.row < 2 ^ 63 }
+    ensures ok { OnOk result (AreRunsOf (HasCleared (map T.as_run items.old.items) s) (map T.as_run items.new.items)) }
+    ensures err { OnErr result (items.new.items ≡ items.old.items) }
+{
+    clearing(items, s).apply(items)
+}
 
 /// The splice that gives the item's value to each moment of its span.
 pub(crate) fn putting<T: Spanned>(items: &[T], item: T) -> Splice<T>

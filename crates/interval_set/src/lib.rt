@@ -10,6 +10,7 @@ mod laws;
 mod places;
 mod run;
 mod set;
+mod short_run;
 mod span;
 mod splice;
 mod sweep;

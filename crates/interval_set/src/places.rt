@@ -1,8 +1,9 @@
 //! Where a span lies among the items of a list that rises.
-ghost use Rattle.std.specs.Prelude.{◌≡◌, ◌↔◌, ◌≤◌, ℤ, pos, ◌+ℤ◌, ◌≤ℤ◌, ◌<ℤ◌, List, length, take, drop, map, All, IsTrue, option_map};
+ghost use Rattle.std.specs.Prelude.{◌≡◌, ◌↔◌, ◌≤◌, ℤ, pos, ◌+ℤ◌, ◌≤ℤ◌, ◌<ℤ◌, List, length, take, drop, map, All, IsTrue, IsNone, IfSome, option_map};
 ghost use Rattle.std.specs.Option.{option_copied};
 ghost use Rattle.itpg_base.specs.Spans.{Span as PlainSpan, IsSpan};
-ghost use Rattle.itpg_base.specs.Graphs.{Valued, AreRunsOfValues};
+ghost use Rattle.itpg_base.specs.Words.{Word};
+ghost use Rattle.itpg_base.specs.Graphs.{Valued, RunsHave, AreRunsOfValues};
 ghost use Rattle.interval_set.specs.Plain.{plain_run};
 ghost use Rattle.interval_set.specs.Places.{AreNeighbours, IsNext};
 
@@ -60,6 +61,18 @@ pub(crate) fn next_from<T: Spanned>(items: &[T], t: i64) -> Option<&T>
     ensures { IsNext (map T.as_run items.now) t (option_map T.as_run (option_copied result)) }
 {
     items.get(ended_before(items, t))
+}
+
+/// The item that has the moment.
+pub(crate) fn run_at<T: Spanned>(items: &[T], t: i64) -> Option<&T>
+    requires { AreRunsOfValues (map T.as_run items.now) }
+    ensures none { IsNone result ↔ ((value : Word) → ¬ RunsHave (map T.as_run items.now) t value) }
+    ensures some { IfSome result (λ run. (value : Word) → ((T.as_run run.now).value ≡ value) ↔ RunsHave (map T.as_run items.now) t value) }
+{
+    match next_from(items, t) {
+        Some(run) if run.span().begins_by(t) => Some(run),
+        _ => None,
+    }
 }
 
 /// How many of the items end before the moment.

@@ -1,5 +1,5 @@
 //! A run: a value over a span.
-ghost use Rattle.std.specs.Prelude.{◌≡◌, ◌↔◌, IsTrue};
+ghost use Rattle.std.specs.Prelude.{◌≡◌, ◌↔◌, IsTrue, SomeIff};
 
 use crate::places::Spanned;
 use crate::span::Span;
@@ -23,6 +23,19 @@ impl Model for Run {
     ghost view = { λ r. record { span = r.span; value = r.value } };
 
     ghost inverse = { λ r. record { span = r.span; value = r.value } };
+}
+
+impl Run {
+    /// The span of the run, if it has this value.
+    pub(crate) fn span_if(&self, value: &Name) -> Option<Span>
+        ensures { SomeIff result (self.now.value ≡ value.now) self.now.span }
+    {
+        if self.value.bytes() == value.bytes() {
+            Some(self.span)
+        } else {
+            None
+        }
+    }
 }
 
 impl Spanned for Run {
