@@ -1,7 +1,6 @@
 -- Lists in which one element is changed, and what they are mapped to.
-use Rattle.std.proofs.Common.{◌≡◌, ◌≢◌, ℕ, zero, suc, ◌<◌, ◌≤◌, List, [], ◌∷◌, ◌++◌, length, map, take, drop, Some, Bool, true, false, ◌==◌, true≢false, refl, sym, ap, ◌∙◌, arith}
+use Rattle.std.proofs.Common.{◌≡◌, ◌≢◌, ◌↔◌, ℕ, zero, suc, ◌<◌, ◌≤◌, List, [], ◌∷◌, ◌++◌, length, map, take, drop, Some, Bool, true, false, true≢false, refl, sym, ap, ◌∙◌, arith}
 use Rattle.std.specs.Prelude.{slice_get, slice_set}
-use Rattle.std.proofs.lemmas.Bool.{eqb-true, eq-eqb}
 use Rattle.std.specs.List.{remove}
 use Rattle.itpg_base.specs.Graphs.{changed_at}
 
@@ -80,12 +79,6 @@ split_removed [] (suc i) new = refl
 split_removed (y ∷ xs) zero new = refl
 split_removed (y ∷ xs) (suc i) new = ap (λ zs. y ∷ zs) (split_removed xs i new)
 
--- what a test of emptiness says of an equal list
-pub empty_of : {X : Type 0} (xs ys : List X) (b : Bool) → b ≡ (length xs == 0) → b ≡ true → xs ≡ ys → ys ≡ []
-empty_of [] ys b e t same = sym same
-empty_of (x ∷ xs) ys b e t same = let long = eqb-true (length (x ∷ xs)) 0 (sym e ∙ t) in absurd (omega arith)
-
-pub full_of : {X : Type 0} (xs ys : List X) (b : Bool) → b ≡ (length xs == 0) → b ≡ false → xs ≡ ys → ys ≢ []
-full_of xs ys b e f same none =
-    let short : length xs ≡ 0 = ap length (same ∙ none) in
-    true≢false (sym (eq-eqb (length xs) 0 short) ∙ sym e ∙ f)
+-- a list is full where a test of emptiness fails
+pub full_of : {X : Type 0} (xs : List X) (b : Bool) → (b ≡ true) ↔ (xs ≡ []) → b ≡ false → xs ≢ []
+full_of xs b tells f none = true≢false (sym (tells.1 none) ∙ f)

@@ -1,5 +1,6 @@
 //! The properties of an object, each with its values.
-ghost use Rattle.std.specs.Prelude.{◌≡◌, ◌↔◌, ℤ, [], length, IsNone, IfSome, IfOk, IfErr, OnOk, OnErr};
+ghost use Rattle.std.specs.Prelude.{◌≡◌, ◌↔◌, ◌<◌, ℤ, [], length, vec_len, IsNone, IfSome, IfOk, IfErr, OnOk, OnErr};
+ghost use Rattle.std.specs.List.{remove};
 ghost use Rattle.itpg_base.specs.Words.{Word};
 ghost use Rattle.itpg_base.specs.Spans.{Within};
 ghost use Rattle.itpg_base.specs.Graphs.{PropertiesHave};
@@ -146,8 +147,8 @@ impl Properties {
         };
         let property = &mut self.list[place];
         property.values.clear(s)?;
-        if property.values.runs().is_empty() {
-            self.list.remove(place);
+        if property.values.is_empty() {
+            take_out(&mut self.list, place);
         }
         Ok(())
     }
@@ -160,7 +161,7 @@ impl Properties {
         for property in &self.list {
             let mut values = property.values.copy()?;
             values.clear(s)?;
-            if !values.runs().is_empty() {
+            if !values.is_empty() {
                 let name = property.name.share()?;
                 list.push(Property { name, values })?;
             }
@@ -178,4 +179,12 @@ impl Properties {
         }
         widest
     }
+}
+
+// Takes the property at the place out.
+fn take_out(list: &mut Vec<Property>, place: usize)
+    requires { place < vec_len list.old }
+    ensures { list.new.items ≡ remove list.old.items place }
+{
+    list.remove(place);
 }
