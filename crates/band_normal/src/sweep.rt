@@ -39,6 +39,9 @@ const CROWD: i64 = 32;
 // How many bands a limited sweep may look at for each one that has begun and each row that is complete.
 const LOOKS: u64 = 32;
 
+// How many bands there is room for from the start beside one for each zone, of which some have two or three.
+const MORE_BANDS: usize = 4;
+
 /// Whether a sweep may be given up.
 #[derive(Clone, Copy)]
 pub enum Effort {
@@ -79,8 +82,7 @@ fn bands_of_all(alloc: Global, zones: &[Zone]) -> Result<Vec<Band>, AllocError>
     ensures pairs { IfOk result (λ v. (t : ℤ) → (u : ℤ) → Holds v.items t u ↔ SomeMeets zones.now t u) }
     ensures well_formed { IfOk result (λ v. (b : Band) → Among v.items b → IsWellFormed b) }
 {
-    // A zone has one band, or two or three.
-    let mut bands = Vec::with_capacity(alloc, zones.len().saturating_mul(2))?;
+    let mut bands = Vec::with_capacity(alloc, zones.len().saturating_add(MORE_BANDS))?;
     for zone in zones {
         push_bands_of(&mut bands, zone)?;
     }
