@@ -1,9 +1,10 @@
 -- Two searches in a list in order: the first passes what comes early, the second takes what is looked for.
-use Rattle.std.proofs.Common.{◌≡◌, ◌↔◌, ◌⊎◌, inl, inr, ⊎_elim, ℕ, ◌-◌, ◌<◌, ◌≤◌, List, length, get_or, take, drop, refl, sym, ◌∙◌, subst, arith, Bool, true, false, true≢false}
+use Rattle.std.proofs.Common.{◌≡◌, ◌↔◌, ◌⊎◌, inl, inr, ⊎_elim, ℕ, ◌-◌, ◌<◌, ◌≤◌, List, length, get_or, take, drop, refl, sym, ◌∙◌, ap, subst, arith, Bool, true, false, true≢false}
 use Rattle.std.specs.Prelude.{◌==◌, nat_lt}
 use Rattle.std.specs.List.Sorted.{IsPartitionedBy, IsPartitionPoint}
 use Rattle.std.proofs.lemmas.Bool.Decides.{eqb_tells, Decides-ltb}
-use Rattle.std.proofs.lemmas.List.{take_all, length-drop, get_or_default}
+use Rattle.std.proofs.lemmas.Bool.{cases_lt}
+use Rattle.std.proofs.lemmas.List.{take_all, length-drop, length-take-le, get_or-take, get_or_default}
 use Rattle.itpg_base.specs.Lists.{Among, Ordered}
 use Rattle.itpg_base.proofs.Lists.{among_at, ordered_by_place}
 use Rattle.relation_rows.proofs.Partitions.{among_before, among_behind, among_either, front_among, rest_among, rest_ordered}
@@ -19,6 +20,31 @@ place_between {X} test xs n e parts some lt before here = (
     behind : (k : ℕ) (d : X) → n ≤ k → k < length xs → (b : Bool) → test (get_or xs k d) ≡ b → test (get_or xs k d) ≡ false
     behind k d le lk false f = f
     behind k d le lk true f = absurd (true≢false (sym (parts n k d le lk f) ∙ subst (λ (v : X). test v ≡ false) (get_or_default xs n e d lt) here))
+
+-- the point of what stands before a place at which the test fails is that of the list
+module _ {X : Type 0} (test : X → Bool) (xs : List X) (parts : IsPartitionedBy test xs) (m : ℕ) (e : X) (lt : m < length xs) (fails : test (get_or xs m e) ≡ false) where
+  fails_behind : (k : ℕ) (d : X) → m ≤ k → k < length xs → (b : Bool) → test (get_or xs k d) ≡ b → test (get_or xs k d) ≡ false
+  fails_behind k d le lk false f = f
+  fails_behind k d le lk true f = absurd (true≢false (sym (parts m k d le lk f) ∙ subst (λ (v : X). test v ≡ false) (get_or_default xs m e d lt) fails))
+
+  in_front : (k : ℕ) (d : X) → k < m → test (get_or xs k d) ≡ test (get_or (take m xs) k d)
+  in_front k d front = ap test (sym (get_or-take m xs k d front))
+
+  pub front_partitioned : IsPartitionedBy test (take m xs)
+  front_partitioned i j d le lj h =
+      let size = length-take-le m xs (omega arith) in
+      sym (in_front i d (omega arith)) ∙ parts i j d le (omega arith) (in_front j d (omega arith) ∙ h)
+
+  pub point_before : (n : ℕ) → n ≤ length (take m xs) → IsPartitionPoint (λ (x : X). test x ≡ true) (λ (x : X). test x ≡ false) (take m xs) n
+      → IsPartitionPoint (λ (x : X). test x ≡ true) (λ (x : X). test x ≡ false) xs n
+  point_before n bound point =
+      let size = length-take-le m xs (omega arith) in (
+        λ k d low high. in_front k d (omega arith) ∙ point.0 k d low high,
+        λ k d low high. ⊎_elim
+            (λ front. in_front k d front ∙ point.1 k d low (omega arith))
+            (λ behind. fails_behind k d behind high (test (get_or xs k d)) refl)
+            (cases_lt k m),
+      )
 
 -- by any two tests: what comes before an early one is early, and before a fitting one early or fitting
 module _ {X : Type 0} (Before : X → X → Type 0) (is_early fits : X → Bool)

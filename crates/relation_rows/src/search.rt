@@ -14,6 +14,12 @@ use band_normal::Band;
 use itpg_base::{ObjNo, count_leading};
 use std::alloc::{AllocError, Global};
 
+// So many rows are searched first.
+const NEAR: usize = 8;
+
+// Where all of these come before, so many times as many are searched next.
+const STRIDE: usize = 4;
+
 /// Whether the object is one of the list, which rises.
 pub(crate) fn is_one_of(objects: &[ObjNo], object: ObjNo) -> bool
     requires { Rise objects.now }
@@ -53,14 +59,21 @@ pub(crate) fn is_of_key(row: &Row, source: ObjNo, target: ObjNo) -> bool
     row.source.0 == source.0 && row.target.0 == target.0
 }
 
-/// How many of the rows, from the first on, come before the source and target, of rows in order. It takes longer only where these are
-/// many.
+/// How many of the rows, from the first on, come before the source and target, of rows in order. It looks at few rows where these are
+/// few, and at none that stands far behind them.
 pub(crate) fn leading_before(rows: &[Row], source: ObjNo, target: ObjNo) -> usize
     requires { Ordered RowBefore rows.now }
     ensures within { result ≤ length rows.now }
     ensures point { IsPartitionPoint (λ (r : Row). comes_before r source.0 target.0 ≡ true) (λ (r : Row). comes_before r source.0 target.0 ≡ false) rows.now result }
 {
-    count_leading(rows, |row| comes_before_key(row, source, target))
+    let mut near = NEAR;
+    while near < rows.len() {
+        if !comes_before_key(&rows[near], source, target) {
+            return rows[..near].partition_point(|row| comes_before_key(row, source, target));
+        }
+        near = near.saturating_mul(STRIDE);
+    }
+    rows.partition_point(|row| comes_before_key(row, source, target))
 }
 
 /// The rows from the source to the target, of rows in order.

@@ -1,4 +1,4 @@
-use Rattle.relation_rows.proofs.Alone.{none_first, all_first, some_first}
+use Rattle.relation_rows.proofs.Alone.{some_first}
 use Rattle.relation_rows.proofs.union.alone_count.Goals as goal
 
 pub returns-clause-first : goal.returns-clause-first
