@@ -11,7 +11,7 @@ use Rattle.relation_rows.specs.declared.rows.Row.{Row}
 use Rattle.relation_rows.specs.Rows.{HasKey, KeyBefore, RowsHold, RowBefore}
 use Rattle.relation_rows.specs.Relations.{Item, ItemsHold, OnlyFirstHolds}
 use Rattle.relation_rows.specs.Uniting.{KeyUpTo, SomeHasBand}
-use Rattle.relation_rows.specs.Minus.{OnlyFirstHasBand}
+use Rattle.relation_rows.specs.Minus.{OnlyFirstHasBand, IsLeftAcross}
 use Rattle.relation_rows.proofs.Listed.{key_apart}
 use Rattle.relation_rows.proofs.Partitions.{among_either, front_among, rest_among, rest_ordered, first_among, none_dropped, no_first}
 use Rattle.relation_rows.proofs.Merged.{all_up}
@@ -47,21 +47,13 @@ start first second items e order = record {
   holds = λ x y. (λ h. ⊎_elim (λ a. absurd ((subst (λ (v : List Item). ItemsHold v x y) e a).1)) (λ a. a) h, λ h. inr h);
 }
 
--- the row's pairs of its source and target, at the moments that the zones have
-abbrev pub AreItemsOf : Row → List Item → List Bounds → List Item → Type 0
-AreItemsOf row old zones new = (x : Point) (y : Point) → ItemsHold new x y ↔ (ItemsHold old x y ⊎ (HasKey row x.object y.object × SomeMeets zones x.moment y.moment))
-
 module _ (first second left : List Row) (items : List Item) (g : HasSubtracted first second left items) (row : Row) (n : ℕ)
     (same : (r : Row) → Among (take n left) r → HasKey r row.source.0 row.target.0)
     (group later cuts : List Row) (front : group ≡ take n left) (back : later ≡ drop n left)
     (are : (r : Row) → Among cuts r ↔ (Among second r × HasKey r row.source.0 row.target.0))
-    (zones read : List Bounds) (is : (t : ℤ) (u : ℤ) → SomeMeets zones t u ↔ OnlyFirstHasBand group cuts t u) (e : read ≡ zones)
-    (next : List Item) (pushed : AreItemsOf row items read next) where
+    (next : List Item) (pushed : (x : Point) (y : Point) → ItemsHold next x y ↔ (ItemsHold items x y ⊎ IsLeftAcross row group cuts x y)) where
   of_group : (r : Row) → Among group r → HasKey r row.source.0 row.target.0
   of_group r a = same r (subst (λ (v : List Row). Among v r) front a)
-
-  are_left : (t u : ℤ) → SomeMeets read t u ↔ OnlyFirstHasBand group cuts t u
-  are_left t u = subst (λ (v : List Bounds). SomeMeets v t u ↔ OnlyFirstHasBand group cuts t u) (sym e) (is t u)
 
   from_group : (x y : Point) → HasKey row x.object y.object → OnlyFirstHasBand group cuts x.moment y.moment → OnlyFirstHolds left second x y
   from_group x y k h =
@@ -97,15 +89,48 @@ module _ (first second left : List Row) (items : List Item) (g : HasSubtracted f
     there = λ r a. g.there r (rest_among left n r (subst (λ (v : List Row). Among v r) back a));
     holds = λ x y. (
       λ h. (g.holds x y).0 (⊎_elim
-          (λ a. ⊎_elim (λ b. inl b) (λ b. inr (from_group x y b.0 ((are_left x.moment y.moment).0 b.1))) ((pushed x y).0 a))
+          (λ a. ⊎_elim (λ b. inl b) (λ b. inr (from_group x y b.0 b.1)) ((pushed x y).0 a))
           (λ a. inr (from_later x y a))
           h),
       λ h. ⊎_elim
           (λ a. inl ((pushed x y).1 (inl a)))
-          (λ a. ⊎_elim (λ b. inl ((pushed x y).1 (inr (b.0, (are_left x.moment y.moment).1 b.1)))) (λ b. inr b) (either x y a))
+          (λ a. ⊎_elim (λ b. inl ((pushed x y).1 (inr b))) (λ b. inr b) (either x y a))
           ((g.holds x y).1 h),
     );
   }
+
+pub group_keyed : (left : List Row) (row : Row) (n : ℕ) → ((r : Row) → Among (take n left) r → HasKey r row.source.0 row.target.0) → (group : List Row) → group ≡ take n left
+    → (r : Row) → Among group r → HasKey r row.source.0 row.target.0
+group_keyed left row n same group e r a = same r (subst (λ (v : List Row). Among v r) e a)
+
+-- without a cut all is left
+pub uncut_left : (row : Row) (group cuts : List Row) → ((r : Row) → Among group r → HasKey r row.source.0 row.target.0) → cuts ≡ [] → (old new : List Item)
+    → ((x y : Point) → ItemsHold new x y ↔ (ItemsHold old x y ⊎ RowsHold group x y)) → (x y : Point) → ItemsHold new x y ↔ (ItemsHold old x y ⊎ IsLeftAcross row group cuts x y)
+uncut_left row group cuts keyed none old new pushed x y = (
+  λ h. ⊎_elim (λ a. inl a) (λ (a : RowsHold group x y). inr (across a)) ((pushed x y).0 h),
+  λ h. (pushed x y).1 (⊎_elim (λ a. inl a) (λ (a : IsLeftAcross row group cuts x y). inr (held a)) h),
+)
+  where
+    across : RowsHold group x y → IsLeftAcross row group cuts x y
+    across h =
+        let k = keyed h.0 h.1 in
+        let i = h.2 in
+        ((sym k.0 ∙ i.source, sym k.1 ∙ i.target), ((h.0, h.1, i.pair), λ (s : SomeHasBand cuts x.moment y.moment). absurd (subst (λ (v : List Row). Among v s.0) none s.1)))
+
+    held : IsLeftAcross row group cuts x y → RowsHold group x y
+    held h =
+        let r = (h.1).0 in
+        let k = keyed r.0 r.1 in
+        (r.0, r.1, record { source = k.0 ∙ (h.0).0; target = k.1 ∙ (h.0).1; pair = r.2 })
+
+-- the zones of what is left, read and pushed
+pub zones_left : (row : Row) (group cuts : List Row) (zones read : List Bounds) → ((t u : ℤ) → SomeMeets zones t u ↔ OnlyFirstHasBand group cuts t u) → read ≡ zones → (old new : List Item)
+    → ((x y : Point) → ItemsHold new x y ↔ (ItemsHold old x y ⊎ (HasKey row x.object y.object × SomeMeets read x.moment y.moment))) → (x y : Point) → ItemsHold new x y ↔ (ItemsHold old x y ⊎ IsLeftAcross row group cuts x y)
+zones_left row group cuts zones read is e old new pushed x y =
+    let left = subst (λ (v : List Bounds). SomeMeets v x.moment y.moment ↔ OnlyFirstHasBand group cuts x.moment y.moment) (sym e) (is x.moment y.moment) in (
+      λ h. ⊎_elim (λ a. inl a) (λ a. inr (a.0, left.0 a.1)) ((pushed x y).0 h),
+      λ h. (pushed x y).1 (⊎_elim (λ a. inl a) (λ a. inr (a.0, left.1 a.1)) h),
+    )
 
 pub all_subtracted : (first second left : List Row) (items : List Item) → None ≡ slice_get left 0 → HasSubtracted first second left items → (x y : Point) → ItemsHold items x y ↔ OnlyFirstHolds first second x y
 all_subtracted first second left items none g x y =

@@ -18,3 +18,7 @@ OnlyFirstHasBand rows cuts t u = SomeHasBand rows t u × (¬ SomeHasBand cuts t 
 -- the points are of the row's source and target, and some zone has the pair of their moments
 abbrev pub HasAcross : Row → List Bounds → Point → Point → Type 0
 HasAcross row zones x y = HasKey row x.object y.object × SomeMeets zones x.moment y.moment
+
+-- the points are of the row's source and target, and the pair of their moments is left of the group's bands
+abbrev pub IsLeftAcross : Row → List Row → List Row → Point → Point → Type 0
+IsLeftAcross row group cuts x y = HasKey row x.object y.object × OnlyFirstHasBand group cuts x.moment y.moment

@@ -13,9 +13,9 @@ ghost use Rattle.relation_rows.specs.declared.rows.Row.{Row as PlainRow};
 ghost use Rattle.relation_rows.specs.Rows.{RowBefore, HasKey};
 ghost use Rattle.relation_rows.specs.Relations.{ItemsHold, OnlyFirstHolds};
 ghost use Rattle.relation_rows.specs.Uniting.{SomeHasBand};
-ghost use Rattle.relation_rows.specs.Minus.{OnlyFirstMeets, OnlyFirstHasBand, HasAcross};
+ghost use Rattle.relation_rows.specs.Minus.{OnlyFirstMeets, OnlyFirstHasBand, HasAcross, IsLeftAcross};
 
-use crate::gather::Item;
+use crate::gather::{Item, push_zones};
 use crate::parting::parting;
 use crate::rows::Row;
 use crate::search::rows_of_key;
@@ -181,6 +181,27 @@ fn push_items(items: &mut Vec<Item>, row: &Row, zones: &[Zone]) -> Result<(), Al
     Ok(())
 }
 
+// Adds the zones of what is left of the group, whose source and target are the row's. Most often there is no cut.
+fn push_left(
+    items: &mut Vec<Item>,
+    row: &Row,
+    group: &[Row],
+    cuts: &[Row],
+) -> Result<(), AllocError>
+    requires group { (r : PlainRow) → Among group.now r → HasKey r row.now.source.0 row.now.target.0 }
+    requires formed { (r : PlainRow) → Among group.now r → IsWellFormed r.band }
+    requires cuts { (r : PlainRow) → Among cuts.now r → IsWellFormed r.band }
+    ensures { OnOk result ((x : Point) → (y : Point) → ItemsHold items.new.items x y ↔ (ItemsHold items.old.items x y ⊎ IsLeftAcross row.now group.now cuts.now x y)) }
+{
+    if cuts.is_empty() {
+        push_zones(items, group)?;
+        return Ok(());
+    }
+    let zones = left_of(*items.allocator(), group, cuts)?;
+    push_items(items, row, &zones)?;
+    Ok(())
+}
+
 // How many of the rows, from the first on, have its source and its target.
 fn key_count(rows: &[Row], first: &Row) -> usize
     requires order { Ordered RowBefore rows.now }
@@ -204,12 +225,12 @@ pub(crate) fn only_in_first(
     requires cuts { (r : PlainRow) → Among second.now r → IsWellFormed r.band }
     ensures { IfOk result (λ items. (x : Point) → (y : Point) → ItemsHold items.items x y ↔ OnlyFirstHolds first.now second.now x y) }
 {
-    let mut items = Vec::new(alloc);
+    let mut items = Vec::with_capacity(alloc, first.len())?;
     let mut left = first;
     while let Some(row) = left.first() {
         let (group, later) = left.split_at(key_count(left, row));
-        let zones = left_of(alloc, group, rows_of_key(second, row.source, row.target))?;
-        push_items(&mut items, row, &zones)?;
+        let cuts = rows_of_key(second, row.source, row.target);
+        push_left(&mut items, row, group, cuts)?;
         left = later;
     }
     Ok(items)
