@@ -64,6 +64,11 @@ pub had_all : (source : ObjNo) (zone : Bounds) (s : Row) (items : List Item) →
     → (x y : Point) → ItemsHold items x y ↔ (ItemsHold items x y ⊎ GoesBy source zone s x y)
 had_all source zone s items has x y = (λ h. inl h, λ h. ⊎_elim (λ a. a) (λ a. has x y a) h)
 
+-- there are none, so that they add nothing
+pub missed_all : (source : ObjNo) (zone : Bounds) (s : Row) (items : List Item) → ((t u : ℤ) → ¬ GoesThrough zone s.band t u)
+    → (x y : Point) → ItemsHold items x y ↔ (ItemsHold items x y ⊎ GoesBy source zone s x y)
+missed_all source zone s items missed = had_all source zone s items (λ x y g. absurd (missed x.moment y.moment g.pair))
+
 -- differences of a band's first and last arrival and a zone's departures are in range
 pub soon_fits : (band : Band) (low : ℤ) → IsWellFormed band → low ≡ end_at band.low band.from → (k : Bounds) → IsNear k → SFits w64 (to_z w64 (of_z w64 low) -ℤ to_z w64 (of_z w64 k.b))
 soon_fits band low formed is k near =

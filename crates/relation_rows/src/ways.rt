@@ -139,9 +139,6 @@ fn push_way(
     requires next { IsWellFormed next.now.band }
     ensures { OnOk result ((x : Point) → (y : Point) → ItemsHold items.new.items x y ↔ (ItemsHold items.old.items x y ⊎ GoesBy source zone.now next.now x y)) }
 {
-    if is_missed(zone, span, &next.band) {
-        return Ok(());
-    }
     if are_had(items, noted(latest, next.target), source, zone, next) {
         return Ok(());
     }
@@ -151,7 +148,7 @@ fn push_way(
     Ok(())
 }
 
-// Adds the ways by the row and one of those from where it arrives.
+// Adds the ways by the row and one of those from where it arrives, most of which depart too soon or too late.
 fn push_scanned(
     items: &mut Vec<Item>,
     latest: &mut [usize],
@@ -166,6 +163,9 @@ fn push_scanned(
     let zone = zone_of(&row.band);
     let span = arrivals(&zone);
     for next in here {
+        if is_missed(&zone, span, &next.band) {
+            continue;
+        }
         push_way(items, latest, row.source, &zone, span, next)?;
     }
     Ok(())
@@ -187,6 +187,9 @@ fn push_searched(
     let span = arrivals(&zone);
     find_departing(found, legs, row.target, span)?;
     for leg in found.as_slice() {
+        if is_missed(&zone, span, &leg.row.band) {
+            continue;
+        }
         push_way(items, latest, row.source, &zone, span, &leg.row)?;
     }
     Ok(())

@@ -5,11 +5,6 @@ use Rattle.relation_rows.specs.Ways.{GoesBy}
 use Rattle.relation_rows.proofs.Going.{had_all, pushed_by}
 use Rattle.relation_rows.proofs.ways.push_way.Goals as goal
 
-pub returns-then-is_missed : goal.returns-then-is_missed
-returns-then-is_missed c =
-    had_all c.args.source c.args.zone.now c.args.next.now c.args.items.now.items
-    (λ x y g. absurd (c.is_missed.ensures c.if-is_missed.true x.moment y.moment g.pair))
-
 pub returns-then-are_had : goal.returns-then-are_had
 returns-then-are_had c =
     had_all c.args.source c.args.zone.now c.args.next.now c.args.items.now.items
