@@ -187,9 +187,6 @@ fn push_searched(
     let span = arrivals(&zone);
     find_departing(found, legs, row.target, span)?;
     for leg in found.as_slice() {
-        if is_missed(&zone, span, &leg.row.band) {
-            continue;
-        }
         push_way(items, latest, row.source, &zone, span, &leg.row)?;
     }
     Ok(())

@@ -1,11 +1,6 @@
 use Rattle.relation_rows.proofs.Departing.{found_as}
-use Rattle.relation_rows.proofs.Going.{missed_all, leg_more, all_ways, leg_formed, leg_source}
+use Rattle.relation_rows.proofs.Going.{leg_more, all_ways, leg_formed, leg_source}
 use Rattle.relation_rows.proofs.ways.push_searched.Goals as goal
-
-pub is_missed-requires-clause-band : goal.is_missed-requires-clause-band
-is_missed-requires-clause-band c =
-    let are = found_as c.args.legs.now c.find_departing.new.found.items c.as_slice-leg-items.result.now c.args.row.now.target.0 c.arrivals-span.result.0 c.arrivals-span.result.1 c.as_slice-leg-items.ensures.value c.in_ok-find_departing.ensures in
-    leg_formed c.args.legs.now c.as_slice-leg-items.result.now c.loop-leg.leg-index _ c.loop-leg-test.true (λ s a. ((are s).0 a).0) (c.requires.legs).formed
 
 pub push_way-requires-clause-next : goal.push_way-requires-clause-next
 push_way-requires-clause-next c =
@@ -18,14 +13,6 @@ loop-leg-preserved c =
     leg_more c.args.row.now c.zone_of-zone.result c.zone_of-zone.ensures _ _ _ c.as_slice-leg-items.result.now c.loop-leg.leg-index _ c.loop-leg-test.true
     (leg_source c.as_slice-leg-items.result.now _ c.loop-leg.leg-index _ c.loop-leg-test.true (λ s a. (((are s).0 a).1).source))
     c.in_ok-push_way.ensures
-    c.loop-leg.invariant
-
-pub loop-leg-preserved-then-is_missed : goal.loop-leg-preserved-then-is_missed
-loop-leg-preserved-then-is_missed c =
-    let are = found_as c.args.legs.now c.find_departing.new.found.items c.as_slice-leg-items.result.now c.args.row.now.target.0 c.arrivals-span.result.0 c.arrivals-span.result.1 c.as_slice-leg-items.ensures.value c.in_ok-find_departing.ensures in
-    leg_more c.args.row.now c.zone_of-zone.result c.zone_of-zone.ensures _ _ _ c.as_slice-leg-items.result.now c.loop-leg.leg-index _ c.loop-leg-test.true
-    (leg_source c.as_slice-leg-items.result.now _ c.loop-leg.leg-index _ c.loop-leg-test.true (λ s a. (((are s).0 a).1).source))
-    (missed_all c.args.row.now.source c.zone_of-zone.result _ c.loop-leg.items.items (c.is_missed.ensures c.if-is_missed.true))
     c.loop-leg.invariant
 
 pub returns : goal.returns
