@@ -1,18 +1,16 @@
 -- The points of a good graph, and the moments at which a test holds of an object.
-use Rattle.std.proofs.Common.{◌≡◌, ◌↔◌, inl, ⊎_elim, ℕ, ◌+◌, ◌<◌, ◌≤◌, ℤ, pos, ◌-ℤ◌, ◌≤ℤ◌, ◌<ℤ◌, List, [], ◌∷◌, ◌++◌, length, slice_index_or, take, map, filter, append_assoc, append-nil, Bool, true, false, cond, Option, Some, None, Result, Ok, Err, refl, sym, ◌∙◌, ap, subst, arith, nat_eq}
+use Rattle.std.proofs.Common.{◌≡◌, ◌↔◌, inl, ⊎_elim, ℕ, ◌+◌, ◌<◌, ◌≤◌, ℤ, pos, ◌-ℤ◌, ◌≤ℤ◌, ◌<ℤ◌, List, [], ◌∷◌, ◌++◌, length, slice_index_or, take, append_assoc, append-nil, false, Option, Some, None, Result, Ok, Err, sym, ◌∙◌, ap, subst, arith}
 use Rattle.std.proofs.lemmas.Int.{ints, clamps}
 use Rattle.std.specs.Int.{int_min}
 use Rattle.std.proofs.lemmas.List.{take_more, take_all, map-append}
-use Rattle.std.proofs.lemmas.Slice.Eq.{bytes_eq-Decides}
-use Rattle.std.specs.Prelude.{IfSome, IsSomeAnd, OnOk, int_le, option_map, slice_get}
-use Rattle.std.specs.Cmp.Lexicographic.{pointwise}
+use Rattle.std.specs.Prelude.{IfSome, IsSomeAnd, OnOk, int_le, option_map, option_to_list, slice_get, SomeIff}
 use Rattle.itpg_base.specs.declared.object_number.ObjNo.{ObjNo}
 use Rattle.itpg_base.specs.Spans.{Span, IsSpan, Within, Covers, IsCoalesced}
 use Rattle.itpg_base.specs.Graphs.{Graph, Object, Begun, IsBegun, Good, ObjectIs, Stands, Exists, InHorizon, IsPoint, Valued, RunsHave, AreRunsOfValues}
 use Rattle.itpg_base.specs.Points.{Point, IsAt}
 use Rattle.itpg_base.proofs.Objects.{there, here, same_some}
 use Rattle.interval_set.proofs.Unique.{runs_alike}
-use Rattle.interval_set.proofs.Placed.{placed_runs}
+use Rattle.interval_set.proofs.WithValue.{spans_with, spans_runs, spans_more as one_further}
 use Rattle.zone_core.specs.Zone.{Within as IsNearZero, moment_reach}
 use Rattle.path_ast.specs.Terms.{TestTerm}
 use Rattle.path_ast.specs.Meaning.{Sat}
@@ -107,23 +105,6 @@ spans_end o spans old now i coalesced le is = record {
   runs = record { whole = λ t h. h; only = λ t h. h; coalesced = coalesced };
 }
 
--- the spans of the runs that have the value
-abbrev pub spans_with : List ℕ → List Valued → List Span
-spans_with value runs = map (λ (r : Valued). r.span) (filter (λ (r : Valued). pointwise nat_eq r.value value) runs)
-
-with_append : (value : List ℕ) (xs : List Valued) (r : Valued) → spans_with value (xs ++ r ∷ []) ≡ spans_with value xs ++ spans_with value (r ∷ [])
-with_append value [] r = refl
-with_append value (x ∷ xs) r = by_test (pointwise nat_eq x.value value) (with_append value xs r)
-  where
-    by_test : (b : Bool) → spans_with value (xs ++ r ∷ []) ≡ spans_with value xs ++ spans_with value (r ∷ [])
-        → map (λ (v : Valued). v.span) (cond b (x ∷ filter (λ (v : Valued). pointwise nat_eq v.value value) (xs ++ r ∷ [])) (filter (λ (v : Valued). pointwise nat_eq v.value value) (xs ++ r ∷ [])))
-        ≡ map (λ (v : Valued). v.span) (cond b (x ∷ filter (λ (v : Valued). pointwise nat_eq v.value value) xs) (filter (λ (v : Valued). pointwise nat_eq v.value value) xs)) ++ spans_with value (r ∷ [])
-    by_test true e = ap (λ (v : List Span). x.span ∷ v) e
-    by_test false e = e
-
-alone : (value : List ℕ) (r : Valued) (b : Bool) → pointwise nat_eq r.value value ≡ b → spans_with value (r ∷ []) ≡ map (λ (v : Valued). v.span) (cond b (r ∷ []) [])
-alone value r b e = ap (λ (c : Bool). map (λ (v : Valued). v.span) (cond c (r ∷ []) [])) e
-
 module _ (o : ObjNo) (value : List ℕ) (runs : List Valued) (old : List OneRow) where
   pub runs_start : old ≡ old ++ over_spans o (spans_with value (take 0 runs))
   runs_start = none runs
@@ -132,26 +113,27 @@ module _ (o : ObjNo) (value : List ℕ) (runs : List Valued) (old : List OneRow)
       none [] = sym (append-nil old)
       none (x ∷ xs) = sym (append-nil old)
 
-  module _ (now : List OneRow) (i : ℕ) (r : Valued) (lt : i < length runs) (read : r ≡ slice_index_or runs i r) (is : now ≡ old ++ over_spans o (spans_with value (take i runs))) where
-    more : spans_with value (take (i + 1) runs) ≡ spans_with value (take i runs) ++ spans_with value (r ∷ [])
-    more = ap (λ (v : List Valued). spans_with value v) (take_more runs i r lt ∙ ap (λ (v : Valued). take i runs ++ v ∷ []) (sym read)) ∙ with_append value (take i runs) r
+  module _ (now : List OneRow) (i : ℕ) (found : Option Span) (lt : i < length runs) (says : (run : Valued) → slice_get runs i ≡ Some run → SomeIff found (run.value ≡ value) run.span) (is : now ≡ old ++ over_spans o (spans_with value (take i runs))) where
+    more : spans_with value (take (i + 1) runs) ≡ spans_with value (take i runs) ++ option_to_list found
+    more = one_further value runs i found lt says
 
-    pub runs_taken : (next : List OneRow) → pointwise nat_eq r.value value ≡ true → next ≡ now ++ (record { object = o; span = r.span }) ∷ [] → next ≡ old ++ over_spans o (spans_with value (take (i + 1) runs))
-    runs_taken next e pushed =
-        let all : spans_with value (take (i + 1) runs) ≡ spans_with value (take i runs) ++ r.span ∷ [] = more ∙ ap (λ (v : List Span). spans_with value (take i runs) ++ v) (alone value r true e) in
-        pushed ∙ ap (λ (v : List OneRow). v ++ (record { object = o; span = r.span }) ∷ []) is
-        ∙ sym (over_append o (spans_with value (take i runs)) r.span old) ∙ ap (λ (v : List Span). old ++ over_spans o v) (sym all)
+    pub runs_taken : (next : List OneRow) (s : Span) → found ≡ Some s → next ≡ now ++ (record { object = o; span = s }) ∷ [] → next ≡ old ++ over_spans o (spans_with value (take (i + 1) runs))
+    runs_taken next s there pushed =
+        let all : spans_with value (take (i + 1) runs) ≡ spans_with value (take i runs) ++ s ∷ [] = more ∙ ap (λ (v : Option Span). spans_with value (take i runs) ++ option_to_list v) there in
+        pushed ∙ ap (λ (v : List OneRow). v ++ (record { object = o; span = s }) ∷ []) is
+        ∙ sym (over_append o (spans_with value (take i runs)) s old) ∙ ap (λ (v : List Span). old ++ over_spans o v) (sym all)
 
-    pub runs_left : pointwise nat_eq r.value value ≡ false → now ≡ old ++ over_spans o (spans_with value (take (i + 1) runs))
-    runs_left e =
-        let all : spans_with value (take (i + 1) runs) ≡ spans_with value (take i runs) = more ∙ ap (λ (v : List Span). spans_with value (take i runs) ++ v) (alone value r false e) ∙ append-nil (spans_with value (take i runs)) in
+    pub runs_left : found ≡ None → now ≡ old ++ over_spans o (spans_with value (take (i + 1) runs))
+    runs_left missing =
+        let all : spans_with value (take (i + 1) runs) ≡ spans_with value (take i runs) =
+        more ∙ ap (λ (v : Option Span). spans_with value (take i runs) ++ option_to_list v) missing ∙ append-nil (spans_with value (take i runs)) in
         is ∙ ap (λ (v : List Span). old ++ over_spans o v) (sym all)
 
   pub runs_end : (now : List OneRow) (i : ℕ) → AreRunsOfValues runs → length runs ≤ i → now ≡ old ++ over_spans o (spans_with value (take i runs)) → HasRuns o (λ t. RunsHave runs t value) old now
   runs_end now i coalesced le is = record {
     spans = spans_with value runs;
     added = is ∙ ap (λ (v : List Valued). old ++ over_spans o (spans_with value v)) (take_all i runs le);
-    runs = placed_runs value (λ r. pointwise nat_eq r.value value) (λ r. bytes_eq-Decides r.value value) runs coalesced;
+    runs = spans_runs value runs coalesced;
   }
 
 -- ---- what is left of a span below a number

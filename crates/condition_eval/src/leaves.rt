@@ -2,7 +2,7 @@
 //! Bahamondes, Aghasadeghi, Stoyanovich, *Temporal Regular Path Queries*, ICDE 2022.
 
 ghost use Rattle.std.specs.Prelude.{◌≡◌, ◌<ℤ◌, ◌-ℤ◌, pos, IsSome, IsTrue, IfOk, OnOk};
-ghost use Rattle.itpg_base.specs.Graphs.{Good, Stands, Val, RunsHave, AreRunsOfValues};
+ghost use Rattle.itpg_base.specs.Graphs.{Good, Stands, Val, RunsHave};
 ghost use Rattle.itpg_base.specs.Spans.{Within, Covers, IsCoalesced};
 ghost use Rattle.relation_rows.specs.Relations.{Rise};
 ghost use Rattle.path_ast.specs.Terms.{leaf_term};
@@ -11,7 +11,7 @@ ghost use Rattle.condition_eval.specs.Tested.{HoldsAt, Stand, HasHorizon};
 ghost use Rattle.condition_eval.specs.Walking.{HasRuns};
 
 use crate::marks::Marks;
-use interval_set::{Run, Span};
+use interval_set::{Span, ValuedSet};
 use itpg_base::{Name, ObjNo};
 use itpg_graph::{Kind, Part};
 use path_ast::Leaf;
@@ -119,25 +119,21 @@ fn push_valued(
     let Some(values) = graph.value(object, prop) else {
         return Ok(());
     };
-    push_runs(rows, object, values.runs(), value)
+    push_runs(rows, object, values, value)
 }
 
 // Adds the object over those of the runs that have the value.
 fn push_runs(
     rows: &mut Vec<OneRow>,
     object: ObjNo,
-    runs: &[Run],
+    values: &ValuedSet,
     value: &Name,
 ) -> Result<(), AllocError>
-    requires { AreRunsOfValues runs.now }
-    ensures { OnOk result (HasRuns object (λ t. RunsHave runs.now t value.now) rows.old.items rows.new.items) }
+    ensures { OnOk result (HasRuns object (λ t. RunsHave values.now t value.now) rows.old.items rows.new.items) }
 {
-    for run in runs {
-        if run.value == *value {
-            rows.push(OneRow {
-                object,
-                span: run.span,
-            })?;
+    for place in 0..values.count() {
+        if let Some(span) = values.span_with(place, value) {
+            rows.push(OneRow { object, span })?;
         }
     }
     Ok(())
