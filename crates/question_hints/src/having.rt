@@ -1,14 +1,11 @@
 //! What the objects of a graph have.
-ghost use Rattle.std.specs.Prelude.{◌≡◌, ◌↔◌, ℤ, IsTrue, nat_eq};
-ghost use Rattle.std.specs.List.{list_any};
-ghost use Rattle.std.specs.Cmp.Lexicographic.{pointwise};
-ghost use Rattle.itpg_base.specs.Graphs.{Good, Val, RunsHave, AreRunsOfValues};
+ghost use Rattle.std.specs.Prelude.{◌≡◌, ◌↔◌, ℤ, IsTrue};
+ghost use Rattle.itpg_base.specs.Graphs.{Good, Val};
 ghost use Rattle.itpg_graph.specs.Families.{HasProperty};
 ghost use Rattle.itpg_graph.specs.WithLabel.{StandsWith};
 ghost use Rattle.path_ast.specs.Meaning.{IsNodeOf};
 ghost use Rattle.question_hints.specs.Certain.{Has, NoneHas, NoneHasLabel};
 
-use interval_set::Run;
 use itpg_base::{Name, ObjNo};
 use itpg_graph::{Graph, Kind};
 
@@ -73,23 +70,8 @@ fn has_value(graph: &Graph, o: ObjNo, prop: &Name, value: &Name) -> bool
     }
     match graph.value(o, prop) {
         None => false,
-        Some(values) => some_run_has(values.runs(), value),
+        Some(values) => values.has(value),
     }
-}
-
-// Whether some run has the value.
-fn some_run_has(runs: &[Run], value: &Name) -> bool
-    requires { AreRunsOfValues runs.now }
-    ensures { IsTrue result ↔ ((t : ℤ) × RunsHave runs.now t value.now) }
-{
-    finds_value(runs, value)
-}
-
-// The test of the runs, one by one.
-fn finds_value(runs: &[Run], value: &Name) -> bool
-    ensures { result ≡ list_any (λ r. pointwise nat_eq r.value value.now) runs.now }
-{
-    runs.iter().any(|run| run.value == *value)
 }
 
 fn is_node_with(graph: &Graph, o: ObjNo, label: &Name) -> bool
