@@ -131,7 +131,8 @@ fn describe_moments(moments: &IntervalSet, state: &mut String) -> Result<()> {
 }
 
 fn describe_values(values: &ValuedSet, state: &mut String) -> Result<()> {
-    for (place, run) in values.runs().iter().enumerate() {
+    for place in 0..values.count() {
+        let run = values.run(place);
         state.push_str(if place == 0 { " " } else { "," })?;
         write!(
             state,
