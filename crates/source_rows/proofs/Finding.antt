@@ -1,6 +1,7 @@
 -- What a walk finds, step by step.
-use Rattle.std.proofs.Common.{◌≡◌, ◌⊎◌, inl, inr, ℕ, zero, suc, ◌≤◌, ◌<◌, List, [], ◌∷◌, ◌++◌, length, Option, Some, None, refl, sym, ◌∙◌, subst, ap, arith, length-append}
+use Rattle.std.proofs.Common.{◌≡◌, ◌⊎◌, inl, inr, ℕ, zero, suc, ◌≤◌, ◌<◌, List, [], ◌∷◌, ◌++◌, length, Option, Some, None, Bool, true, ◌==◌, refl, sym, ◌∙◌, subst, ap, arith, length-append}
 use Rattle.std.specs.Prelude.{◌↔◌, unwrap_or}
+use Rattle.std.proofs.lemmas.Bool.{eqb-true}
 use Rattle.std.proofs.lemmas.Option.{slice_get_within}
 use Rattle.itpg_base.proofs.ShortWalks.{short_walk}
 use Rattle.itpg_base.specs.Graphs.{Graph, Good, Stands, HasEnd, ObjectIs}
@@ -218,3 +219,8 @@ found_near g good o n count bound f new stands e d was ends objects are =
     λ a. subst (λ k. IsReached g o (Some k) a ↔ IsReached g o bound a) (sym (e ∙ ap (λ c. unwrap_or bound c) d)) (bound_reach g good o stands bound a) in
     let reach = found_reach g good o n bound f new stands same was ends in
     numbers_alike (IsSeen new) (Reach g o bound) objects (λ a. (reach a).0) (λ a. (reach a).1) are
+
+-- what a test of emptiness says of an equal list
+pub empty_of : {X : Type 0} (xs ys : List X) (b : Bool) → b ≡ (length xs == 0) → b ≡ true → xs ≡ ys → ys ≡ []
+empty_of [] ys b e t same = sym same
+empty_of (x ∷ xs) ys b e t same = let long = eqb-true (length (x ∷ xs)) 0 (sym e ∙ t) in absurd (omega arith)

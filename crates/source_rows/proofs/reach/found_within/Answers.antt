@@ -1,7 +1,6 @@
 use Rattle.std.proofs.Common.{◌≡◌, ◌==◌, ◌∙◌, suc, ◌+◌, arith, subst, ap}
-use Rattle.itpg_graph.proofs.Lists.{empty_of}
 use Rattle.source_rows.specs.Found.{Found, IsFound}
-use Rattle.source_rows.proofs.Finding.{found_all, found_more, found_start, found_stands}
+use Rattle.source_rows.proofs.Finding.{empty_of, found_all, found_more, found_start, found_stands}
 use Rattle.source_rows.proofs.reach.found_within.Goals as goal
 
 pub returns-then-is_empty : goal.returns-then-is_empty
