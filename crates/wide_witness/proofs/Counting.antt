@@ -30,7 +30,7 @@ taken_out (y ∷ ys) x (inr a) =
     )
 
 -- where each x finds some y and no two find the same, there are as many ys at least
-finders_fewer : {X Y : Type 0} (Finds : X → Y → Type 0) (xs : List X) (ys : List Y) → Ordered (λ x z. (y : Y) → Finds x y → Finds z y → ⊥) xs
+pub finders_fewer : {X Y : Type 0} (Finds : X → Y → Type 0) (xs : List X) (ys : List Y) → Ordered (λ x z. (y : Y) → Finds x y → Finds z y → ⊥) xs
     → ((x : X) → Among xs x → (y : Y) × Among ys y × Finds x y) → length xs ≤ length ys
 finders_fewer Finds [] ys o f = omega arith
 finders_fewer {X} {Y} Finds (x ∷ xs) ys o f =

@@ -4,9 +4,11 @@
 //! steps do has more normal rows than the limit. That it says so wherever it could isn't promised.
 #![tactic(auto)]
 
+mod along;
 pub mod laws;
 mod onward;
 mod reach;
 mod witness;
 
+pub use along::along_time;
 pub use witness::is_seen_wide;
