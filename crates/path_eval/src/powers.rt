@@ -17,7 +17,7 @@ use plan_cache::{PlanNo, Plans};
 use relation_rows::{RelFault, Relation};
 use repeat_engine::{Composed, closure, power, up_to};
 use std::alloc::AllocError;
-use wide_witness::is_seen_wide;
+use wide_witness::{along_time, is_seen_wide};
 
 // So many times the limit of rows may be made on the way to a union.
 const MORE: u32 = 4;
@@ -108,6 +108,16 @@ impl Composed for Powers<'_, '_> {
             return Err(RelFault::Wide);
         }
         Ok(())
+    }
+
+    fn at_once(
+        &self,
+        one: &Relation,
+        x: &Relation,
+        n: u64,
+    ) -> Result<Option<Relation>, RelFault> {
+        let all = along_time(self.ground.alloc, one, x, n, self.ground.max_rows)?;
+        Ok(all)
     }
 
     // With each power, one point most often leads to one run more.

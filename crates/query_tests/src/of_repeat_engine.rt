@@ -87,6 +87,15 @@ impl Composed for Lengths {
         Ok(())
     }
 
+    fn at_once(
+        &self,
+        _one: &(u64, u64),
+        _x: &(u64, u64),
+        _n: u64,
+    ) -> Result<Option<(u64, u64)>, TooMany> {
+        Ok(None)
+    }
+
     fn many(&self) -> u64 {
         3
     }

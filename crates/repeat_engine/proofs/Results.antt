@@ -1,5 +1,5 @@
 -- What a result says, said of something alike.
-use Rattle.std.proofs.Common.{Result, Ok, Err, IfOk, Option, Some, None, IfSome}
+use Rattle.std.proofs.Common.{ℕ, Result, Ok, Err, IfOk, Option, Some, None, IfSome}
 use Rattle.repeat_engine.specs.Powers.{Algebra}
 use Rattle.repeat_engine.specs.Composed.{IsLawful, IsOkWhere, IsSomeWhere, FailsOnlyWithout}
 
@@ -44,3 +44,10 @@ module _ {M : Type 0} {Alike : M → M → Type 0} {Own Fits : M → Type 0} {al
   fits_found means WantsMemory (Ok (Some v)) m h fits = fits_from (means v) m h fits
   fits_found means WantsMemory (Ok None) m h fits = tt
   fits_found means WantsMemory (Err fault) m h fits = tt
+
+  -- and where each of some meanings fits
+  pub each_fits_found : {T E : Type 0} (means : T → M) (r : Result (Option T) E) (of : ℕ → M) (n : ℕ) → IfOk r (λ o. IfSome o (λ v. Alike (means v) (of n)))
+      → IfOk r (λ o. IfSome o (λ v. (k : ℕ) → Fits (of k))) → IfOk r (λ o. IfSome o (λ v. Fits (means v)))
+  each_fits_found means (Ok (Some v)) of n h fit = fits_from (means v) (of n) h (fit n)
+  each_fits_found means (Ok None) of n h fit = tt
+  each_fits_found means (Err fault) of n h fit = tt

@@ -1,7 +1,7 @@
 //! What powers are taken of.
 #![tactic(auto)]
 
-ghost use Rattle.std.specs.Prelude.{◌↔◌, IsTrue, IfOk, IfSome};
+ghost use Rattle.std.specs.Prelude.{◌↔◌, ℕ, IsTrue, IfOk, IfErr, IfSome};
 ghost use Rattle.repeat_engine.specs.Powers.{Algebra, union_of_powers};
 ghost use Rattle.repeat_engine.specs.Composed.{IsOkWhere, IsSomeWhere, FailsOnlyWithout, IsLawful};
 
@@ -117,6 +117,25 @@ pub trait Composed {
         requires own_x { own self.now (means x.now) }
         requires fits_x { fits self.now (means x.now) }
         ensures { FailsOnlyWithout wants_memory result (fits self.now (union_of_powers (algebra self.now) (means x.now) n)) };
+
+    /// The union of the powers 0 to n of x, where it is known at once, and then the union of any number of powers fits. None
+    /// otherwise, which may come at any time. `one` is the neutral value.
+    fn at_once(
+        &self,
+        one: &Self::Value,
+        x: &Self::Value,
+        n: u64,
+    ) -> Result<Option<Self::Value>, Self::Fault>
+        requires neutral { alike self.now (means one.now) (algebra self.now).one }
+        requires own_one { own self.now (means one.now) }
+        requires own_x { own self.now (means x.now) }
+        requires fits_one { fits self.now (means one.now) }
+        requires fits_x { fits self.now (means x.now) }
+        ensures value { let union = union_of_powers (algebra self.now) (means x.now) in
+            IfOk result (λ made. IfSome made (λ v. alike self.now (means v) (union n))) }
+        ensures each_fits { let union = union_of_powers (algebra self.now) (means x.now) in
+            IfOk result (λ made. IfSome made (λ v. (k : ℕ) → fits self.now (union k))) }
+        ensures memory { IfErr result (λ fault. wants_memory fault) };
 
     /// So many powers may be united with each adding a little, and still fit. No result depends on it, so any number is right.
     fn many(&self) -> u64;

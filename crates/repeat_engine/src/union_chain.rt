@@ -1,12 +1,12 @@
-//! The union of the powers 0 to n, along the chain of n.
-ghost use Rattle.std.specs.Prelude.{◌≤◌, ◌+◌, ℕ, All, IfOk};
+//! The union of the powers 0 to n: at once where it is known, and else along the chain of n.
+ghost use Rattle.std.specs.Prelude.{◌≡◌, ◌≤◌, ◌+◌, ℕ, None, All, IfOk, false};
 ghost use Rattle.itpg_base.specs.Chains.{chain};
 ghost use Rattle.repeat_engine.specs.Powers.{union_of_powers};
 ghost use Rattle.repeat_engine.specs.Composed.{IsOkWhere};
 ghost use Rattle.repeat_engine.specs.GrownUnions.{IsSound, Grows};
 
 use crate::Composed;
-use crate::calls::union;
+use crate::calls::{at_once, union};
 use crate::doubling::doubled;
 use crate::foreseen::foreseen;
 use crate::grown_union::Grown;
@@ -29,6 +29,9 @@ pub(crate) fn united_from_one<C: Composed>(
         (C.fits c.now (C.algebra c.now).one × All (λ k. C.fits c.now (union k)) (chain n)) }
 {
     let one = c.one()?;
+    if let Some(all) = at_once(c, &one, x, n)? {
+        return Ok(whole(all));
+    }
     let first = union(c, &one, x)?;
     foreseen(c, x, n)?;
     let grown = united(c, x, &first, n)?;
@@ -69,6 +72,22 @@ fn united<C: Composed>(
         return Ok(double);
     }
     stepped(c, x, first, &double)
+}
+
+// A union of which nothing is known but itself.
+fn whole<V: Drop>(all: V) -> Grown<V>
+    ensures all { result.all ≡ all }
+    ensures newest { result.newest ≡ None }
+    ensures former { result.former ≡ None }
+    ensures more { result.done ≡ false }
+{
+    Grown {
+        all,
+        newest: None,
+        former: None,
+        growth: 0,
+        done: false,
+    }
 }
 
 // The union of the powers 0 and 1.

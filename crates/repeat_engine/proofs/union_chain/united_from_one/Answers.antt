@@ -13,6 +13,20 @@ returns-in_err-first-clause-exact g c =
     rw (p.1, p.2)
     (λ other fit. c.in_err-first.ensures.exact other (first_must_fit laws x c.requires.own_x one c.in_ok-one.ensures.value c.args.n c.requires.some fit))
 
+pub at_once-requires-clause-own_one : goal.at_once-requires-clause-own_one
+at_once-requires-clause-own_one g c =
+    let m = g.C.Composed in
+    let laws = g.met.C.Composed.lawful c.args.c.now in
+    let one = m.means c.in_ok-one.one in
+    own_from laws one (m.algebra c.args.c.now).one c.in_ok-one.ensures.value laws.own_one
+
+pub at_once-requires-clause-fits_one : goal.at_once-requires-clause-fits_one
+at_once-requires-clause-fits_one g c =
+    let m = g.C.Composed in
+    let laws = g.met.C.Composed.lawful c.args.c.now in
+    let one = m.means c.in_ok-one.one in
+    fits_from laws one (m.algebra c.args.c.now).one c.in_ok-one.ensures.value c.in_ok-one.ensures.exact
+
 pub union-requires-clause-own_x : goal.union-requires-clause-own_x
 union-requires-clause-own_x g c =
     let m = g.C.Composed in
