@@ -1,5 +1,5 @@
 -- Each row of such a repetition begins where it begins to be cut otherwise how far its steps lead, or one moment later. So it has few rows.
-use Rattle.std.proofs.Common.{◌≡◌, ◌⊎◌, inl, inr, ⊎_elim, ℕ, suc, ◌+◌, ◌*◌, ◌≤◌, ℤ, pos, ◌+ℤ◌, ◌-ℤ◌, ◌≤ℤ◌, List, [], ◌∷◌, ◌++◌, length, map, refl, sym, ◌∙◌, ap, subst, arith}
+use Rattle.std.proofs.Common.{◌≡◌, ◌⊎◌, inl, inr, ⊎_elim, ℕ, ◌+◌, ◌*◌, ◌≤◌, ℤ, pos, ◌+ℤ◌, ◌-ℤ◌, ◌≤ℤ◌, List, [], ◌∷◌, ◌++◌, length, map, refl, sym, ◌∙◌, ap, subst, arith}
 use Rattle.std.proofs.lemmas.Int.{ints, by_lt_z}
 use Rattle.itpg_base.specs.Decided.{Decided}
 use Rattle.itpg_base.specs.Lists.{Among, Ordered}
@@ -19,9 +19,10 @@ use Rattle.relation_rows.specs.Relations.{Item, ItemsHold}
 use Rattle.relation_rows.proofs.Alike.{fits_alike, hold_only, rows_alike, rows_hold}
 use Rattle.relation_rows.proofs.Finite.{items_there, union_there}
 use Rattle.relation_rows.proofs.Listed.{row_apart}
-use Rattle.wide_witness.specs.Along.{AlongRow, AlongRows, IsAlong, LeadOneOn, StandFree}
+use Rattle.wide_witness.specs.Along.{AlongRows, IsAlong, LeadOneOn}
 use Rattle.wide_witness.specs.Steps.{point}
 use Rattle.wide_witness.proofs.Counting.{finders_fewer}
+use Rattle.wide_witness.proofs.StandingFree.{ends_go_on, StandFree}
 use Rattle.wide_witness.proofs.Stretches.{from_parts, one_row, point_same, to_parts}
 
 -- ---- lists
@@ -79,15 +80,6 @@ bends_of n r =
     let over = r.band.to +ℤ pos 2 in
     point o from ∷ point o (from +ℤ pos 1) ∷ point o (over -ℤ pos n) ∷ point o ((over -ℤ pos n) +ℤ pos 1) ∷ point o over ∷ point o (over +ℤ pos 1) ∷ []
 
--- ---- ends
-
--- ends that agree at a moment and at the one before it agree at the next
-ends_go_on : (e f : End) (t : ℤ) → end_at e (t -ℤ pos 1) ≡ end_at f (t -ℤ pos 1) → end_at e t ≡ end_at f t → end_at e (t +ℤ pos 1) ≡ end_at f (t +ℤ pos 1)
-ends_go_on (Fixed m) (Fixed n) t p q = q
-ends_go_on (Fixed m) (Moving k) t p q = absurd (omega (arith, ints, p, q))
-ends_go_on (Moving j) (Fixed n) t p q = absurd (omega (arith, ints, p, q))
-ends_go_on (Moving j) (Moving k) t p q = omega (arith, ints, q)
-
 -- ---- the relation
 
 module _ (one steps : List Row) (one_formed : (r : Row) → Among one r → IsWellFormed r.band) (formed : (r : Row) → Among steps r → IsWellFormed r.band) (on : LeadOneOn steps) (free : Ordered StandFree steps)
@@ -106,12 +98,15 @@ module _ (one steps : List Row) (one_formed : (r : Row) → Among one r → IsWe
       let from = p.from in
       let order = p.order in
       let to = p.to in
-      let near = p.near in
-      (item_along r, among_map item_along steps r a, record {
-        source = k.source;
-        target = k.target;
-        pair = record { from = from; to = omega (arith, ints, order, to); low = omega (arith, ints, from, order); high = to; least = omega (arith, ints, order); most = omega (arith, ints, near) };
-      })
+      let near = p.near in (
+        item_along r,
+        among_map item_along steps r a,
+        record {
+          source = k.source;
+          target = k.target;
+          pair = record { from = from; to = omega (arith, ints, order, to); low = omega (arith, ints, from, order); high = to; least = omega (arith, ints, order); most = omega (arith, ints, near) };
+        },
+      )
 
   item_leads : (x y : Point) → ItemsHold (map item_along steps) x y → AlongRows steps n x y
   unfolding item_along
@@ -128,11 +123,13 @@ module _ (one steps : List Row) (one_formed : (r : Row) → Among one r → IsWe
   parts_there : HasRows Parts
   parts_there =
       let w = items_there (map item_along steps) in
-      let u = union_there one w.0 in
-      (u.0, rows_alike (λ x y. RowsHold one x y ⊎ RowsHold w.0 x y) Parts
-      (λ x y h. ⊎_elim (λ a. inl a) (λ a. inr (item_leads x y (hold_only (ItemsHold (map item_along steps)) w.0 w.1 x y a))) h)
-      (λ x y h. ⊎_elim (λ a. inl a) (λ a. inr (rows_hold (ItemsHold (map item_along steps)) w.0 w.1 x y (along_item x y a))) h)
-      u.0 u.1)
+      let u = union_there one w.0 in (
+        u.0,
+        rows_alike (λ x y. RowsHold one x y ⊎ RowsHold w.0 x y) Parts
+            (λ x y h. ⊎_elim (λ a. inl a) (λ a. inr (item_leads x y (hold_only (ItemsHold (map item_along steps)) w.0 w.1 x y a))) h)
+            (λ x y h. ⊎_elim (λ a. inl a) (λ a. inr (rows_hold (ItemsHold (map item_along steps)) w.0 w.1 x y (along_item x y a))) h)
+            u.0 u.1,
+      )
 
   -- it stays at the object, and leads to no earlier moment
   stays_at : (x y : Point) → Parts x y → (x.object ≡ y.object) × (x.moment ≤ℤ y.moment)
@@ -259,25 +256,25 @@ module _ (one steps : List Row) (one_formed : (r : Row) → Among one r → IsWe
         let last = p.to in
         elim (some_of Spans spans_decided steps) [
           | inr none ↦ record {
-              high = Moving (pos 0);
-              before = run_alone o (t -ℤ pos 1) ((t -ℤ pos 1) +ℤ pos 0) (omega (arith, ints)) (itself_at q b i.source (t -ℤ pos 1) first (omega (arith, ints, last))) (none_near none (t -ℤ pos 1) (omega (arith, ints)) (omega (arith, ints)));
-              here = run_alone o t (t +ℤ pos 0) (omega (arith, ints)) (itself_at q b i.source t (omega (arith, ints, first)) (omega (arith, ints, last))) (none_near none t (omega (arith, ints)) (omega (arith, ints)));
-              after = run_alone o (t +ℤ pos 1) ((t +ℤ pos 1) +ℤ pos 0) (omega (arith, ints)) (q, b, i) (none_near none (t +ℤ pos 1) (omega (arith, ints)) (omega (arith, ints)));
-            }
+            high = Moving (pos 0);
+            before = run_alone o (t -ℤ pos 1) ((t -ℤ pos 1) +ℤ pos 0) (omega (arith, ints)) (itself_at q b i.source (t -ℤ pos 1) first (omega (arith, ints, last))) (none_near none (t -ℤ pos 1) (omega (arith, ints)) (omega (arith, ints)));
+            here = run_alone o t (t +ℤ pos 0) (omega (arith, ints)) (itself_at q b i.source t (omega (arith, ints, first)) (omega (arith, ints, last))) (none_near none t (omega (arith, ints)) (omega (arith, ints)));
+            after = run_alone o (t +ℤ pos 1) ((t +ℤ pos 1) +ℤ pos 0) (omega (arith, ints)) (q, b, i) (none_near none (t +ℤ pos 1) (omega (arith, ints)) (omega (arith, ints)));
+          }
           | inl (r, a, (source, from, to)) ↦
               let begins : r.band.from ≤ℤ (t -ℤ pos 1) = by_lt_z (t -ℤ pos 1) r.band.from
-                  (λ lt. by_lt_z r.band.from (t +ℤ pos 1)
-                  (λ less. absurd (no_bend r a source (r.band.from +ℤ pos 1) (inr (inl refl)) (omega (arith, ints, lt, less))))
-                  (λ le. absurd (no_bend r a source r.band.from (inl refl) (omega (arith, ints, le, from)))))
-                  (λ le. le) in
+              (λ lt. by_lt_z r.band.from (t +ℤ pos 1)
+              (λ less. absurd (no_bend r a source (r.band.from +ℤ pos 1) (inr (inl refl)) (omega (arith, ints, lt, less))))
+              (λ le. absurd (no_bend r a source r.band.from (inl refl) (omega (arith, ints, le, from)))))
+              (λ le. le) in
               by_lt_z (r.band.to +ℤ pos 1) ((t +ℤ pos 1) +ℤ pos n)
               (λ lt.
               let over = r.band.to +ℤ pos 2 in
               let cut : (r.band.to +ℤ pos 1) ≤ℤ ((t -ℤ pos 1) +ℤ pos n) = by_lt_z ((t -ℤ pos 1) +ℤ pos n) (r.band.to +ℤ pos 1)
-                  (λ less. by_lt_z (over -ℤ pos n) (t +ℤ pos 1)
-                  (λ l. absurd (no_bend r a source ((over -ℤ pos n) +ℤ pos 1) (inr (inr (inr (inl refl)))) (omega (arith, ints, less, l))))
-                  (λ l. absurd (no_bend r a source (over -ℤ pos n) (inr (inr (inl refl))) (omega (arith, ints, lt, l)))))
-                  (λ le. le) in
+              (λ less. by_lt_z (over -ℤ pos n) (t +ℤ pos 1)
+              (λ l. absurd (no_bend r a source ((over -ℤ pos n) +ℤ pos 1) (inr (inr (inr (inl refl)))) (omega (arith, ints, less, l))))
+              (λ l. absurd (no_bend r a source (over -ℤ pos n) (inr (inr (inl refl))) (omega (arith, ints, lt, l)))))
+              (λ le. le) in
               record {
                 high = Fixed (r.band.to +ℤ pos 1);
                 before = run_within o r a source (t -ℤ pos 1) (r.band.to +ℤ pos 1) begins (omega (arith, ints, to)) (omega (arith, ints)) cut (inl refl);
@@ -304,8 +301,8 @@ module _ (one steps : List Row) (one_formed : (r : Row) → Among one r → IsWe
         let stays = stays_at (point r.source.0 t) (point r.target.0 low) pair in
         let le = stays.1 in
         let is : low ≡ t = by_lt_z t low
-            (λ lt. absurd (run.below (leads_before r.source.0 r.target.0 t low pair (omega (arith, ints, lt)))))
-            (λ ge. omega (arith, ints, le, ge)) in
+        (λ lt. absurd (run.below (leads_before r.source.0 r.target.0 t low pair (omega (arith, ints, lt)))))
+        (λ ge. omega (arith, ints, le, ge)) in
         (stays.0, is)
 
     -- so it leads the point there to itself

@@ -1,22 +1,20 @@
 -- Rows of steps that are read one after the other, and their zones.
-use Rattle.std.proofs.Common.{◌≡◌, ◌↔◌, ◌⊎◌, inl, inr, ⊎_elim, ℕ, ◌+◌, ◌<◌, ◌≤◌, ℤ, pos, ◌+ℤ◌, ◌≤ℤ◌, List, [], ◌∷◌, ◌++◌, length, min, get_or, slice_index_or, take, refl, subst, sym, arith}
+use Rattle.std.proofs.Common.{◌≡◌, ◌↔◌, ◌⊎◌, inl, inr, ⊎_elim, ℕ, ◌+◌, ◌<◌, ◌≤◌, ℤ, pos, ◌+ℤ◌, List, [], ◌∷◌, ◌++◌, length, min, slice_index_or, take, refl, subst, sym, arith}
 use Rattle.std.proofs.lemmas.Int.{ints}
 use Rattle.std.proofs.lemmas.List.{take_more, take_all}
-use Rattle.itpg_base.specs.Lists.{Among, Ordered}
+use Rattle.itpg_base.specs.Lists.{Among}
 use Rattle.itpg_base.specs.Points.{Point}
-use Rattle.itpg_base.proofs.Lists.{among_append, among_at, append_first, append_second, ordered_as, ordered_from_neighbours}
+use Rattle.itpg_base.proofs.Lists.{among_append, append_first, append_second}
 use Rattle.itpg_base.proofs.Searches.{at_most}
 use Rattle.zone_core.specs.declared.Bounds.{Bounds}
 use Rattle.zone_core.specs.Zone.{IsNear, Meets, Within, moment_reach}
-use Rattle.band_normal.specs.declared.band.Band.{Band}
 use Rattle.band_normal.specs.Bands.{IsWellFormed}
 use Rattle.relation_rows.specs.declared.rows.Row.{Row}
 use Rattle.relation_rows.specs.Relations.{Item, ItemsHold}
 use Rattle.relation_rows.specs.Rows.{NormalRows, RowsHold}
 use Rattle.relation_rows.proofs.Alike.{hold_only, rows_hold}
-use Rattle.relation_rows.proofs.Neighbours.{AreNext}
 use Rattle.relation_rows.proofs.Pushing.{items_more}
-use Rattle.wide_witness.specs.Along.{AlongBand, AlongRow, AlongRows, LeadOneOn, LeadsOneOn, StandFree}
+use Rattle.wide_witness.specs.Along.{AlongBand, AlongRow, AlongRows, LeadOneOn, LeadsOneOn}
 
 -- ---- rows that are read
 
@@ -32,23 +30,6 @@ one_more_on rows k d lt on so r a = ⊎_elim
 
 pub all_on : (rows : List Row) (k : ℕ) → length rows ≤ k → LeadOneOn (take k rows) → LeadOneOn rows
 all_on rows k le so = subst LeadOneOn (take_all k rows le) so
-
--- the second row stands free, and has a departure
-StandsFormed : Row → Row → Type 0
-StandsFormed r s = StandFree r s × (s.band.from ≤ℤ s.band.to)
-
-free_on : (r s t : Row) → StandsFormed r s → StandsFormed s t → StandsFormed r t
-unfolding StandsFormed
-free_on r s t (inl a, f) (inl b, g) = (inl (omega (arith, a, b)), g)
-free_on r s t (inl a, f) (inr (e, b), g) = (inl (omega (arith, a, e)), g)
-free_on r s t (inr (e, a), f) (inl b, g) = (inl (omega (arith, e, b)), g)
-free_on r s t (inr (e, a), f) (inr (h, b), g) = (inr (omega (arith, e, h), omega (arith, ints, a, f, b)), g)
-
-pub all_free : (rows : List Row) (i : ℕ) → ((r : Row) → Among rows r → IsWellFormed r.band) → length rows ≤ i → AreNext StandFree rows i → Ordered StandFree rows
-unfolding StandsFormed
-all_free rows i formed le so =
-    ordered_as StandsFormed StandFree (λ r s h. h.0) rows
-    (ordered_from_neighbours StandsFormed free_on rows (λ k d lt. (so k d (omega arith), (formed (get_or rows (k + 1) d) (among_at rows (k + 1) d lt)).span)))
 
 -- ---- zones
 

@@ -7,8 +7,9 @@ use Rattle.itpg_base.proofs.Lists.{ordered_either}
 use Rattle.band_normal.specs.Bands.{IsWellFormed}
 use Rattle.relation_rows.specs.declared.rows.Row.{Row}
 use Rattle.relation_rows.specs.Rows.{InRow, RowsHold}
-use Rattle.wide_witness.specs.Along.{AlongRow, AlongRows, IsAlong, LeadOneOn, StandFree}
+use Rattle.wide_witness.specs.Along.{AlongRow, AlongRows, IsAlong, LeadOneOn}
 use Rattle.wide_witness.specs.Steps.{Reaches, point}
+use Rattle.wide_witness.proofs.StandingFree.{StandFree}
 
 -- points of one object at one moment are one
 pub point_same : (x y : Point) → x.object ≡ y.object → x.moment ≡ y.moment → x ≡ y
@@ -74,11 +75,15 @@ module _ (steps : List Row) (formed : (r : Row) → Among steps r → IsWellForm
             let ends : x.moment ≤ℤ s.band.to = subst (λ (v : Point). v.moment ≤ℤ s.band.to) (sym e) to in
             let later : y.moment ≡ x.moment +ℤ pos 1 = subst (λ (v : Point). y.moment ≡ v.moment +ℤ pos 1) (sym e) moves in
             let source : s.source.0 ≡ x.object = subst (λ (v : Point). s.source.0 ≡ v.object) (sym e) i.source in
-            inr (s, b, record {
-              source = source;
-              target = i.source ∙ next.0;
-              pair = record { from = begins; order = omega (arith, ints, later); to = omega (arith, ints, later, ends); near = omega (arith, ints, later) };
-            })
+            inr (
+              s,
+              b,
+              record {
+                source = source;
+                target = i.source ∙ next.0;
+                pair = record { from = begins; order = omega (arith, ints, later); to = omega (arith, ints, later, ends); near = omega (arith, ints, later) };
+              },
+            )
         | inr (r, a, k) ↦
             let q = k.pair in
             let begins = q.from in
@@ -87,11 +92,15 @@ module _ (steps : List Row) (formed : (r : Row) → Among steps r → IsWellForm
             let near = q.near in
             let e = one_row r s a b z.moment (k.target ∙ sym i.source) (omega (arith, ints, begins, order)) ends from (omega (arith, ints, to)) in
             let within : z.moment ≤ℤ r.band.to = subst (λ (v : Row). z.moment ≤ℤ v.band.to) (sym e) to in
-            inr (r, a, record {
-              source = k.source;
-              target = k.target ∙ next.0;
-              pair = record { from = begins; order = omega (arith, ints, order, moves); to = omega (arith, ints, within, moves); near = omega (arith, ints, near, moves) };
-            })
+            inr (
+              r,
+              a,
+              record {
+                source = k.source;
+                target = k.target ∙ next.0;
+                pair = record { from = begins; order = omega (arith, ints, order, moves); to = omega (arith, ints, within, moves); near = omega (arith, ints, near, moves) };
+              },
+            )
       ]
 
   along_leads : (n : ℕ) (x y : Point) → AlongRows steps n x y → Reaches (RowsHold steps) n x y

@@ -1,5 +1,5 @@
 -- Steps that lead each object to itself one moment later, and where many of them lead.
-use Rattle.std.specs.Prelude.{◌≡◌, ◌⊎◌, ℕ, ◌<◌, ℤ, pos, ◌+ℤ◌, ◌≤ℤ◌, ◌<ℤ◌, List}
+use Rattle.std.specs.Prelude.{◌≡◌, ℕ, ℤ, pos, ◌+ℤ◌, ◌≤ℤ◌, List}
 use Rattle.itpg_base.specs.Lists.{Among}
 use Rattle.itpg_base.specs.Points.{Point, Relation}
 use Rattle.band_normal.specs.declared.band.Band.{Band}
@@ -26,10 +26,6 @@ pub record LeadsOneOn (r : Row) : Type 0 where
 -- each row does
 abbrev pub LeadOneOn : List Row → Type 0
 LeadOneOn rows = (r : Row) → Among rows r → LeadsOneOn r
-
--- the second row is of a later object, or of the same, and a departure is free between the two
-abbrev pub StandFree : Row → Row → Type 0
-StandFree r s = (r.source.0 < s.source.0) ⊎ ((r.source.0 ≡ s.source.0) × ((r.band.to +ℤ pos 1) <ℤ s.band.from))
 
 -- from the one moment steps of the band lead to the other, at most n of them
 pub record AlongBand (band : Band) (n : ℕ) (t u : ℤ) : Type 0 where

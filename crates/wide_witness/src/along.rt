@@ -1,17 +1,17 @@
 //! Repetitions of steps that lead each object to itself one moment later.
 //!
-//! At most n of them lead a point to itself, and along each stretch of moments up to n moments on. So where no two stretches touch, the zones
-//! of this are had at once from the rows of the steps.
+//! At most n of them lead a point to itself, and up to n moments on within its stretch, the departures of a row and the moment after them. No
+//! two stretches of an object touch, since their rows would be one. So the zones of this are had at once from the rows of the steps.
 
 ghost use Rattle.std.specs.Prelude.{◌≡◌, ◌⊎◌, ◌↔◌, ◌+◌, ◌*◌, ◌≤◌, ℕ, ℤ, length, IsTrue, IfOk, IfSome, OnOk};
-ghost use Rattle.itpg_base.specs.Lists.{Among, Ordered};
+ghost use Rattle.itpg_base.specs.Lists.{Among};
 ghost use Rattle.itpg_base.specs.Points.{Point};
 ghost use Rattle.zone_core.specs.Zone.{Meets};
 ghost use Rattle.band_normal.specs.Bands.{IsWellFormed};
 ghost use Rattle.relation_rows.specs.declared.rows.Row.{Row as PlainRow};
 ghost use Rattle.relation_rows.specs.Relations.{ItemsHold};
 ghost use Rattle.relation_rows.specs.Rows.{Fits, RowsHold};
-ghost use Rattle.wide_witness.specs.Along.{AlongBand, AlongRows, IsAlong, IsOneOn, LeadOneOn, LeadsOneOn, StandFree};
+ghost use Rattle.wide_witness.specs.Along.{AlongBand, AlongRows, IsAlong, IsOneOn, LeadOneOn, LeadsOneOn};
 
 use band_normal::{Band, End, zone_of};
 use itpg_base::ObjNo;
@@ -60,29 +60,6 @@ fn lead_one_on(rows: &[Row]) -> bool
     true
 }
 
-// Whether the next row is of a later object, or of the same, and a departure is free between the two.
-fn is_free_between(row: &Row, next: &Row) -> bool
-    ensures { IsTrue result → StandFree row.now next.now }
-{
-    if row.source.0 != next.source.0 {
-        return row.source.0 < next.source.0;
-    }
-    row.band.to < next.band.from && row.band.to + 1 < next.band.from
-}
-
-// Whether it is so for all neighbours, and so for any two rows.
-fn stand_free(rows: &[Row]) -> bool
-    requires { (r : PlainRow) → Among rows.now r → IsWellFormed r.band }
-    ensures { IsTrue result → Ordered StandFree rows.now }
-{
-    for i in 1..rows.len() {
-        if !is_free_between(&rows[i - 1], &rows[i]) {
-            return false;
-        }
-    }
-    true
-}
-
 // Whether six rows for each of the steps and two for each of the one relation are within the limit.
 //
 // For any number of steps a row begins where it begins to be cut otherwise how far they lead, or one moment later. That is where a row of the
@@ -113,6 +90,7 @@ fn zone_along(row: &Row, most: u64) -> Zone
     tight(bounds).unwrap()
 }
 
+// Adds the zone of each row.
 fn push_rows(items: &mut Vec<Item>, rows: &[Row]) -> Result<(), AllocError>
     requires { (r : PlainRow) → Among rows.now r → IsWellFormed r.band }
     ensures { OnOk result ((x : Point) → (y : Point) → ItemsHold items.new.items x y ↔ (ItemsHold items.old.items x y ⊎ RowsHold rows.now x y)) }
@@ -123,6 +101,7 @@ fn push_rows(items: &mut Vec<Item>, rows: &[Row]) -> Result<(), AllocError>
     Ok(())
 }
 
+// Adds where at most so many steps of each row lead.
 fn push_along(items: &mut Vec<Item>, rows: &[Row], most: u64) -> Result<(), AllocError>
     requires formed { (r : PlainRow) → Among rows.now r → IsWellFormed r.band }
     requires steps { LeadOneOn rows.now }
@@ -158,13 +137,14 @@ pub fn along_time(
     ensures made { IfOk result (λ o. IfSome o (λ all. (x : Point) → (y : Point) → RowsHold all x y ↔ IsAlong one.now steps.now most x y)) }
     ensures fits { IfOk result (λ o. IfSome o (λ _. (n : ℕ) → Fits (IsAlong one.now steps.now n) max_rows)) }
 {
-    let rows = steps.rows();
-    if !lead_one_on(rows) || !stand_free(rows) || !are_few(one, steps, max_rows) {
+    let one_rows = one.rows();
+    let step_rows = steps.rows();
+    if !lead_one_on(step_rows) || !are_few(one, steps, max_rows) {
         return Ok(None);
     }
-    let mut items = Vec::new(alloc);
-    push_rows(&mut items, one.rows())?;
-    push_along(&mut items, rows, most)?;
+    let mut items = Vec::with_capacity(alloc, one_rows.len().saturating_add(step_rows.len()))?;
+    push_rows(&mut items, one_rows)?;
+    push_along(&mut items, step_rows, most)?;
     match Relation::from_zones(alloc, items, max_rows) {
         Ok(all) => Ok(Some(all)),
         Err(RelFault::Memory) => Err(AllocError),

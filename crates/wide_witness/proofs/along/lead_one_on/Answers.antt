@@ -1,5 +1,4 @@
 use Rattle.itpg_base.proofs.Lists.{among_at}
-use Rattle.std.proofs.Common.{refl}
 use Rattle.wide_witness.proofs.StepRows.{all_on, none_on, one_more_on}
 use Rattle.wide_witness.proofs.along.lead_one_on.Goals as goal
 

@@ -1,6 +1,6 @@
-use Rattle.std.proofs.Common.{◌≡◌, ◌↔◌, ◌≤◌, ◌⊎◌, inl, inr, ⊎_elim, ℕ, ℤ, pos, ◌+ℤ◌, Option, SFits, w64, to_z, of_z, to_z-of_z, rules, arith, sym, subst}
+use Rattle.std.proofs.Common.{◌≡◌, ◌↔◌, ◌≤◌, pos, ◌+ℤ◌, Option, SFits, w64, to_z, to_z-of_z, arith, subst}
 use Rattle.std.proofs.lemmas.Int.{ints, to_z_pos}
-use Rattle.zone_core.specs.Zone.{Holds, IsNear, Meets}
+use Rattle.zone_core.specs.Zone.{Holds, Meets}
 use Rattle.zone_core.specs.declared.Bounds.{Bounds}
 use Rattle.wide_witness.proofs.StepRows.{along_bounds, along_meets, along_near, along_some, last_near, least_of}
 use Rattle.wide_witness.proofs.along.zone_along.Goals as goal
