@@ -110,12 +110,7 @@ impl Composed for Powers<'_, '_> {
         Ok(())
     }
 
-    fn at_once(
-        &self,
-        one: &Relation,
-        x: &Relation,
-        n: u64,
-    ) -> Result<Option<Relation>, RelFault> {
+    fn at_once(&self, one: &Relation, x: &Relation, n: u64) -> Result<Option<Relation>, RelFault> {
         let all = along_time(self.ground.alloc, one, x, n, self.ground.max_rows)?;
         Ok(all)
     }
