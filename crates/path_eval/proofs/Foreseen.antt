@@ -18,7 +18,7 @@ module _ (g : Graph) (u : Scope) (rows : List Row) (own : StaysInside g u (Given
   To n = union_of_powers relations (Given rows) n
 
   -- from a point inside
-  union_reaches : (p : Point) → IsInside g u p → (n : ℕ) (y : Point) → Leads g u (To n) p y ↔ Reaches (RowsHold rows) n p y
+  pub union_reaches : (p : Point) → IsInside g u p → (n : ℕ) (y : Point) → Leads g u (To n) p y ↔ Reaches (RowsHold rows) n p y
   unfolding union_of_powers Reaches
   union_reaches p inside zero y = (λ h. h.1, λ e. (inside, e))
   union_reaches p inside (suc n) y =

@@ -5,6 +5,7 @@ pub mod Wider
 pub mod WithinBoth
 pub mod Finite
 pub mod Fitting
+mod AtOnce
 mod Foreseen
 pub mod Joining
 pub mod Leading
