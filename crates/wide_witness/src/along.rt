@@ -93,7 +93,7 @@ fn zone_along(row: &Row, most: u64) -> Zone
 // Adds the zone of each row.
 fn push_rows(items: &mut Vec<Item>, rows: &[Row]) -> Result<(), AllocError>
     requires { (r : PlainRow) → Among rows.now r → IsWellFormed r.band }
-    ensures { OnOk result ((x : Point) → (y : Point) → ItemsHold items.new.items x y ↔ (ItemsHold items.old.items x y ⊎ RowsHold rows.now x y)) }
+    ensures { OnOk result ((x y : Point) → ItemsHold items.new.items x y ↔ (ItemsHold items.old.items x y ⊎ RowsHold rows.now x y)) }
 {
     for row in rows {
         items.push((row.source, row.target, zone_of(&row.band)))?;
@@ -105,7 +105,7 @@ fn push_rows(items: &mut Vec<Item>, rows: &[Row]) -> Result<(), AllocError>
 fn push_along(items: &mut Vec<Item>, rows: &[Row], most: u64) -> Result<(), AllocError>
     requires formed { (r : PlainRow) → Among rows.now r → IsWellFormed r.band }
     requires steps { LeadOneOn rows.now }
-    ensures { OnOk result ((x : Point) → (y : Point) → ItemsHold items.new.items x y ↔ (ItemsHold items.old.items x y ⊎ AlongRows rows.now most x y)) }
+    ensures { OnOk result ((x y : Point) → ItemsHold items.new.items x y ↔ (ItemsHold items.old.items x y ⊎ AlongRows rows.now most x y)) }
 {
     for row in rows {
         items.push((row.source, row.source, zone_along(row, most)))?;

@@ -2,7 +2,7 @@ use Rattle.std.proofs.Common.{◌↔◌, ◌⊎◌, subst, List}
 use Rattle.relation_rows.specs.declared.rows.Row.{Row}
 use Rattle.relation_rows.specs.Rows.{RowsHold}
 use Rattle.wide_witness.specs.Along.{AlongRows, LeadOneOn}
-use Rattle.wide_witness.proofs.Breaks.{along_fits}
+use Rattle.wide_witness.proofs.FewRows.{along_fits}
 use Rattle.wide_witness.proofs.StandingFree.{all_free}
 use Rattle.wide_witness.proofs.StepRows.{rows_made}
 use Rattle.wide_witness.proofs.Stretches.{from_parts, to_parts}
