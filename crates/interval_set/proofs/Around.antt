@@ -5,7 +5,7 @@ use Rattle.std.proofs.lemmas.Int.{ints}
 use Rattle.itpg_base.specs.Spans.{Span, IsSpan}
 use Rattle.itpg_base.specs.Graphs.{Valued, AreRunsOfValues}
 use Rattle.interval_set.specs.Places.{IsNear, AreNeighbours}
-use Rattle.itpg_base.proofs.Lists.{among_at}
+use Rattle.itpg_base.proofs.Lists.{among_at, among_take}
 use Rattle.interval_set.proofs.Rising.{each_run_span}
 use Rattle.interval_set.proofs.Searched.{at_take, at_drop, at_middle}
 
@@ -31,3 +31,12 @@ neighbours_from xs s first last c span within within' before reaching reached af
   });
   after = after;
 }
+
+-- the runs that end apart before a span have begun by its end
+pub begun_before : (xs : List Valued) (s : Span) (first : ℕ) → AreRunsOfValues xs → IsSpan s → All (λ r. (r.span.to +ℤ pos 1) <ℤ s.from) (take first xs) → All (λ r. r.span.from ≤ℤ (s.to +ℤ pos 1)) (take first xs)
+begun_before xs s first c span before k d lt =
+    let r = get_or (take first xs) k d in
+    let own : r.span.from ≤ℤ r.span.to = each_run_span xs r c (among_take xs first r (among_at (take first xs) k d lt)) in
+    let apart : (r.span.to +ℤ pos 1) <ℤ s.from = before k d lt in
+    let s_span : s.from ≤ℤ s.to = span in
+    omega (arith, ints)

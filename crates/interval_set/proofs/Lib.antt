@@ -1,6 +1,7 @@
 pub mod Coalesced
 pub mod Exists
 pub mod Searched
+pub mod Apart
 pub mod Outcomes
 pub mod Rising
 pub mod Around
@@ -21,3 +22,4 @@ pub mod Changed
 pub mod Inserted
 pub mod ShortValues
 pub mod WithValue
+pub mod Fewer

@@ -1,5 +1,6 @@
 //! Where a span lies among the items of a list that rises.
-ghost use Rattle.std.specs.Prelude.{◌≡◌, ◌↔◌, ◌≤◌, ℤ, pos, ◌+ℤ◌, ◌≤ℤ◌, ◌<ℤ◌, List, length, take, drop, map, All, IsTrue, IsNone, IfSome, option_map};
+ghost use Rattle.std.specs.Prelude.{◌≡◌, ◌↔◌, ◌≤◌, ◌<◌, ◌+◌, ℤ, pos, ◌+ℤ◌, ◌≤ℤ◌, ◌<ℤ◌, List};
+ghost use Rattle.std.specs.Prelude.{length, take, drop, map, All, true, false, IsTrue, IsNone, IfSome, option_map};
 ghost use Rattle.std.specs.Option.{option_copied};
 ghost use Rattle.itpg_base.specs.Spans.{Span as PlainSpan, IsSpan};
 ghost use Rattle.itpg_base.specs.Words.{Word};
@@ -49,10 +50,8 @@ pub(crate) fn neighbours<T: Spanned>(items: &[T], s: Span) -> (usize, usize)
     ensures ordered { IsSpan s }
     ensures places { AreNeighbours (map T.as_run items.now) s result.0 result.1 }
 {
-    (
-        ended_apart_before(items, s.from()),
-        begun_by_next(items, s.to()),
-    )
+    let first = ended_apart_before(items, s.from());
+    (first, begun_from(items, first, s.to()))
 }
 
 /// The first of the items that ends at the moment or later.
@@ -93,6 +92,38 @@ fn ended_apart_before<T: Spanned>(items: &[T], t: i64) -> usize
     ensures near { All (λ r. t ≤ℤ (r.span.to +ℤ pos 1)) (drop result (map T.as_run items.now)) }
 {
     items.partition_point(|item| item.span().ends_apart_before(t))
+}
+
+/// How many of the items begin at the moment after `t`, or earlier, if those before `first` do.
+/// Mostly they are all, or one more is.
+fn begun_from<T: Spanned>(items: &[T], first: usize, t: i64) -> usize
+    requires runs { AreRunsOfValues (map T.as_run items.now) }
+    requires place { first ≤ length items.now }
+    requires begun { All (λ r. r.span.from ≤ℤ (t +ℤ pos 1)) (take first (map T.as_run items.now)) }
+    ensures within { result ≤ length items.now }
+    ensures near { All (λ r. r.span.from ≤ℤ (t +ℤ pos 1)) (take result (map T.as_run items.now)) }
+    ensures apart { All (λ r. (t +ℤ pos 1) <ℤ r.span.from) (drop result (map T.as_run items.now)) }
+{
+    if are_apart_from(items, first, t) {
+        return first;
+    }
+    if are_apart_from(items, first + 1, t) {
+        return first + 1;
+    }
+    begun_by_next(items, t)
+}
+
+/// Whether the items from the place on begin after `t`, with at least one moment missing between.
+fn are_apart_from<T: Spanned>(items: &[T], place: usize, t: i64) -> bool
+    requires { AreRunsOfValues (map T.as_run items.now) }
+    ensures apart { result ≡ true → All (λ r. (t +ℤ pos 1) <ℤ r.span.from) (drop place (map T.as_run items.now)) }
+    ensures within { result ≡ false → place < length items.now }
+    ensures near { result ≡ false → All (λ r. r.span.from ≤ℤ (t +ℤ pos 1)) (take (place + 1) (map T.as_run items.now)) }
+{
+    match items.get(place) {
+        Some(item) => item.span().begins_apart_after(t),
+        None => true,
+    }
 }
 
 /// How many of the items begin at the moment after `t`, or earlier.

@@ -1,5 +1,5 @@
 //! Sets of moments.
-ghost use Rattle.std.specs.Prelude.{◌≡◌, ◌↔◌, ◌⊎◌, ℤ, List, [], length, IsTrue, IfOk, OnOk, OnErr};
+ghost use Rattle.std.specs.Prelude.{◌≡◌, ◌<◌, ◌↔◌, ◌⊎◌, ℤ, List, [], length, IsTrue, IfOk, OnOk, OnErr};
 ghost use Rattle.itpg_base.specs.Spans.{Span as PlainSpan, Within, Covers, IsCoalesced};
 ghost use Rattle.interval_set.specs.Runs.{AreRuns};
 ghost use Rattle.interval_set.specs.Operations.{Keeps};
@@ -7,6 +7,7 @@ ghost use Rattle.interval_set.specs.Operations.{Keeps};
 use crate::changes::{clearing, putting};
 use crate::places::next_from;
 use crate::span::Span;
+use crate::splice::may_pass;
 use crate::sweep::{Operation, combined};
 use std::alloc::{AllocError, Global};
 use std::marker::Model;
@@ -104,6 +105,13 @@ impl IntervalSet {
         ensures { (spans : List PlainSpan) → AreRuns (λ t. Covers self.now t ⊎ Within t s) spans → result ≡ length spans }
     {
         putting(&self.spans, s).count(&self.spans)
+    }
+
+    /// Whether the set would have more than `most` spans with the moments of `s` added.
+    pub fn joins_beyond(&self, s: Span, most: usize) -> bool
+        ensures { (spans : List PlainSpan) → AreRuns (λ t. Covers self.now t ⊎ Within t s) spans → IsTrue result ↔ (most < length spans) }
+    {
+        may_pass(self.spans().len(), most) && self.count_joined(s) > most
     }
 
     /// Adds the moments of `s`. Without memory the set stays as it was.

@@ -1,5 +1,5 @@
 //! The one kind of splice that each change of a list makes.
-ghost use Rattle.std.specs.Prelude.{◌≡◌, ℕ, ◌*◌, ◌^◌, ◌<◌, ◌≤◌, ◌++◌, ◌∷◌, length, take, drop, vec_len, OnOk, OnErr};
+ghost use Rattle.std.specs.Prelude.{◌≡◌, ◌↔◌, ℕ, ◌+◌, ◌*◌, ◌^◌, ◌<◌, ◌≤◌, ◌++◌, ◌∷◌, length, take, drop, vec_len, IsTrue, OnOk, OnErr};
 ghost use Rattle.std.specs.Mem.{type_size};
 ghost use Rattle.interval_set.specs.Splices.{CanSplice, spliced};
 
@@ -55,6 +55,13 @@ impl<T: Copy> Splice<T> {
             (Some(a), Some(b), Some(c)) => replace_run(items, first, last, &[a, b, c]),
         }
     }
+}
+
+/// Whether a list of so many items may have more than `most` after a splice, which adds at most three.
+pub(crate) fn may_pass(count: usize, most: usize) -> bool
+    ensures { IsTrue result ↔ (most < count + 3) }
+{
+    most < 3 || most - 3 < count
 }
 
 /// Puts the piece before the item at the place. Most changes of a list do no more.

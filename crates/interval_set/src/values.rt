@@ -11,6 +11,7 @@ use crate::run::Run;
 use crate::set::IntervalSet;
 use crate::short_run::{ShortRun, any_runs};
 use crate::span::Span;
+use crate::splice::may_pass;
 use itpg_base::{Name, ShortName};
 use std::alloc::{AllocError, Global};
 use std::marker::Model;
@@ -123,7 +124,7 @@ impl ValuedSet {
     pub fn count_put(&self, s: Span, value: Name) -> usize
         ensures { (runs : List Valued) → AreRunsOf (HasPut self.now s value) runs → result ≡ length runs }
     {
-        match (&self.runs, ShortName::new(value.bytes())) {
+        match (&self.runs, ShortName::of(&value)) {
             (Runs::Short(runs), Some(value)) => {
                 let run = ShortRun { span: s, value };
                 putting(runs, run).count(runs)
@@ -132,6 +133,13 @@ impl ValuedSet {
             (Runs::Short(runs), None) => clearing(runs, s).count(runs) + 1,
             (Runs::Any(runs), _) => putting(runs, Run { span: s, value }).count(runs),
         }
+    }
+
+    /// Whether the set would have more than `most` runs with the value put over `s`.
+    pub fn puts_beyond(&self, s: Span, value: &Name, most: usize) -> bool
+        ensures { (runs : List Valued) → AreRunsOf (HasPut self.now s value.now) runs → IsTrue result ↔ (most < length runs) }
+    {
+        may_pass(self.count(), most) && self.count_put(s, *value) > most
     }
 
     /// Gives each moment of `s` the value, whatever was there. Without memory the set stays as it was.
@@ -145,7 +153,7 @@ impl ValuedSet {
         ensures ok { OnOk result (AreRunsOf (HasPut self.old s value) self.new) }
         ensures err { OnErr result (self.new ≡ self.old) }
     {
-        match (&mut self.runs, ShortName::new(value.bytes())) {
+        match (&mut self.runs, ShortName::of(&value)) {
             (Runs::Short(runs), Some(value)) => put_run(runs, ShortRun { span: s, value }),
             (Runs::Short(runs), None) => {
                 let mut any = any_runs(runs)?;

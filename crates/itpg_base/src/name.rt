@@ -21,8 +21,8 @@ pub const MAX_NAME: usize = 64;
 ///
 /// It is copied, and takes no memory beyond its own. A contract sees it as the list of its bytes.
 pub struct Name {
-    size: u8,
-    bytes: [u8; MAX_NAME],
+    pub(crate) size: u8,
+    pub(crate) bytes: [u8; MAX_NAME],
 }
 
 impl Model for Name {

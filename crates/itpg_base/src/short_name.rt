@@ -1,5 +1,5 @@
 //! Names of few bytes, in little room.
-ghost use Rattle.std.specs.Prelude.{◌≡◌, ◌≤◌, ◌<◌, ◌↔◌, length, nat_eq, IfSome, IsNone};
+ghost use Rattle.std.specs.Prelude.{◌≡◌, ◌≤◌, ◌<◌, ◌↔◌, length, nat_eq, IsTrue, IfSome, IsNone};
 ghost use Rattle.std.specs.Cmp.{partial_equiv_from_equiv};
 ghost use Rattle.std.specs.Cmp.Lexicographic.{nat_list_eq_equiv, pointwise};
 ghost use Rattle.std.specs.Cmp.Rules.{hashing};
@@ -54,12 +54,39 @@ impl ShortName {
         })
     }
 
+    /// The same name in little room; `None` exactly if it has more than `MAX_SHORT` bytes.
+    pub fn of(name: &Name) -> Option<ShortName>
+        ensures none { IsNone result ↔ (MAX_SHORT < length name.now) }
+        ensures some { IfSome result (λ short. short ≡ name.now) }
+    {
+        if name.size as usize > MAX_SHORT {
+            return None;
+        }
+        // As many bytes for each name, so that they are copied and read in the same pieces.
+        let mut bytes = [0; MAX_SHORT];
+        bytes.copy_from_slice(&name.bytes[..MAX_SHORT]);
+        Some(ShortName {
+            size: name.size,
+            bytes,
+        })
+    }
+
     /// The bytes of the name, at most `MAX_SHORT`.
     pub fn bytes(&self) -> &[u8]
         ensures value { result.now ≡ self.now }
         ensures short { length self.now ≤ MAX_SHORT }
     {
         &self.bytes[..self.size as usize]
+    }
+
+    /// Whether it is the same name. Both are compared in the same two pieces, whatever their size.
+    pub fn is(&self, name: &Name) -> bool
+        ensures { IsTrue result ↔ (self.now ≡ name.now) }
+    {
+        if self.size != name.size || !are_same_eight(&self.bytes[..8], &name.bytes[..8]) {
+            return false;
+        }
+        are_same_eight(&self.bytes[6..], &name.bytes[6..MAX_SHORT])
     }
 
     /// The same name in the room of any name.
@@ -78,6 +105,19 @@ fn short_block(bytes: &[u8]) -> [u8; MAX_SHORT]
     let mut block = [0; MAX_SHORT];
     block[..bytes.len()].copy_from_slice(bytes);
     block
+}
+
+// Whether eight bytes are the same: they are compared as one number.
+fn are_same_eight(first: &[u8], second: &[u8]) -> bool
+    requires first { length first.now ≡ 8 }
+    requires second { length second.now ≡ 8 }
+    ensures { IsTrue result ↔ (first.now ≡ second.now) }
+{
+    let mut one = [0; 8];
+    one.copy_from_slice(first);
+    let mut other = [0; 8];
+    other.copy_from_slice(second);
+    u64::from_le_bytes(one) == u64::from_le_bytes(other)
 }
 
 impl Copy for ShortName {}

@@ -1,5 +1,6 @@
 -- Whether a family fits after a change.
-use Rattle.std.proofs.Common.{◌≡◌, ℕ, ◌<◌, ◌≤◌, ℤ, List, [], ◌∷◌, ◌⊎◌, inl, inr, ⊎_elim, length, sym, ap, subst, arith}
+use Rattle.std.proofs.Common.{◌≡◌, ◌↔◌, ℕ, ◌<◌, ◌≤◌, ℤ, List, [], ◌∷◌, ◌⊎◌, inl, inr, ⊎_elim, length, Bool, true, false, true≢false, sym, ap, subst, arith, ◌∙◌}
+use Rattle.std.proofs.lemmas.Bool.{cases_lt}
 use Rattle.itpg_base.specs.Words.{Word}
 use Rattle.itpg_base.specs.Spans.{Span, IsSpan, Within, Covers}
 use Rattle.itpg_base.specs.declared.limits.TheConstants.{MAX_SPANS}
@@ -11,20 +12,23 @@ use Rattle.itpg_graph.specs.Changes.{FitFamily}
 use Rattle.itpg_graph.specs.Families.{ValOutside, ValPut, HasCutFamily, FitPut, FitClear, HasProperty}
 use Rattle.itpg_graph.proofs.Parts.{some_value}
 use Rattle.itpg_graph.proofs.Cutting.{no_runs}
-use Rattle.itpg_graph.proofs.Asked.{alike_put, alike_clear}
+use Rattle.itpg_graph.proofs.Asked.{alike_put, put_alike, alike_clear}
 use Rattle.itpg_edit.specs.Facts.{AreManySpans, AreManyRuns, AreManyCut}
 use Rattle.itpg_edit.proofs.Moments.{alike_joined, joined_alike}
 
+-- a list is within a limit where a test for more says so
+within_by : {test : Bool} (most count : ℕ) → (test ≡ true) ↔ (most < count) → test ≡ false → count ≤ most
+within_by most count told is = ⊎_elim (λ more. absurd (true≢false (sym (told.1 more) ∙ is))) (λ le. le) (cases_lt most count)
+
 -- existence after a join
-module _ (g : Graph) (o : ℕ) (live : List Span) (s : Span) (is : ObjectIs g o (λ x. live ≡ x.live)) (count : ℕ) (counted : (spans : List Span) → AreRuns (λ t. Covers live t ⊎ Within t s) spans → count ≡ length spans) where
-  pub joins_many : MAX_SPANS < count → AreManySpans (λ t. Exists g o t ⊎ Within t s)
+module _ (g : Graph) (o : ℕ) (live : List Span) (s : Span) (is : ObjectIs g o (λ x. live ≡ x.live)) (beyond : Bool) (told : (spans : List Span) → AreRuns (λ t. Covers live t ⊎ Within t s) spans → (beyond ≡ true) ↔ (MAX_SPANS < length spans)) where
+  pub joins_many : beyond ≡ true → AreManySpans (λ t. Exists g o t ⊎ Within t s)
   joins_many many =
       let r = joined_exists live s in
-      let c = counted r.0 r.1 in
-      record { spans = r.0; are = alike_joined g o live is s r.0 r.1; many = omega arith }
+      record { spans = r.0; are = alike_joined g o live is s r.0 r.1; many = (told r.0 r.1).0 many }
 
-  pub joins_few : count ≤ MAX_SPANS → FitFamily g o s
-  joins_few few = λ spans runs. let c = counted spans (joined_alike g o live is s spans runs) in omega arith
+  pub joins_few : beyond ≡ false → FitFamily g o s
+  joins_few few = λ spans runs. within_by MAX_SPANS (length spans) (told spans (joined_alike g o live is s spans runs)) few
 
 -- a wide family after a cut
 pub cuts_many : (g : Graph) (o : ℕ) (s : Span) (n : ℕ) → HasCutFamily g o s n → MAX_SPANS < n → AreManyCut g o s
@@ -35,12 +39,14 @@ cuts_many g o s n family many = elim family [
 
 -- the values of a property that has some
 module _ (g : Graph) (o : ℕ) (prop : Word) (values : List Valued) (s : Span) (are : AreRunsOf (Val g o prop) values) where
-  module _ (new : Word) (count : ℕ) (counted : (runs : List Valued) → AreRunsOf (HasPut values s new) runs → count ≡ length runs) where
-    pub puts_many : MAX_SPANS < count → AreManyRuns (ValPut g o s new prop)
+  module _ (new : Word) (beyond : Bool) (told : (runs : List Valued) → AreRunsOf (HasPut values s new) runs → (beyond ≡ true) ↔ (MAX_SPANS < length runs)) where
+    pub puts_many : beyond ≡ true → AreManyRuns (ValPut g o s new prop)
     puts_many many =
         let r = put_exists values s new are.coalesced in
-        let c = counted r.0 r.1 in
-        record { runs = r.0; are = alike_put g o prop values are s new r.0 r.1; many = omega arith }
+        record { runs = r.0; are = alike_put g o prop values are s new r.0 r.1; many = (told r.0 r.1).0 many }
+
+    pub puts_few : beyond ≡ false → FitPut g o prop new s
+    puts_few few = λ runs fit. within_by MAX_SPANS (length runs) (told runs (put_alike g o prop values are s new runs fit)) few
 
   module _ (count : ℕ) (counted : (runs : List Valued) → AreRunsOf (HasCleared values s) runs → count ≡ length runs) where
     pub clears_many : MAX_SPANS < count → AreManyRuns (ValOutside g o s prop)

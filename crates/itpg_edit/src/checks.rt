@@ -73,7 +73,7 @@ fn check(graph: &Graph, change: &Change<'_>) -> Result<(), RuleCode>
         }
         Change::Put { site, prop, value } => {
             refuse_if(is_absent(graph, site), RuleCode::Absent)?;
-            refuse_if(puts_too_many(graph, site, prop, **value), RuleCode::Full)
+            refuse_if(puts_too_many(graph, site, prop, value), RuleCode::Full)
         }
         Change::Clear { site, prop } => {
             refuse_if(clears_too_many(graph, site, prop), RuleCode::Full)

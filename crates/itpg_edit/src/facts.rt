@@ -95,7 +95,7 @@ pub(crate) fn joins_too_many(graph: &Graph, site: &Site) -> bool
     ensures few { result ≡ false → FitFamily graph.now site.now.object.0 site.now.span }
     ensures many { result ≡ true → AreManySpans (λ t. Exists graph.now site.now.object.0 t ⊎ Within t site.now.span) }
 {
-    graph.live(site.object).count_joined(site.span) > MAX_SPANS
+    graph.live(site.object).joins_beyond(site.span, MAX_SPANS)
 }
 
 /// Whether some family of the object would have too many spans, if its life in this one ended.
@@ -108,14 +108,14 @@ pub(crate) fn cuts_too_many(graph: &Graph, site: &Site) -> bool
 }
 
 /// Whether the property would have too many runs, if it had the value in the span, or the object too many properties.
-pub(crate) fn puts_too_many(graph: &Graph, site: &Site, prop: &Name, value: Name) -> bool
+pub(crate) fn puts_too_many(graph: &Graph, site: &Site, prop: &Name, value: &Name) -> bool
     requires stands { Stands graph.now site.now.object.0 }
     requires span { IsSpan site.now.span }
-    ensures few { result ≡ false → FitPut graph.now site.now.object.0 prop.now value site.now.span × HasPlace graph.now site.now.object.0 prop.now }
-    ensures many { result ≡ true → AreManyRuns (ValPut graph.now site.now.object.0 site.now.span value prop.now) ⊎ HasNoPlace graph.now site.now.object.0 prop.now }
+    ensures few { result ≡ false → FitPut graph.now site.now.object.0 prop.now value.now site.now.span × HasPlace graph.now site.now.object.0 prop.now }
+    ensures many { result ≡ true → AreManyRuns (ValPut graph.now site.now.object.0 site.now.span value.now prop.now) ⊎ HasNoPlace graph.now site.now.object.0 prop.now }
 {
     match graph.value(site.object, prop) {
-        Some(values) => values.count_put(site.span, value) > MAX_SPANS,
+        Some(values) => values.puts_beyond(site.span, value, MAX_SPANS),
         None => graph.prop_count(site.object) >= MAX_PROPERTIES,
     }
 }

@@ -6,6 +6,7 @@ ghost use Rattle.itpg_graph.specs.Families.{FitCut, FitPut, FitClear, HasPlace};
 ghost use Rattle.itpg_graph.specs.Changes.{begun_as, widened, with_node, with_edge, without, JoinsLive, FitFamily, CutsLive, PutsValue, ClearsValue};
 
 use crate::graph::Graph;
+use crate::links::more_items;
 use crate::stored::{Opened, Stored};
 use interval_set::Span;
 use itpg_base::{LabelSet, MAX_LABELS, MAX_OBJECTS, Name, ObjNo};
@@ -49,7 +50,7 @@ impl Graph {
     {
         prove!(labels.len() <= MAX_LABELS);
         let number = ObjNo(self.objects.len() as u32);
-        self.objects.reserve(1)?;
+        self.objects.reserve(more_items(self.objects.len()))?;
         self.out.reserve()?;
         self.into.reserve()?;
         let alloc = *self.objects.allocator();
@@ -83,7 +84,7 @@ impl Graph {
     {
         prove!(labels.len() <= MAX_LABELS);
         let number = ObjNo(self.objects.len() as u32);
-        self.objects.reserve(1)?;
+        self.objects.reserve(more_items(self.objects.len()))?;
         self.out.reserve_at(source)?;
         self.into.reserve_at(target)?;
         let alloc = *self.objects.allocator();
@@ -150,7 +151,7 @@ impl Graph {
         ensures err { OnErr result (self.new ≡ self.old) }
     {
         let object = &mut self.objects[o.0 as usize];
-        object.put_value(prop, value, s)?;
+        object.put_value(&prop, &value, s)?;
         Ok(())
     }
 

@@ -1,5 +1,5 @@
 //! A name that is kept with an object, in as little room as it needs.
-ghost use Rattle.std.specs.Prelude.{◌≡◌, IfOk};
+ghost use Rattle.std.specs.Prelude.{◌≡◌, ◌↔◌, IsTrue, IfOk};
 ghost use Rattle.std.specs.Cmp.Lexicographic.{slice_cmp};
 ghost use Rattle.std.specs.Ordering.{nat_cmp};
 
@@ -38,7 +38,7 @@ impl KeptName {
     pub(crate) fn new(alloc: Global, name: &Name) -> Result<KeptName, AllocError>
         ensures { IfOk result (λ kept. kept ≡ name.now) }
     {
-        let place = match ShortName::new(name.bytes()) {
+        let place = match ShortName::of(name) {
             Some(short) => Place::Here(short),
             None => Place::There(Rc::new(alloc, *name)?),
         };
@@ -63,6 +63,16 @@ impl KeptName {
         match &self.place {
             Place::Here(short) => short.name(),
             Place::There(name) => **name,
+        }
+    }
+
+    /// Whether it is the same name.
+    pub(crate) fn is(&self, other: &Name) -> bool
+        ensures { IsTrue result ↔ (self.now ≡ other.now) }
+    {
+        match &self.place {
+            Place::Here(short) => short.is(other),
+            Place::There(name) => **name == *other,
         }
     }
 

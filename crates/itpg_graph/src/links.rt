@@ -3,8 +3,11 @@ ghost use Rattle.std.specs.Prelude.{◌≡◌, ◌<◌, ◌∷◌, ◌++◌, [],
 ghost use Rattle.itpg_base.specs.Graphs.{changed_at};
 ghost use Rattle.itpg_graph.specs.Links.{links_of, HasRoom, HasRoomAt, LosesNumber, LosesIfRising};
 
-use itpg_base::ObjNo;
+use itpg_base::{MAX_OBJECTS, ObjNo};
 use std::alloc::{AllocError, Global};
+
+// So many items are many.
+const MANY: usize = 4096;
 
 /// For each object ever declared, by its number, the rising numbers of edges at it.
 #[derive(Drop)]
@@ -48,7 +51,7 @@ impl Links {
         ensures same { links_of self.new ≡ links_of self.old }
         ensures room { OnOk result (HasRoom self.new) }
     {
-        self.lists.reserve(1)
+        self.lists.reserve(more_items(self.lists.len()))
     }
 
     /// Makes room for one more object, and for one more edge at `o`.
@@ -58,7 +61,7 @@ impl Links {
         ensures room { OnOk result (HasRoom self.new) }
         ensures room_at { OnOk result (HasRoomAt self.new o.0) }
     {
-        self.lists.reserve(1)?;
+        self.lists.reserve(more_items(self.lists.len()))?;
         self.lists[o.0 as usize].reserve(1)
     }
 
@@ -87,6 +90,18 @@ impl Links {
         ensures { LosesNumber (links_of self.old) o.0 edge.0 (links_of self.new) }
     {
         take_out(&mut self.lists[o.0 as usize], edge);
+    }
+}
+
+// How many more items room is made for. Once there are many it is made for all that there may be: a list that grows is copied, and
+// memory that isn't touched costs nothing.
+pub(crate) fn more_items(count: usize) -> usize
+    ensures { 0 < result }
+{
+    if count == MANY {
+        MAX_OBJECTS - count
+    } else {
+        1
     }
 }
 

@@ -39,7 +39,7 @@ impl Numbers {
     pub(crate) fn get(&self, name: &Name) -> Option<u32>
         ensures { result ≡ listed self.now name.now }
     {
-        match ShortName::new(name.bytes()) {
+        match ShortName::of(name) {
             Some(short) => self.short.get(&short).copied(),
             None => self.long.get(name).copied(),
         }
@@ -51,7 +51,7 @@ impl Numbers {
         ensures others { OnOk result ((other : List ℕ) → other ≢ name → listed self.new other ≡ listed self.old other) }
         ensures err { OnErr result ((other : List ℕ) → listed self.new other ≡ listed self.old other) }
     {
-        match ShortName::new(name.bytes()) {
+        match ShortName::of(&name) {
             Some(short) => {
                 self.short.insert(short, number)?;
             }

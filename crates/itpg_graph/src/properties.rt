@@ -14,6 +14,9 @@ use itpg_base::Name;
 use std::alloc::{AllocError, Global};
 use std::marker::Model;
 
+// At so many places a name is looked for in turn: mostly there are no more, and to see that a name is the same waits for no other answer.
+const FEW: usize = 8;
+
 /// A property and its values.
 #[derive(Drop)]
 pub(crate) struct Property {
@@ -98,20 +101,25 @@ impl Properties {
         ensures found { IfOk result (IsPlace self.now name.now) }
         ensures missing { IfErr result (IsGap self.now name.now) }
     {
+        for place in 0..self.list.len().min(FEW) {
+            if self.list[place].name.is(name) {
+                return Ok(place);
+            }
+        }
         self.list
             .binary_search_by(|property| property.name.order(name))
     }
 
     /// Gives the property the value at each moment of the span. Without memory nothing changes.
-    pub(crate) fn put(&mut self, name: Name, value: Name, s: Span) -> Result<(), AllocError>
-        ensures ok { OnOk result (AreProperties (HasMore self.old name value s) self.new) }
+    pub(crate) fn put(&mut self, name: &Name, value: &Name, s: Span) -> Result<(), AllocError>
+        ensures ok { OnOk result (AreProperties (HasMore self.old name.now value.now s) self.new) }
         ensures err { OnErr result (self.new ≡ self.old) }
     {
         prove!(s.from() <= s.to());
-        match self.search(&name) {
+        match self.search(name) {
             Ok(place) => {
                 let property = &mut self.list[place];
-                property.values.put(s, value)?;
+                property.values.put(s, *value)?;
                 Ok(())
             }
             Err(place) => self.add(place, name, value, s),
@@ -119,16 +127,16 @@ impl Properties {
     }
 
     /// Adds a property at its place, with the value at each moment of the span. Without memory nothing changes.
-    fn add(&mut self, place: usize, name: Name, value: Name, s: Span) -> Result<(), AllocError>
-        requires { IsGap self.old name place }
-        ensures ok { OnOk result (AreProperties (HasMore self.old name value s) self.new) }
+    fn add(&mut self, place: usize, name: &Name, value: &Name, s: Span) -> Result<(), AllocError>
+        requires { IsGap self.old name.now place }
+        ensures ok { OnOk result (AreProperties (HasMore self.old name.now value.now s) self.new) }
         ensures err { OnErr result (self.new ≡ self.old) }
     {
         prove!(s.from() <= s.to());
         let alloc = *self.list.allocator();
-        let name = KeptName::new(alloc, &name)?;
+        let name = KeptName::new(alloc, name)?;
         let mut values = ValuedSet::new(alloc);
-        values.put(s, value)?;
+        values.put(s, *value)?;
         if self.list.is_empty() {
             // Most objects never get a second property.
             self.list.reserve_exact(1)?;

@@ -200,9 +200,9 @@ impl Stored {
     }
 
     /// Gives the property the value at each moment of the span. Without memory nothing changes.
-    pub(crate) fn put_value(&mut self, prop: Name, value: Name, s: Span) -> Result<(), AllocError>
+    pub(crate) fn put_value(&mut self, prop: &Name, value: &Name, s: Span) -> Result<(), AllocError>
         requires { IsTrue self.old.standing }
-        ensures ok { OnOk result (ObjectPuts self.old prop value s self.new) }
+        ensures ok { OnOk result (ObjectPuts self.old prop.now value.now s self.new) }
         ensures err { OnErr result (self.new ≡ self.old) }
     {
         let own = Rc::make_mut(&mut self.shared)?;

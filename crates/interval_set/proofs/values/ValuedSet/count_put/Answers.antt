@@ -15,7 +15,7 @@ returns-in-Short-Some c =
     let xs = c.in-Short-Some.runs.items in
     let view = sym c.self.view_is ∙ ap runs_in c.in-Short-Some.is-0 in
     let made = spliced c.putting.result xs in
-    let same : c.in-Short-Some.value ≡ c.args.value = c.in-Short-Some.ensures.some ∙ c.bytes.ensures.value in
+    let same : c.in-Short-Some.value ≡ c.args.value = c.in-Short-Some.ensures.some in
     let runs = rw same at (simp map-id at (rw c.deref.ensures.value at c.putting.ensures.runs)) in
     let count : c.count.result ≡ length made = rw c.deref-in-Short-Some.ensures.value at c.count.ensures in
     rw view (λ others h. count ∙ ap length (runs_of_unique (HasPut xs c.args.s c.args.value) made others runs h))
@@ -27,7 +27,7 @@ returns-in-Short-None c =
     let kept = subst AreKept c.in-Short-None.is-0 c.self.invariant in
     let made = spliced c.clearing.result xs in
     let span : IsSpan c.args.s = search rules in
-    let long : MAX_SHORT < length c.args.value = subst (λ v. MAX_SHORT < length v) c.bytes.ensures.value (c.in-Short-None.ensures.none.0 refl) in
+    let long : MAX_SHORT < length c.args.value = c.in-Short-None.ensures.none.0 refl in
     let cleared = simp map-id at (rw c.deref-in-Short-None.ensures.value at c.clearing.ensures.runs) in
     let count : c.count-in-Short-None.result ≡ length made = rw c.deref-in-Short-None-2.ensures.value at c.count-in-Short-None.ensures in
     rw view (λ others h. let more = one_more xs made others c.args.s c.args.value span (none_longer xs c.args.value kept.1 long) cleared h in omega (arith, count, more))

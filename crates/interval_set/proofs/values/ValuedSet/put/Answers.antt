@@ -13,7 +13,7 @@ invariant_of-self c =
     let kept = subst AreKept c.in-Short-Some.is-0 c.self.invariant in
     let value = c.in-Short-Some.value in
     let ok = simp map-id at c.put_run.ensures.ok in
-    let few : length value ≤ MAX_SHORT = subst (λ v. length v ≤ MAX_SHORT) (sym c.in-Short-Some.ensures.some) (short_by c.bytes.result.now c.in-Short-Some.ensures.none.1) in
+    let few : length value ≤ MAX_SHORT = subst (λ v. length v ≤ MAX_SHORT) (sym c.in-Short-Some.ensures.some) (short_by c.args.value c.in-Short-Some.ensures.none.1) in
     (kept_runs (HasPut xs c.args.s value) xs ys c.put_run.result kept.0 ok c.put_run.ensures.err, kept_short (HasPut xs c.args.s value) xs ys c.put_run.result (short_put xs c.args.s value few kept.1) kept.1 ok c.put_run.ensures.err)
 
 pub invariant_of-self-in-Any-default : goal.invariant_of-self-in-Any-default
@@ -27,7 +27,7 @@ invariant_of-self-in-Any-default c =
 pub returns-in-Short-Some-clause-ok : goal.returns-in-Short-Some-clause-ok
 returns-in-Short-Some-clause-ok c =
     let view = sym c.self.view_is ∙ ap runs_in c.in-Short-Some.is-0 in
-    let same : c.in-Short-Some.value ≡ c.args.value = c.in-Short-Some.ensures.some ∙ c.bytes.ensures.value in
+    let same : c.in-Short-Some.value ≡ c.args.value = c.in-Short-Some.ensures.some in
     rw view (rw same at (simp map-id at c.put_run.ensures.ok))
 
 pub returns-in-Any-default-clause-ok : goal.returns-in-Any-default-clause-ok
