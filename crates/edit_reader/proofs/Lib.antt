@@ -18,3 +18,4 @@ pub mod PinForms
 pub mod InRange
 pub mod WordTokens
 pub mod GivenNames
+pub mod QuickLines

@@ -61,6 +61,20 @@ impl Command {
     pub(crate) fn of(word: &[u8]) -> Option<Command>
         ensures { result ≡ command_of word.now }
     {
+        // The words of most lines are told at once.
+        if word == b"live".as_slice() {
+            Some(Command::Live)
+        } else if word == b"set".as_slice() {
+            Some(Command::Set)
+        } else {
+            Command::among_all(word)
+        }
+    }
+
+    // The same, whichever it is.
+    fn among_all(word: &[u8]) -> Option<Command>
+        ensures { result ≡ command_of word.now }
+    {
         COMMANDS
             .iter()
             .copied()

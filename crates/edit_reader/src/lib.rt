@@ -14,6 +14,7 @@ mod laws;
 mod line;
 mod parts;
 mod pins;
+mod quick;
 mod reading;
 
 pub use faults::without_end;
@@ -21,4 +22,5 @@ pub use laws::{
     law_of_labels, law_of_lines, law_of_long_lines, law_of_moments, law_of_names, law_of_words,
 };
 pub use line::{Line, Wanted, room};
+pub use quick::read_edit;
 pub use reading::{MAX_LINE, read_line};

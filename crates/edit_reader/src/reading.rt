@@ -155,7 +155,11 @@ fn read_command<'a>(
 
 // Writes the edit into the room that a line with this command word asks for, where what stands behind the word is a form.
 #[inline(always)]
-fn write_edit(command: Command, parts: Parts<'_>, room: &mut Edit) -> Result<(), TextCode>
+pub(crate) fn write_edit(
+    command: Command,
+    parts: Parts<'_>,
+    room: &mut Edit,
+) -> Result<(), TextCode>
     requires { IsTrue (is_edit command) }
     ensures told { OfRest parts.entry.line.now parts.entry.at (λ tokens. (text : ℕ → List ℕ) →
         written result room.new ≡ form_told (form text command (lexemes tokens))

@@ -6,6 +6,7 @@ use crate::advice::meaning;
 use crate::head::Head;
 use crate::said::said;
 use command_words::Status;
+use edit_reader::room;
 use itpg_base::{Failed, Limits, Sink};
 use itpg_session::{Seen, Session, StepFault};
 use question_costs::{Clock, Explained};
@@ -70,7 +71,8 @@ impl Explainer {
 
     // Has the session answer a line.
     fn step(&mut self, line: &[u8], head: &mut Head) -> Result<Seen, AllocError> {
-        match self.session.step(self.number, line, head) {
+        let mut room = room();
+        match self.session.step(self.number, line, &mut room, head) {
             Ok(seen) => Ok(seen),
             Err(StepFault::Memory) => Err(AllocError),
             Err(StepFault::Write) => unreachable!(),

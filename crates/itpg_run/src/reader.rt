@@ -10,7 +10,9 @@ ghost use Rattle.itpg_session.specs.Machine.{opening};
 ghost use Rattle.itpg_session.specs.Steps.{StandsAs};
 
 use crate::Status;
+use edit_reader::room;
 use itpg_base::{Limits, Sink};
+use itpg_edit::Edit;
 use itpg_session::{Seen, Session, StepFault, law_of_fronts};
 use memchr::memchr;
 use row_printer::Form;
@@ -21,12 +23,13 @@ pub(crate) const KEPT: usize = 65_538;
 
 const LINE_END: u8 = b'\n';
 
-/// A session, and the line that is being read: its form, its number and its first bytes.
+/// A session, and the line that is being read: its form, its number and its first bytes. One room serves for the edits of all lines.
 #[derive(Drop)]
 pub(crate) struct Reader {
     pub(crate) session: Session,
     pub(crate) form: Form,
     pub(crate) line: Vec<u8>,
+    pub(crate) room: Edit,
     pub(crate) number: u64,
     pub(crate) failing: bool,
     ghost short: { length line.items ≤ 65538 },
@@ -44,6 +47,7 @@ impl Reader {
             session: Session::new(alloc, limits),
             form,
             line: Vec::new(alloc),
+            room: room(),
             number: 1,
             failing: false,
         }
@@ -68,7 +72,10 @@ impl Reader {
         ensures later { K.faults out.old ≤ K.faults out.new }
     {
         match self.form {
-            Form::Plain => self.session.step(self.number, &self.line, out),
+            Form::Plain => {
+                self.session
+                    .step(self.number, &self.line, &mut self.room, out)
+            }
             Form::Json => self.session.step_json(self.number, &self.line, out),
         }
     }

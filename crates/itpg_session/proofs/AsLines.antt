@@ -3,13 +3,12 @@ use Rattle.std.proofs.Common.{◌≡◌, ℕ, List, ◌≤◌, length, Bool, tru
 use Rattle.std.specs.Prelude.{Result, Ok, Err}
 use Rattle.std.specs.List.{list_all}
 use Rattle.std.proofs.lemmas.Bool.{leb-true}
-use Rattle.itpg_base.specs.Sinks.{Gets}
 use Rattle.itpg_base.specs.declared.outside.Sink.{Ghosts}
 use Rattle.itpg_base.specs.declared.text_code.TextCode.{TextCode}
 use Rattle.script_lex.specs.Bytes.{is_blank}
 use Rattle.edit_reader.specs.declared.reading.TheConstants.{MAX_LINE}
 use Rattle.edit_reader.specs.Faults.{without_end}
-use Rattle.edit_reader.specs.Readings.{Reading, Nothing, Changes}
+use Rattle.edit_reader.specs.Readings.{Reading, Nothing}
 use Rattle.json_port.specs.declared.line.JsonLine.{JsonLine}
 use Rattle.json_port.specs.Lines.{JsonOf, FitIs, ShortIs}
 use Rattle.row_printer.specs.declared.form.Form.{Form}

@@ -26,6 +26,7 @@ pub mod Accepting
 pub mod Stepping
 pub mod Leaving
 pub mod KeptFresh
+pub mod EditLines
 pub mod SparedObjects
 pub mod Untouched
 pub mod Plain

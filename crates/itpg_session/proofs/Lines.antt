@@ -1,5 +1,5 @@
 -- What a line of a form is: exactly one thing, whose moments, labels and new names are such; and a front part of a long line is what the line is.
-use Rattle.std.proofs.Common.{◌≡◌, ℕ, List, ◌≤◌, take, refl, sym, ap, subst, ◌∙◌}
+use Rattle.std.proofs.Common.{◌≡◌, ℕ, List, ◌≤◌, take, refl, sym, subst, ◌∙◌}
 use Rattle.std.specs.Prelude.{◌↔◌, Result, Ok, Err}
 use Rattle.itpg_base.specs.declared.text_code.TextCode.{TextCode}
 use Rattle.itpg_edit.specs.declared.edit.Edit.{Edit}
@@ -11,7 +11,7 @@ use Rattle.edit_reader.specs.Names.{HasNewWord, AsksForWords}
 use Rattle.json_port.specs.declared.line.JsonLine.{JsonLine}
 use Rattle.json_port.specs.Lines.{JsonOf}
 use Rattle.row_printer.specs.declared.form.Form.{Form}
-use Rattle.itpg_session.specs.Lines.{Just, JsonAsks, JsonIs, LineIs}
+use Rattle.itpg_session.specs.Lines.{Just, JsonAsks, LineIs}
 
 -- the laws of plain lines and of lines of JSON
 pub record LineLaws : Type 0 where

@@ -1,5 +1,5 @@
 -- The reply to a line, as a value; and which one a query text has.
-use Rattle.std.specs.Prelude.{ℕ, List, length, map, Option, Some, None, option_map}
+use Rattle.std.specs.Prelude.{ℕ, List, length, map, Option, Some, None, option_map, Result, Ok, Err}
 use Rattle.itpg_base.specs.Graphs.{Graph}
 use Rattle.itpg_base.specs.declared.rule_code.RuleCode.{RuleCode}
 use Rattle.itpg_base.specs.declared.text_code.TextCode.{TextCode}
@@ -50,6 +50,16 @@ line_reply (value.Counted counts) = Counted counts
 line_reply (value.Shown place found) = Shown place (option_map answered found)
 line_reply (value.OfPin place answer) = OfPin place (answered answer)
 line_reply (value.PerWatch found) = PerWatch (map ticked_of found.items)
+
+-- the reply to an edit: the first rule that it breaks, or nothing
+abbrev pub edit_reply : Option RuleCode → ReplyValue
+edit_reply None = value.Silent
+edit_reply (Some rule) = value.Refused rule
+
+-- the same where memory may run out
+abbrev pub edit_said : {E : Type 0} → Result (Option RuleCode) E → Result ReplyValue E
+edit_said (Ok broken) = Ok (edit_reply broken)
+edit_said (Err error) = Err error
 
 -- what is found for a query on the graph, with a limit of rows: that it is too wide, or its answer
 abbrev pub IsFound : Graph → ℕ → QueryTerm → Reply → Type 0

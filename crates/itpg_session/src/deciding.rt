@@ -72,7 +72,7 @@ impl Session {
     {
         match line {
             Line::Blank => Ok(Reply::Silent),
-            Line::Edit(edit) => self.edit(edit),
+            Line::Edit(edit) => Ok(Reply::of_edit(self.edit(edit)?)),
             Line::Ask(text) => Ok(Reply::from(self.ask(text)?)),
             Line::First(text) => self.reply_wanted(Wanted::First, text),
             Line::Last(text) => self.reply_wanted(Wanted::Last, text),

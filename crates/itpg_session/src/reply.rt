@@ -3,7 +3,7 @@ ghost use Rattle.std.specs.Prelude.{◌≡◌, ℕ, length, map, is_none, option
 ghost use Rattle.itpg_base.specs.Graphs.{Graph};
 ghost use Rattle.itpg_session.specs.Machine.{Machine};
 ghost use Rattle.itpg_session.specs.Ticks.{ticked_of, some_wide};
-ghost use Rattle.itpg_session.specs.Replies.{line_reply};
+ghost use Rattle.itpg_session.specs.Replies.{line_reply, edit_reply};
 ghost use Rattle.relation_rows.specs.Answered.{answered};
 ghost use Rattle.row_printer.specs.declared.form.Form.{Form};
 ghost use Rattle.itpg_session.specs.Texts.{found_text, tick_text, text_of, fails};
@@ -55,6 +55,16 @@ impl From<Asked> for Reply {
 }
 
 impl Reply {
+    /// The reply to an edit that breaks this rule first, or none.
+    pub(crate) fn of_edit(broken: Option<RuleCode>) -> Reply
+        ensures { result ≡ edit_reply broken }
+    {
+        match broken {
+            Some(rule) => Reply::Refused(rule),
+            None => Reply::Silent,
+        }
+    }
+
     /// What is seen of it.
     pub(crate) fn seen(&self) -> Seen
         ensures { (form : Form) (m : Machine) (number : ℕ) → Sees result (text_of form m number (line_reply self.now)) (fails (line_reply self.now)) }

@@ -28,8 +28,9 @@ use crate::fault::StepFault;
 use crate::json::{asked_by, read_object};
 use crate::laws::law_of_asked;
 use crate::reply::Seen;
-use edit_reader::{read_line, room};
+use edit_reader::{read_edit, read_line, room};
 use itpg_base::{Limits, Sink};
+use itpg_edit::Edit;
 use itpg_graph::Graph;
 use itpg_pins::Pins;
 use plan_cache::Plans;
@@ -180,7 +181,7 @@ impl Session {
         self.reply_to(text)
     }
 
-    /// Takes a line without its LF, which has the number `no`, and writes its reply.
+    /// Takes a line without its LF, which has the number `no`, and writes its reply. An edit is read into `room`, which serves for all lines.
     ///
     /// Of a line of more than 65,538 bytes the first so many are enough: they have the same reply.
     ///
@@ -190,7 +191,13 @@ impl Session {
     /// refused, `graph`, `extend`, `drop`, `unwatch`, `close`, `unfollow`, a `show`, a `tick`, an `open` or a `near` that is refused, a
     /// `show` of a fresh watch, or a `near` whose rows are kept. `Write` if the sink failed. After either, relations that were worked out
     /// may be kept, query plans may be added, and after `Write` the rows of a `near` may be kept.
-    pub fn step<K: Sink>(&mut self, no: u64, line: &[u8], out: &mut K) -> Result<Seen, StepFault>
+    pub fn step<K: Sink>(
+        &mut self,
+        no: u64,
+        line: &[u8],
+        room: &mut Edit,
+        out: &mut K,
+    ) -> Result<Seen, StepFault>
         ensures stepped { IfOk result (λ seen. Stepped K.Sink out.old out.new Plain (Replies self.old.limit self.old.machine (LineOf line.now)) no self.old self.new seen) }
         ensures alike { OnErr result (IsAlike self.old self.new) }
         ensures keeps { OnOk result (KeepsFresh self.old self.new) }
@@ -211,8 +218,10 @@ impl Session {
         ensures some { IsErrOf result StepFault.Write → StepsWithin K.Sink out.old out.new Plain (Replies self.old.limit self.old.machine (LineOf line.now)) no self.old }
         ensures later { K.faults out.old ≤ K.faults out.new }
     {
-        let mut room = room();
-        self.step_read(Form::Plain, no, &read_line(line, &mut room), out)
+        if read_edit(line, room) {
+            return self.take_edit(Form::Plain, no, room, out);
+        }
+        self.step_read(Form::Plain, no, &read_line(line, room), out)
     }
 
     /// Takes a line of JSON as `step` takes a plain line, and writes its reply as lines of JSON. The machine is the same one.

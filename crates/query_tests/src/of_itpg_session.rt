@@ -1,5 +1,6 @@
 //! What a session keeps after an edit, with the nodes numbered by hand.
 
+use edit_reader::room;
 use itpg_base::{Limits, MemSink};
 use itpg_session::{Seen, Session};
 use plan_cache::PlanNo;
@@ -38,7 +39,7 @@ fn step(
     line: &[u8],
 ) -> Seen {
     session
-        .step(number, line, sink)
+        .step(number, line, &mut room(), sink)
         .ok()
         .expect(rt, "memory and room")
 }

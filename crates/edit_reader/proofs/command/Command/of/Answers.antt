@@ -1,13 +1,20 @@
-use Rattle.std.proofs.Common.{nat_eq, sym, ◌∙◌, rules, tests}
-use Rattle.std.specs.Cmp.Lexicographic.{pointwise}
-use Rattle.std.proofs.lemmas.Iterator.Adapters.{option_map_id}
-use Rattle.std.proofs.lemmas.Iterator.{YieldsList-from_slice}
-use Rattle.std.proofs.lemmas.Iterator.Consumers.{YieldsList-from_copied}
-use Rattle.std.proofs.lemmas.Iterator.Search.{find_from_yields_List}
-use Rattle.edit_reader.specs.Commands.{command_word, commands, command_of}
+use Rattle.std.proofs.Common.{◌≡◌, refl, ℕ, List, Some, rules, tests}
+use Rattle.std.specs.Prelude.{codes}
+use Rattle.edit_reader.specs.Commands.{command_of}
+use Rattle.edit_reader.specs.declared.command.Command.{Command}
 use Rattle.edit_reader.proofs.command.Command.of.Goals as goal
 
-pub returns : goal.returns
+-- the word of the command is told by itself
+live_word : (word : List ℕ) → word ≡ codes "live" → Some Command.Live ≡ command_of word
 unfolding command_of
-returns c =
-    sym (option_map_id c.find.result) ∙ find_from_yields_List (λ k. pointwise nat_eq (command_word k) c.args.word.now) _ _ c.find.result c.find.ensures.ran (YieldsList-from_copied (YieldsList-from_slice commands cc)) (λ x b q k. search (rules, tests))
+live_word word e = rw e refl
+
+set_word : (word : List ℕ) → word ≡ codes "set" → Some Command.Set ≡ command_of word
+unfolding command_of
+set_word word e = rw e refl
+
+pub returns-then-eq : goal.returns-then-eq
+returns-then-eq c = live_word _ (search (rules, tests))
+
+pub returns-then-eq-2 : goal.returns-then-eq-2
+returns-then-eq-2 c = set_word _ (search (rules, tests))

@@ -4,13 +4,13 @@ use Rattle.itpg_edit.specs.Rules.{Unbroken}
 use Rattle.edit_reader.specs.Readings.{Nothing, Changes, Asks, Wants, Watches, Shows, Unwatches, Ticks, Opens, Closes, AsksIn, Follows, Nears, Unfollows, reading_of}
 use Rattle.edit_reader.specs.declared.line.Wanted.TheVariants.{First, Last, Count}
 use Rattle.itpg_session.specs.Steps.{ForgetsEdit}
-use Rattle.itpg_session.proofs.Written.{if_ok, on_ok, on_fault}
+use Rattle.itpg_session.proofs.Written.{if_ok}
 use Rattle.itpg_session.proofs.KeptFresh.{decided_keeps, one_keeps, asked_keeps, wanted_keeps}
 use Rattle.itpg_session.proofs.Outcomes.{wanted_decides, wanted_kept}
 use Rattle.itpg_session.specs.Replies.{Silent, Rows, reply_of}
 use Rattle.itpg_session.proofs.Answering.{blank_answers, asks_answers, asked_asks, watches_answers, shows_answers, unwatches_answers, ticks_answers, opens_answers, closes_answers, asks_in_answers, follows_answers, nears_answers, unfollows_answers}
 use Rattle.itpg_session.proofs.Told.{decided_as, decides_as, said, said_alike}
-use Rattle.itpg_session.proofs.FollowLeaving.{apart_follows, edit_follows, follow_follows, near_follows, unfollow_follows}
+use Rattle.itpg_session.proofs.FollowLeaving.{apart_follows, follow_follows, near_follows, unfollow_follows}
 use Rattle.itpg_session.proofs.session.Session.decide_read.Goals as goal
 
 pub returns-in-Blank-clause-decides : goal.returns-in-Blank-clause-decides
@@ -34,15 +34,11 @@ returns-in_ok-ask-in-Ask-clause-decides c =
     rw (c.in-Ask.is, c.from.ensures) (said_alike c.args.self.now c.ask.new.self (reply_of asked) c.in_ok-ask-in-Ask.ensures.alike
     (asks_answers c.args.self.now.limit c.args.self.now.machine _ _ (asked_asks c.args.self.now.limit c.args.self.now.machine _ (reply_of asked) c.in_ok-ask-in-Ask.ensures.reply _ refl)))
 
-pub returns-in-Edit-clause-forgets : goal.returns-in-Edit-clause-forgets
-returns-in-Edit-clause-forgets c =
-    on_ok (λ (made : Unbroken c.args.self.now.machine.graph c.in-Edit.edit.now → ForgetsEdit c.in-Edit.edit.now c.args.self.now c.edit.new.self). λ edit is unbroken.
+pub returns-in_ok-edit-in-Edit-clause-forgets : goal.returns-in_ok-edit-in-Edit-clause-forgets
+returns-in_ok-edit-in-Edit-clause-forgets c = λ edit is unbroken.
     let read : Changes c.in-Edit.edit.now ≡ Changes edit = subst (λ l. reading_of l ≡ Changes edit) c.in-Edit.is is in
     let same : c.in-Edit.edit.now ≡ edit = cc in
-    subst (λ (e : Edit). ForgetsEdit e c.args.self.now c.edit.new.self) same (made (subst (Unbroken c.args.self.now.machine.graph) (sym same) unbroken))) c.edit.result c.edit.ensures.forgets
-
-pub returns-in-Edit-clause-table : goal.returns-in-Edit-clause-table
-returns-in-Edit-clause-table c = rw (c.in-Edit.is) c.edit.ensures.table
+    subst (λ (e : Edit). ForgetsEdit e c.args.self.now c.edit.new.self) same (c.in_ok-edit-in-Edit.ensures.forgets (subst (Unbroken c.args.self.now.machine.graph) (sym same) unbroken))
 
 pub returns-in-Blank-clause-table : goal.returns-in-Blank-clause-table
 returns-in-Blank-clause-table c = rw (c.in-Blank.is) refl
@@ -64,9 +60,6 @@ returns-in_ok-ask-in-Ask-clause-table c = rw (c.in-Ask.is) c.ask.ensures.adds
 
 pub returns-in_err-ask-in-Ask-clause-table : goal.returns-in_err-ask-in-Ask-clause-table
 returns-in_err-ask-in-Ask-clause-table c = rw (c.in-Ask.is) c.ask.ensures.adds
-
-pub returns-in-Edit-clause-keeps : goal.returns-in-Edit-clause-keeps
-returns-in-Edit-clause-keeps c = decided_keeps _ (Changes c.in-Edit.edit.now) tt c.args.self.now c.edit.new.self c.edit.result c.edit.ensures.decides
 
 pub returns-in-Watch-clause-keeps : goal.returns-in-Watch-clause-keeps
 returns-in-Watch-clause-keeps c =
@@ -127,9 +120,6 @@ returns-in-Count-clause-asked c = rw (c.in-Count.is) (wanted_kept Count c.in-Cou
 pub returns-in-Count-clause-table : goal.returns-in-Count-clause-table
 returns-in-Count-clause-table c = rw (c.in-Count.is) c.reply_wanted-in-Count.ensures.adds
 
-pub returns-in-Edit-clause-unmade : goal.returns-in-Edit-clause-unmade
-returns-in-Edit-clause-unmade c = on_fault (λ same edit is. same) c.edit.result c.edit.ensures.unmade
-
 pub returns-in-OpenPin-clause-decides : goal.returns-in-OpenPin-clause-decides
 returns-in-OpenPin-clause-decides c = rw (c.in-OpenPin.is) (decides_as c.args.self.now c.open.new.self (opens_answers c.args.self.now.limit c.args.self.now.machine _) (λ w. w) c.open.result c.open.ensures.decides)
 
@@ -144,9 +134,6 @@ returns-in-InPin-clause-asked c = rw (c.in-InPin.is) c.ask_in.ensures.asked
 
 pub returns-in-Blank-clause-follows : goal.returns-in-Blank-clause-follows
 returns-in-Blank-clause-follows c = rw (c.in-Blank.is) (apart_follows c.args.self.now c.args.self.now _ Nothing tt refl)
-
-pub returns-in-Edit-clause-follows : goal.returns-in-Edit-clause-follows
-returns-in-Edit-clause-follows c = rw (c.in-Edit.is) (edit_follows c.args.self.now c.edit.new.self _ c.edit.result c.edit.ensures.follows c.edit.ensures.spares c.edit.ensures.holds)
 
 pub returns-in_ok-ask-in-Ask-clause-follows : goal.returns-in_ok-ask-in-Ask-clause-follows
 returns-in_ok-ask-in-Ask-clause-follows c = rw (c.in-Ask.is) (apart_follows c.args.self.now c.ask.new.self _ (Asks _) tt c.ask.ensures.follows)

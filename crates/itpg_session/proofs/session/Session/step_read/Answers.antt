@@ -1,4 +1,4 @@
-use Rattle.std.proofs.Common.{◌≡◌, length, sym, subst, refl, ap}
+use Rattle.std.proofs.Common.{length, sym, subst, refl}
 use Rattle.itpg_base.specs.Sinks.{Gets, GetsSome}
 use Rattle.relation_rows.specs.Answered.{answered}
 use Rattle.row_printer.specs.Texts.{AreDeclared}
@@ -6,10 +6,9 @@ use Rattle.row_printer.proofs.Saying.{on_err}
 use Rattle.edit_reader.specs.Readings.{told as read_as}
 use Rattle.reply_text.specs.Texts.{rows_text}
 use Rattle.itpg_session.specs.Lines.{Just}
-use Rattle.itpg_session.specs.Machine.{Standing, after}
+use Rattle.itpg_session.specs.Machine.{Standing}
 use Rattle.itpg_session.proofs.Planned.{alike_same}
-use Rattle.itpg_session.specs.Replies.{Reply, Silent, line_reply}
-use Rattle.itpg_session.specs.Steps.{StandsAs}
+use Rattle.itpg_session.specs.Replies.{line_reply}
 use Rattle.itpg_session.proofs.Stepping.{kept_line, kept_sees}
 use Rattle.itpg_session.proofs.KeptFresh.{fresh_same, step_fresh}
 use Rattle.itpg_session.proofs.Leaving.{line_leaves, kept_forgets, line_so, line_settled, forgets_settled, kept_asks, asked_settled, same_unmade, line_unmade, said_unmade}
@@ -121,7 +120,7 @@ pub returns-in_err-reply-clause-unkept : goal.returns-in_err-reply-clause-unkept
 returns-in_err-reply-clause-unkept g c = λ memory. wanting_same _ c.args.self.now c.decide.new.self _ c.in_err-reply.ensures.follows
 
 pub returns-in_err-reply-clause-at_hand : goal.returns-in_err-reply-clause-at_hand
-returns-in_err-reply-clause-at_hand g c = λ memory. not_at_hand c.args.self.now (Just (read_as c.args.what.now)) _ (λ other is. is) (c.in_default.ensures.none refl)
+returns-in_err-reply-clause-at_hand g c = λ memory. not_at_hand c.args.self.now (Just (read_as c.args.what.now)) _ (λ other is. is) (c.in_default-kept_answer.ensures.none refl)
 
 pub returns-in_err-write-clause-follows : goal.returns-in_err-write-clause-follows
 returns-in_err-write-clause-follows g c = line_follows (Just (read_as c.args.what.now)) _ (λ other is. is) c.args.self.now c.decide.new.self c.decide.new.self refl _ c.decide.ensures.follows
@@ -137,31 +136,3 @@ returns-clause-spares g c = line_spares (Just (read_as c.args.what.now)) _ (λ o
 
 pub returns-clause-near : goal.returns-clause-near
 returns-clause-near g c = line_near (Just (read_as c.args.what.now)) _ (λ other is. is) c.args.self.now c.decide.new.self c.settle.new.self c.settle.ensures.follows _ c.in_ok-reply.reply c.in_ok-reply.ensures.follows
-
--- a line of which nothing is said: what was decided stands
-silent_stands : (s : Standing) (reply : Reply) → reply ≡ Silent → StandsAs s (after s.machine reply) s.limit
-silent_stands s reply is = record { machine = sym (ap (after s.machine) is); limit = refl }
-
-pub returns-in-Silent-clause-forgets : goal.returns-in-Silent-clause-forgets
-returns-in-Silent-clause-forgets g c =
-    forgets_settled (Just (read_as c.args.what.now)) _ c.args.self.now c.decide.new.self c.decide.new.self (line_reply c.in_ok-reply.reply) _ (λ other is. is) refl (silent_stands c.decide.new.self (line_reply c.in_ok-reply.reply) (ap line_reply c.in-Silent.is)) c.in_ok-reply.ensures.forgets
-
-pub returns-in-Silent-clause-table : goal.returns-in-Silent-clause-table
-returns-in-Silent-clause-table g c =
-    line_settled (Just (read_as c.args.what.now)) _ c.args.self.now c.decide.new.self c.decide.new.self (line_reply c.in_ok-reply.reply) _ (λ other is. is) refl (silent_stands c.decide.new.self (line_reply c.in_ok-reply.reply) (ap line_reply c.in-Silent.is)) c.decide.ensures.table
-
-pub returns-in-Silent-clause-keeps : goal.returns-in-Silent-clause-keeps
-returns-in-Silent-clause-keeps g c = step_fresh _ c.args.self.now c.decide.new.self c.decide.new.self (line_reply c.in_ok-reply.reply) _ c.in_ok-reply.ensures.decides c.in_ok-reply.ensures.keeps refl (silent_stands c.decide.new.self (line_reply c.in_ok-reply.reply) (ap line_reply c.in-Silent.is))
-
-pub returns-in-Silent-clause-asked : goal.returns-in-Silent-clause-asked
-returns-in-Silent-clause-asked g c =
-    asked_settled (Just (read_as c.args.what.now)) _ c.args.self.now c.decide.new.self c.decide.new.self (line_reply c.in_ok-reply.reply) _ (λ other is. is) refl refl (silent_stands c.decide.new.self (line_reply c.in_ok-reply.reply) (ap line_reply c.in-Silent.is)) c.in_ok-reply.ensures.asked
-
-pub returns-in-Silent-clause-follows : goal.returns-in-Silent-clause-follows
-returns-in-Silent-clause-follows g c = line_follows (Just (read_as c.args.what.now)) _ (λ other is. is) c.args.self.now c.decide.new.self c.decide.new.self refl _ c.decide.ensures.follows
-
-pub returns-in-Silent-clause-spares : goal.returns-in-Silent-clause-spares
-returns-in-Silent-clause-spares g c = line_spares (Just (read_as c.args.what.now)) _ (λ other is. is) c.args.self.now c.decide.new.self c.decide.new.self refl _ c.in_ok-reply.reply c.in_ok-reply.ensures.follows
-
-pub returns-in-Silent-clause-near : goal.returns-in-Silent-clause-near
-returns-in-Silent-clause-near g c = line_near (Just (read_as c.args.what.now)) _ (λ other is. is) c.args.self.now c.decide.new.self c.decide.new.self refl _ c.in_ok-reply.reply c.in_ok-reply.ensures.follows
