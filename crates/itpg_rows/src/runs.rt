@@ -1,4 +1,5 @@
 //! Runs over devices in memory.
+use edit_reader::room;
 use itpg_base::{Limits, MemSink, Sink};
 use itpg_run::Status;
 use itpg_session::{Seen, Session, StepFault};
@@ -33,13 +34,14 @@ pub fn step_again(
     failing: &mut MemSink,
     sink: &mut MemSink,
 ) -> Result<bool, StepFault> {
-    match session.step(number, line, failing) {
+    let mut room = room();
+    match session.step(number, line, &mut room, failing) {
         Ok(_) => {
             sink.write(failing.held())?;
             Ok(false)
         }
         Err(StepFault::Write) => {
-            session.step(number, line, sink)?;
+            session.step(number, line, &mut room, sink)?;
             Ok(true)
         }
         Err(StepFault::Memory) => Err(StepFault::Memory),
@@ -49,12 +51,13 @@ pub fn step_again(
 /// Hands the lines of a script to a session, and says how that ended, as `serve` would.
 pub fn step_lines(alloc: Global, limits: Limits, script: &[u8], sink: &mut MemSink) -> Status {
     let mut session = Session::new(alloc, limits);
+    let mut room = room();
     let mut status = Status::Done;
     let mut number = 0u64;
     for line in script.split_inclusive(|byte| *byte == b'\n') {
         number = number.saturating_add(1);
         let line = line.strip_suffix(b"\n").unwrap_or(line);
-        match session.step(number, line, sink) {
+        match session.step(number, line, &mut room, sink) {
             Ok(Seen::Refused) => status = Status::DoneRefused,
             Ok(Seen::Quiet | Seen::Answered) => {}
             Err(StepFault::Memory) => return Status::Memory,

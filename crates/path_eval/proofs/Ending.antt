@@ -33,10 +33,10 @@ scopes a b = record { sources = a; targets = b }
 
 module _ (g : Graph) (r : PathTerm) (u : Scope) (limit : ℕ) (rows : List Row) (body : IsBody g r u limit rows) (a b : Scope) (is : u ≡ passed r (scopes a b)) where
   -- both ends of a repetition between the two scopes are within the scope of all that it passes
-  sides : (n : ℕ) (m : Option ℕ) (x y : Point) → Cut g (Repetition r n m) a b x y → IsWithin u g x.object × IsWithin u g y.object
+  pub sides : (n : ℕ) (m : Option ℕ) (x y : Point) → Cut g (Repetition r n m) a b x y → IsWithin u g x.object × IsWithin u g y.object
   sides n m x y c = subst (λ (v : Scope). IsWithin v g x.object × IsWithin v g y.object) (sym is) (ends_within g body.good r (scopes a b) n m x y c.leads c.source c.target)
 
-  walks_between : (n : ℕ) (m : Option ℕ) (x y : Point) → Cut g (Repetition r n m) a b x y → WalksInside g u rows n m x y
+  pub walks_between : (n : ℕ) (m : Option ℕ) (x y : Point) → Cut g (Repetition r n m) a b x y → WalksInside g u rows n m x y
   walks_between n m x y c = let s = sides n m x y c in walks_of g body.good r u rows body.normal body.passes n m x y s.0 s.1 c.leads
 
   -- one repetition, cut to both scopes

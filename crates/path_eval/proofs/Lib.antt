@@ -23,5 +23,6 @@ pub mod MembersWithin
 pub mod Composing
 pub mod Taking
 pub mod Ending
+mod Returning
 mod Sources
 mod Beyond

@@ -17,7 +17,7 @@ use plan_cache::{PlanNo, Plans};
 use relation_rows::{RelFault, Relation};
 use repeat_engine::{Composed, closure, power, up_to};
 use std::alloc::AllocError;
-use wide_witness::{along_time, is_seen_wide};
+use wide_witness::{along_time, is_seen_wide, source_by_source};
 
 // So many times the limit of rows may be made on the way to a union.
 const MORE: u32 = 4;
@@ -111,7 +111,11 @@ impl Composed for Powers<'_, '_> {
     }
 
     fn at_once(&self, one: &Relation, x: &Relation, n: u64) -> Result<Option<Relation>, RelFault> {
-        let all = along_time(self.ground.alloc, one, x, n, self.ground.max_rows)?;
+        let along = along_time(self.ground.alloc, one, x, n, self.ground.max_rows)?;
+        if along.is_some() {
+            return Ok(along);
+        }
+        let all = source_by_source(self.ground.alloc, one, x, n, self.ground.max_rows)?;
         Ok(all)
     }
 

@@ -6,6 +6,7 @@
 //!     path[0,m]    the powers 0 to m united, cut to both scopes
 //!     path[n,m]    the n-th power from the one scope, then the powers 0 to m - n united, to the other
 //!     path[n,_]    the same with all powers united
+//!     path[1,_]    all powers united, where they lead to another object; the path and then these, where they lead back
 //! ```
 //!
 //! The powers and their unions are those of the body's relation within the scope of all that the repetition passes. Two
@@ -24,7 +25,23 @@ ghost use Rattle.path_eval.specs.Powers.{GivesPairs, GivesMember, HoldsFitting, 
 
 use crate::powers::{Powers, cut};
 use label_scope::Scope;
-use relation_rows::{RelFault, Relation};
+use relation_rows::{RelFault, Relation, Row};
+
+// So many rows between two objects are looked at one by one.
+const FEW: usize = 64;
+
+// Whether there are at most so many rows from any object to any other. No result depends on it. They stand in order.
+fn are_few_between(rows: &[Row]) -> bool {
+    for (i, row) in rows.iter().enumerate() {
+        if i >= FEW
+            && rows[i - FEW].source.0 == row.source.0
+            && rows[i - FEW].target.0 == row.target.0
+        {
+            return false;
+        }
+    }
+    true
+}
 
 impl Powers<'_, '_> {
     /// The path from `least` to `most` times, or any greater number of times, between two scopes.
@@ -106,9 +123,32 @@ impl Powers<'_, '_> {
             let rows = cut(self.ground, rest, a, b)?;
             return Ok(rows);
         }
+        if least == 1 && most.is_none() && are_few_between(rest.rows()) {
+            return self.once_or_more(a, b, rest);
+        }
         let power = self.exactly(least)?;
         let first = cut(self.ground, &power, a, self.passed)?;
         let second = cut(self.ground, rest, self.passed, b)?;
         first.compose(&second, self.ground.max_rows)
+    }
+
+    // The path once or any greater number of times, between two scopes. From one object to another it leads just where any number
+    // of times does. Only on the way from an object, which is then within both scopes, back to it is a step told from none.
+    fn once_or_more(&self, a: &Scope, b: &Scope, rest: &Relation) -> Result<Relation, RelFault>
+        requires ready { IsReady self.now }
+        requires passed { self.now.passed.now ≡ passed_scope (body_of self.now) (record { sources = a.now; targets = b.now }) }
+        requires rest { let on = self.now.ground.now in let r = body_of self.now in let u = self.now.passed.now in
+            HoldsFitting (Cut on.graph.now (Repetition r 0 None) u u) on.max_rows rest.now }
+        requires fits { AllFit self.now.ground.now.graph.now self.now.ground.now.max_rows (unions_within (body_of self.now) self.now.passed.now (further 1 None)) }
+        ensures { let on = self.now.ground.now in let r = body_of self.now in
+            GivesMember on.graph.now on.max_rows (repetition_member r 1 None a.now b.now) (repetition_members r self.now.passed.now 1 None) result }
+    {
+        let power = self.exactly(1)?;
+        let first = cut(self.ground, &power, a, self.passed)?;
+        let both = cut(self.ground, &first, b, self.passed)?;
+        let back = both.compose_back(rest, self.ground.max_rows)?;
+        let between = cut(self.ground, rest, a, b)?;
+        let on = between.apart();
+        on.union(&back, self.ground.max_rows)
     }
 }

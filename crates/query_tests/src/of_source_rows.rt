@@ -1,5 +1,6 @@
 //! What is near a node, and what is kept of it.
 
+use edit_reader::room;
 use itpg_base::{Limits, MemSink, Name, ObjNo};
 use itpg_session::Session;
 use source_rows::near_objects;
@@ -17,12 +18,13 @@ const GRAPH: [&[u8]; 6] = [
 #[test]
 fn in_one_step_an_edge_and_its_ends_are_near(rt: HostRuntime) {
     let alloc = rt.alloc();
-    let room = vec![in alloc; 0; 64].expect(&rt, "memory");
-    let mut sink = MemSink::new(Vec::new(alloc), 0, room);
+    let held = vec![in alloc; 0; 64].expect(&rt, "memory");
+    let mut sink = MemSink::new(Vec::new(alloc), 0, held);
     let limits = Limits::new(100).expect(&rt, "a limit");
     let mut session = Session::new(alloc, limits);
+    let mut edit = room();
     for line in GRAPH {
-        let seen = session.step(1, line, &mut sink);
+        let seen = session.step(1, line, &mut edit, &mut sink);
         assert!(rt; seen.is_ok());
     }
     let name = Name::new(b"a").expect(&rt, "a name");
@@ -52,25 +54,26 @@ const FOLLOWED: [&[u8]; 10] = [
 #[test]
 fn the_rows_of_a_node_stay_until_an_edit_touches_it(rt: HostRuntime) {
     let alloc = rt.alloc();
-    let room = vec![in alloc; 0; 64].expect(&rt, "memory");
-    let mut sink = MemSink::new(Vec::new(alloc), 0, room);
+    let held = vec![in alloc; 0; 64].expect(&rt, "memory");
+    let mut sink = MemSink::new(Vec::new(alloc), 0, held);
     let limits = Limits::new(100).expect(&rt, "a limit");
     let mut session = Session::new(alloc, limits);
+    let mut edit = room();
     for line in FOLLOWED {
-        let seen = session.step(1, line, &mut sink);
+        let seen = session.step(1, line, &mut edit, &mut sink);
         assert!(rt; seen.is_ok());
     }
     let a = ObjNo(0);
-    let seen = session.step(11, b"near f a", &mut sink);
+    let seen = session.step(11, b"near f a", &mut edit, &mut sink);
     assert!(rt; seen.is_ok());
     assert!(rt; sink.held() == b"line 11 rows 1\na 2..4 b t..t\n".as_slice());
     assert!(rt; session.follows().len() == 1);
     assert!(rt; session.follows().rows_of(0, a).is_some());
-    let seen = session.step(12, b"gone c 5 5", &mut sink);
+    let seen = session.step(12, b"gone c 5 5", &mut edit, &mut sink);
     assert!(rt; seen.is_ok());
     assert!(rt; session.follows().len() == 1);
     assert!(rt; session.follows().rows_of(0, a).is_some());
-    let seen = session.step(13, b"edge k e a c", &mut sink);
+    let seen = session.step(13, b"edge k e a c", &mut edit, &mut sink);
     assert!(rt; seen.is_ok());
     assert!(rt; session.follows().len() == 1);
     assert!(rt; session.follows().rows_of(0, a).is_none());

@@ -51,3 +51,5 @@ pub mod Neighbours
 pub mod BandWays
 pub mod OffsetLemmas
 mod Thinning
+mod Appending
+mod LeadingBack

@@ -10,7 +10,7 @@ use Rattle.band_normal.specs.declared.band.End.TheVariants.{Moving}
 use Rattle.band_normal.specs.Bands.{InBand, IsWellFormed}
 use Rattle.relation_rows.specs.declared.rows.Row.{Row}
 use Rattle.relation_rows.specs.declared.timetable.Leg.{Leg}
-use Rattle.relation_rows.specs.Rows.{InRow, RowsHold, RowBefore}
+use Rattle.relation_rows.specs.Rows.{InRow, RowsHold, RowBefore, IsRelation}
 use Rattle.relation_rows.specs.Relations.{InItem}
 use Rattle.relation_rows.specs.Timetables.{LegsHold, IsTimetable}
 
@@ -56,6 +56,11 @@ pub record AreComposed (second : List Row) (busy : List Leg) : Type 0 where
   pub table : IsTimetable busy
   pub there : (x y : Point) → LegsHold busy x y → RowsHold second x y
   pub all : (o : ℕ) (group : List Row) → AreFrom second o group → 8 < length group → 0 < length busy → (x y : Point) → RowsHold group x y → LegsHold busy x y
+
+-- a relation with a timetable of its rows from busy objects, or an empty one
+pub record AreReady (rows : List Row) (busy : List Leg) : Type 0 where
+  pub relation : IsRelation rows
+  pub composed : AreComposed rows busy
 
 -- by the first departure
 abbrev pub DepartsNoLater : Row → Row → Type 0

@@ -199,8 +199,12 @@ fn of_sources(
     Ok(Relation { rows: ways })
 }
 
-// A timetable of the second rows from the objects from which there are many, if it pays to search for what the first ones go on by.
-fn busy_legs(alloc: Global, first: &[Row], second: &Offsets<'_>) -> Result<Vec<Leg>, AllocError>
+/// A timetable of the second rows from the objects from which there are many, if it pays to search for what the first ones go on by.
+pub(crate) fn busy_legs(
+    alloc: Global,
+    first: &[Row],
+    second: &Offsets<'_>,
+) -> Result<Vec<Leg>, AllocError>
     requires first { (r : PlainRow) → Among first.now r → IsWellFormed r.band }
     requires second { (r : PlainRow) → Among second.now r → IsWellFormed r.band }
     ensures { IfOk result (λ busy. AreComposed second.now busy.items) }
@@ -212,6 +216,32 @@ fn busy_legs(alloc: Global, first: &[Row], second: &Offsets<'_>) -> Result<Vec<L
     let rows = busy_rows(alloc, all)?;
     let legs = timetable(alloc, &rows)?;
     Ok(legs)
+}
+
+/// The relation of the ways that begin with the rows, a few sources at a time.
+pub(crate) fn by_sources(
+    known: &mut Known,
+    rows: &[Row],
+    second: &Offsets<'_>,
+    busy: &[Leg],
+    max_rows: usize,
+) -> Result<Relation, RelFault>
+    requires order { Ordered RowBefore rows.now }
+    requires rows { AreLone rows.now }
+    requires lone { AreLone second.now }
+    requires second { AreComposed second.now busy.now }
+    ensures { Gives result (HasMiddlePoint rows.now second.now) max_rows }
+{
+    let mut done = Vec::new(known.allocator());
+    let mut left = rows;
+    while let Some(first) = left.first() {
+        let (group, later) = left.split_at(batch_len(left, first));
+        let room = max_rows - done.len();
+        let more = of_sources(known, group, second, busy, room)?;
+        done.extend_from_slice(&more.rows)?;
+        left = later;
+    }
+    Ok(Relation { rows: done })
 }
 
 /// The relation of the ways that begin with the rows and go on in the second.

@@ -1,6 +1,6 @@
 //! Relations.
 
-ghost use Rattle.std.specs.Prelude.{◌≡◌, ◌↔◌, ◌≤◌, [], length, slice_get, IsTrue, IfOk};
+ghost use Rattle.std.specs.Prelude.{◌≡◌, ◌↔◌, ◌<◌, ◌≤◌, ◌++◌, [], length, slice_get, IsTrue, IfOk, OnOk, OnErr};
 ghost use Rattle.itpg_base.specs.Points.{Point};
 ghost use Rattle.zone_core.specs.Zone.{Within, moment_reach};
 ghost use Rattle.itpg_base.specs.Lists.{Among};
@@ -184,6 +184,23 @@ impl Relation {
     {
         let rows = rows_between(*self.rows.allocator(), &self.rows, sources, targets)?;
         Ok(Relation { rows })
+    }
+
+    /// The pairs that lead from the object.
+    pub fn from_source(&self, source: ObjNo) -> Result<Relation, AllocError>
+        ensures { IfOk result (λ from. NormalRows (λ x y. RowsHold self.now x y × (x.object ≡ source.0)) from) }
+    {
+        let rows = Vec::from_slice(*self.rows.allocator(), rows_from(&self.rows, source))?;
+        Ok(Relation { rows })
+    }
+
+    /// Adds the pairs of a relation whose sources all come later. Without memory the relation stays as it was.
+    pub fn append(&mut self, later: &Relation) -> Result<(), AllocError>
+        requires { (r : PlainRow) → (s : PlainRow) → Among self.old r → Among later.now s → r.source.0 < s.source.0 }
+        ensures ok { OnOk result (self.new ≡ self.old ++ later.now) }
+        ensures err { OnErr result (self.new ≡ self.old) }
+    {
+        self.rows.extend_from_slice(&later.rows)
     }
 
     /// The pairs of this relation that the other hasn't.

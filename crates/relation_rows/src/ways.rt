@@ -148,8 +148,8 @@ fn push_way(
     Ok(())
 }
 
-// Adds the ways by the row and one of those from where it arrives, most of which depart too soon or too late.
-fn push_scanned(
+/// Adds the ways by the row and one of those from where it arrives, most of which depart too soon or too late.
+pub(crate) fn push_scanned(
     items: &mut Vec<Item>,
     latest: &mut [usize],
     row: &Row,

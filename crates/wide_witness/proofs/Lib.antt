@@ -7,3 +7,5 @@ pub mod StepRows
 pub mod Stepping
 pub mod Stretches
 pub mod Walking
+pub mod Appending
+pub mod Closing

@@ -11,6 +11,21 @@ along_time-requires-clause-inside c =
     let s = c.args.self.now in
     steps_inside s.ground.now.graph.now s.passed.now c.args.one.now c.args.x.now c.requires.neutral c.requires.own_x
 
+pub returns-then-is_some-clause-value : goal.returns-then-is_some-clause-value
+returns-then-is_some-clause-value c =
+    let s = c.args.self.now in
+    along_is s.ground.now.graph.now s.passed.now c.args.one.now c.args.x.now c.requires.neutral c.requires.own_x c.args.n c.in_ok-along.along c.in_ok-along.ensures.made
+
+pub returns-then-is_some-clause-each_fits : goal.returns-then-is_some-clause-each_fits
+returns-then-is_some-clause-each_fits c =
+    let s = c.args.self.now in
+    along_fits s.ground.now.graph.now s.passed.now c.args.one.now c.args.x.now c.requires.neutral c.requires.own_x s.ground.now.max_rows c.in_ok-along.along c.in_ok-along.ensures.fits
+
+pub source_by_source-requires : goal.source_by_source-requires
+source_by_source-requires c =
+    let s = c.args.self.now in
+    one_same s.ground.now.graph.now s.passed.now c.args.one.now c.args.x.now c.requires.neutral c.requires.own_x
+
 pub returns-clause-value : goal.returns-clause-value
 returns-clause-value c =
     let s = c.args.self.now in
