@@ -4,7 +4,7 @@ ghost use Rattle.std.specs.Prelude.{◌≡◌};
 
 use interval_set::Span;
 use itpg_base::ObjNo;
-use relation_rows::{Answer, OneRow, OneTime, Relation};
+use relation_rows::{Answer, OneRow, OneTime, RelFault, Relation};
 use std::rc::Rc;
 
 #[test]
@@ -44,4 +44,14 @@ fn spans_are_joined_in_whatever_order(rt: HostRuntime) {
     );
     let times = OneTime::from_spans(spans).expect(&rt, "memory");
     assert!(rt; times.rows() == [run(whole), run(second)].as_slice());
+}
+
+#[test]
+fn what_is_known_is_joined_with_where_it_goes_on(rt: HostRuntime) {
+    let horizon = Span::new(0, 9).expect(&rt, "a span");
+    let known = Relation::identity(rt.alloc(), &[ObjNo(7)], horizon, 1).expect(&rt, "one row");
+    let onward = known.onward().expect(&rt, "memory");
+    let all = onward.union_behind(&known, &known, 1).expect(&rt, "one row");
+    assert!(rt; all.same(&known));
+    assert!(rt; matches!(onward.union_behind(&known, &known, 0), Err(RelFault::Wide)));
 }

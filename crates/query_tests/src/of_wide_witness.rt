@@ -1,4 +1,4 @@
-//! A relation that leads two moments on, and is seen to be wide; and no step at all, along time.
+//! Relations that lead two moments on, or back, and are seen to be wide; and no step at all, along time.
 
 use itpg_base::ObjNo;
 use relation_rows::Relation;
@@ -25,6 +25,24 @@ fn steps_lead_to_every_second_moment(rt: HostRuntime) {
     assert!(rt; is_seen_wide(alloc, &Relation::empty(alloc), 3, 0) == Ok(false));
     assert!(rt; relation.rows_from(ObjNo(0)).len() == 1);
     assert!(rt; relation.rows_from(ObjNo(1)).is_empty());
+}
+
+#[test]
+fn steps_lead_back_from_the_last_departure(rt: HostRuntime) {
+    let alloc = rt.alloc();
+    let zone = tight(Bounds {
+        a: 2,
+        b: 102,
+        c: 0,
+        d: 100,
+        e: -2,
+        f: -2,
+    })
+    .expect(&rt, "a zone");
+    let items = Vec::from_slice(alloc, &[(ObjNo(0), ObjNo(0), zone)]).expect(&rt, "memory");
+    let relation = Relation::from_zones(alloc, items, 1).expect(&rt, "one row");
+    // From 2 they lead to 2 and 0 alone, and from 102 to 102, 100, 98 and 96.
+    assert!(rt; is_seen_wide(alloc, &relation, 3, 3) == Ok(true));
 }
 
 #[test]

@@ -53,3 +53,6 @@ pub mod OffsetLemmas
 mod Thinning
 mod Appending
 mod LeadingBack
+mod SubRows
+mod Joining
+mod ByRows

@@ -45,6 +45,10 @@ EitherHolds first second x y = RowsHold first x y ⊎ RowsHold second x y
 abbrev pub HasMiddlePoint : List Row → List Row → Relation
 HasMiddlePoint first second x y = (m : Point) × RowsHold first x m × RowsHold second m y
 
+-- the list holds the pair, or there is a middle point, to which the first leads and from which the second does
+abbrev pub HoldsOrLeads : List Row → List Row → List Row → Relation
+HoldsOrLeads all first second x y = RowsHold all x y ⊎ HasMiddlePoint first second x y
+
 -- the list holds the pair, and it leads from one of the sources to one of the targets
 pub record IsBetween (rows : List Row) (sources targets : List ObjNo) (x y : Point) : Type 0 where
   pub held : RowsHold rows x y

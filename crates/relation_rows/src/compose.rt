@@ -91,8 +91,8 @@ fn busy_rows(alloc: Global, rows: &[Row]) -> Result<Vec<Row>, AllocError>
     Ok(busy)
 }
 
-// The rows by their first departure. Those of one target stand so.
-fn by_departure(alloc: Global, rows: &[Row]) -> Result<Vec<Row>, AllocError>
+/// The rows by their first departure. Those of one target stand so.
+pub(crate) fn by_departure(alloc: Global, rows: &[Row]) -> Result<Vec<Row>, AllocError>
     ensures order { IfOk result (λ sorted. Ordered DepartsNoLater sorted.items) }
     ensures same { IfOk result (λ sorted. (r : PlainRow) → Among sorted.items r ↔ Among rows.now r) }
 {

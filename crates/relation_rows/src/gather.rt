@@ -139,9 +139,9 @@ pub(crate) fn gathered(known: &mut Known, items: &[Item], room: usize) -> Result
     Ok(Relation { rows })
 }
 
-// By this items are sorted: by source and target, and then such that a zone often lies inside the one before it. Of those that begin
-// together the longest comes first.
-fn place_of(item: &Item) -> ((ObjNo, ObjNo), (i64, i64, Reverse<i64>))
+/// By this items are sorted: by source and target, and then such that a zone often lies inside the one before it. Of those that begin
+/// together the longest comes first.
+pub(crate) fn place_of(item: &Item) -> ((ObjNo, ObjNo), (i64, i64, Reverse<i64>))
     ensures { result ≡ ((item.now.0, item.now.1), (item.now.2.a, item.now.2.c, record { 0 = item.now.2.b })) }
 {
     let bounds = item.2.bounds();

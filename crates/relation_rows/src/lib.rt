@@ -8,6 +8,8 @@
 
 pub mod answered;
 mod apart;
+mod beyond;
+mod by_rows;
 mod compose;
 mod direct;
 mod evenness;

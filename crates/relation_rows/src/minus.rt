@@ -1,7 +1,7 @@
 //! Difference: of each source and target, the rows' pairs that the other list hasn't there.
 //!
-//! The zones of both are parted, over and over, by departures, arrivals or differences, as long as that leaves less to do. Then
-//! a zone is split only by those that it shares a pair with.
+//! Where rows and cuts go along in time, one row is taken after the other. Elsewhere the zones of both are parted, over and over, by
+//! departures, arrivals or differences, as long as that leaves less to do. Then a zone is split only by those that it shares a pair with.
 
 ghost use Rattle.std.specs.Prelude.{◌≡◌, ◌⊎◌, ◌↔◌, ◌<◌, ◌≤◌, ℤ, length, take, slice_get, Some, IfOk, OnOk, IsTrue};
 ghost use Rattle.itpg_base.specs.Points.{Point};
@@ -15,6 +15,7 @@ ghost use Rattle.relation_rows.specs.Relations.{ItemsHold, OnlyFirstHolds};
 ghost use Rattle.relation_rows.specs.Uniting.{SomeHasBand};
 ghost use Rattle.relation_rows.specs.Minus.{OnlyFirstMeets, OnlyFirstHasBand, HasAcross, IsLeftAcross};
 
+use crate::by_rows::left_by_rows;
 use crate::gather::{Item, push_zones};
 use crate::parting::parting;
 use crate::rows::Row;
@@ -87,8 +88,12 @@ fn less(zones: Vec<Zone>, cut: &Zone) -> Result<Vec<Zone>, AllocError>
     Ok(left)
 }
 
-// The zones without the pairs of all cuts, one cut after the other.
-fn without_each(alloc: Global, zones: &[Zone], cuts: &[Zone]) -> Result<Vec<Zone>, AllocError>
+/// The zones without the pairs of all cuts, one cut after the other.
+pub(crate) fn without_each(
+    alloc: Global,
+    zones: &[Zone],
+    cuts: &[Zone],
+) -> Result<Vec<Zone>, AllocError>
     ensures { IfOk result (λ left. (t : ℤ) → (u : ℤ) → SomeMeets left.items t u ↔ OnlyFirstMeets zones.now cuts.now t u) }
 {
     let mut left = Vec::from_slice(alloc, zones)?;
@@ -146,8 +151,8 @@ fn push_rest(
     Ok(())
 }
 
-// The zones of the rows' bands.
-fn zones_of_bands(alloc: Global, rows: &[Row]) -> Result<Vec<Zone>, AllocError>
+/// The zones of the rows' bands.
+pub(crate) fn zones_of_bands(alloc: Global, rows: &[Row]) -> Result<Vec<Zone>, AllocError>
     requires { (r : PlainRow) → Among rows.now r → IsWellFormed r.band }
     ensures { IfOk result (λ zones. (t : ℤ) → (u : ℤ) → SomeMeets zones.items t u ↔ SomeHasBand rows.now t u) }
 {
@@ -164,6 +169,9 @@ fn left_of(alloc: Global, rows: &[Row], cuts: &[Row]) -> Result<Vec<Zone>, Alloc
     requires cuts { (r : PlainRow) → Among cuts.now r → IsWellFormed r.band }
     ensures { IfOk result (λ left. (t : ℤ) → (u : ℤ) → SomeMeets left.items t u ↔ OnlyFirstHasBand rows.now cuts.now t u) }
 {
+    if let Some(left) = left_by_rows(alloc, rows, cuts)? {
+        return Ok(left);
+    }
     let zones = zones_of_bands(alloc, rows)?;
     let zones_of_cuts = zones_of_bands(alloc, cuts)?;
     let mut left = Vec::new(alloc);

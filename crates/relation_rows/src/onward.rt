@@ -5,8 +5,9 @@
 
 ghost use Rattle.std.specs.Prelude.{◌≡◌, IfOk};
 ghost use Rattle.relation_rows.specs.Answers.{Gives};
-ghost use Rattle.relation_rows.specs.Relations.{HasMiddlePoint};
+ghost use Rattle.relation_rows.specs.Relations.{HasMiddlePoint, HoldsOrLeads};
 
+use crate::beyond::joined;
 use crate::compose::{busy_legs, by_sources};
 use crate::known::Known;
 use crate::offsets::{Offsets, offsets_of};
@@ -63,5 +64,26 @@ impl<'a> Onward<'a> {
             &self.busy,
             max_rows as usize,
         )
+    }
+
+    /// The pairs of `all`, and those with a middle point, to which the first relation leads and from which this one does. `Wide`
+    /// exactly if its normal rows are more than `max_rows`.
+    ///
+    /// ```text
+    ///     all: a to b     first: a to b     this one: b to a, b to c      a to a, to b and to c
+    /// ```
+    ///
+    /// It lists all ways behind the first relation, and pays where this has few rows and `all` knows most of what they lead to.
+    pub fn union_behind(
+        &self,
+        all: &Relation,
+        first: &Relation,
+        max_rows: u32,
+    ) -> Result<Relation, RelFault>
+        ensures { Gives result (HoldsOrLeads all.now first.now self.now) max_rows }
+    {
+        let alloc = *self.busy.allocator();
+        let room = max_rows as usize;
+        joined(alloc, &all.rows, &first.rows, &self.rows, &self.busy, room)
     }
 }

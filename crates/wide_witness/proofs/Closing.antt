@@ -4,7 +4,7 @@ use Rattle.itpg_base.specs.Points.{Point, Relation}
 use Rattle.itpg_base.proofs.Searches.{at_most}
 use Rattle.relation_rows.specs.declared.rows.Row.{Row}
 use Rattle.relation_rows.specs.Rows.{Fits, NormalRows, RowsHold}
-use Rattle.relation_rows.specs.Relations.{EitherHolds, HasMiddlePoint, OnlyFirstHolds}
+use Rattle.relation_rows.specs.Relations.{EitherHolds, HasMiddlePoint, HoldsOrLeads, OnlyFirstHolds}
 use Rattle.relation_rows.proofs.Alike.{fits_alike, hold_only, rows_alike, rows_hold}
 use Rattle.relation_rows.proofs.Finite.{decide_rows}
 use Rattle.wide_witness.specs.BySource.{IsAlongFrom}
@@ -14,6 +14,23 @@ use Rattle.wide_witness.specs.Steps.{Reaches}
 pub nothing : {X : Type 0} (xs : List X) → length xs ≡ 0 → xs ≡ []
 nothing [] e = refl
 nothing (x ∷ xs) e = let no : ⊥ = omega arith in absurd no
+
+-- where the newest lead by a step is made first, and what of it is fresh is united with what is known
+module _ (known newest steps made fresh all : List Row) (m : NormalRows (HasMiddlePoint newest steps) made) (f : NormalRows (OnlyFirstHolds made known) fresh) (a : NormalRows (EitherHolds known fresh) all) where
+  pub leads_on : NormalRows (HoldsOrLeads known newest steps) all
+  leads_on = rows_alike (EitherHolds known fresh) (HoldsOrLeads known newest steps)
+      (λ x y h. ⊎_elim (λ k. inl k) (λ k. inr (hold_only _ made m x y (hold_only _ fresh f x y k).0)) h)
+      (λ x y h. ⊎_elim
+      (λ k. inl k)
+      (λ k. ⊎_elim (λ old. inl old) (λ new. inr (rows_hold _ fresh f x y (rows_hold _ made m x y k, new))) (decide_rows known x y))
+      h)
+      all a
+
+  pub fresh_on : NormalRows (OnlyFirstHolds all known) fresh
+  fresh_on = rows_alike (OnlyFirstHolds made known) (OnlyFirstHolds all known)
+      (λ x y h. (rows_hold _ all a x y (inr (rows_hold _ fresh f x y h)), h.1))
+      (λ x y h. ⊎_elim (λ k. absurd (h.1 k)) (λ k. hold_only _ fresh f x y k) (hold_only _ all a x y h.0))
+      fresh f
 
 module _ (one steps : List Row) (o : ℕ) where
   abbrev To : ℕ → Relation
@@ -56,54 +73,50 @@ module _ (one steps : List Row) (o : ℕ) where
           (λ x y h. let k = (none_along x y).0 h in (subst (λ (v : Point). RowsHold one x v) k.1 k.0, k.2))
           known n
 
-  module _ (k bound : ℕ) (known newest : List Row) (so : AreClosed k bound known newest) (made fresh : List Row)
-      (step : NormalRows (HasMiddlePoint newest steps) made) (new : NormalRows (OnlyFirstHolds made known) fresh) where
-    -- a step from what is known leads to what is known, or is made
-    goes_on : (x y z : Point) → RowsHold known x y → RowsHold steps y z → RowsHold known x z ⊎ RowsHold made x z
-    goes_on x y z h s = ⊎_elim (λ a. inl a) (λ a. inr (rows_hold _ made step x z (y, a, s))) (so.led x y z h s)
+  module _ (k bound : ℕ) (known newest : List Row) (so : AreClosed k bound known newest) (next fresh : List Row)
+      (step : NormalRows (HoldsOrLeads known newest steps) next) (new : NormalRows (OnlyFirstHolds next known) fresh) where
+    stays_known : (x y : Point) → RowsHold known x y → RowsHold next x y
+    stays_known x y h = rows_hold _ next step x y (inl h)
 
-    -- what is made is known, or is fresh
-    old_or_new : (x y : Point) → RowsHold made x y → RowsHold known x y ⊎ RowsHold fresh x y
+    -- where a step leads from what is known
+    leads : (x y z : Point) → RowsHold known x y → RowsHold steps y z → HoldsOrLeads known newest steps x z
+    leads x y z h s = ⊎_elim (λ a. inl a) (λ a. inr (y, a, s)) (so.led x y z h s)
+
+    goes_on : (x y z : Point) → RowsHold known x y → RowsHold steps y z → RowsHold next x z
+    goes_on x y z h s = rows_hold _ next step x z (leads x y z h s)
+
+    -- what is next is known, or is fresh
+    old_or_new : (x y : Point) → RowsHold next x y → RowsHold known x y ⊎ RowsHold fresh x y
     old_or_new x y h = ⊎_elim (λ a. inl a) (λ not. inr (rows_hold _ fresh new x y (h, not))) (decide_rows known x y)
 
-    module _ (next : List Row) (united : NormalRows (EitherHolds known made) next) where
-      next_all : NormalRows (To (suc k)) next
-      next_all = rows_alike (EitherHolds known made) (To (suc k))
-          (λ x y h. (along_more k x y).1 (⊎_elim
-          (λ a. inl (hold_only _ known so.all x y a))
-          (λ a. let m = hold_only _ made step x y a in inr (m.0, hold_only _ known so.all x m.0 (so.newest_there x m.0 m.1), m.2))
-          h))
-          (λ x y h. ⊎_elim
-          (λ a. inl (rows_hold _ known so.all x y a))
-          (λ a. goes_on x a.0 y (rows_hold _ known so.all x a.0 a.1) a.2)
-          ((along_more k x y).0 h))
-          next united
+    next_all : NormalRows (To (suc k)) next
+    next_all = rows_alike (HoldsOrLeads known newest steps) (To (suc k))
+        (λ x y h. (along_more k x y).1 (⊎_elim
+        (λ a. inl (hold_only _ known so.all x y a))
+        (λ a. inr (a.0, hold_only _ known so.all x a.0 (so.newest_there x a.0 a.1), a.2))
+        h))
+        (λ x y h. ⊎_elim
+        (λ a. inl (rows_hold _ known so.all x y a))
+        (λ a. leads x a.0 y (rows_hold _ known so.all x a.0 a.1) a.2)
+        ((along_more k x y).0 h))
+        next step
 
-      united_has : (x y : Point) → RowsHold known x y ⊎ RowsHold made x y → RowsHold next x y
-      united_has x y h = rows_hold _ next united x y h
-
-      -- one step more is gone
-      pub step_closed : (more : ℕ) → bound ≤ more → length next ≤ more → AreClosed (k + 1) more next fresh
-      step_closed more le few = subst (λ (v : ℕ). AreClosed v more next fresh) (sym (add-one k)) (record {
-        all = next_all;
-        newest_there = λ x y h. united_has x y (inr (hold_only _ fresh new x y h).0);
-        led = λ x y z h s. ⊎_elim
-            (λ a. inl (united_has x z (goes_on x y z a s)))
-            (λ a. ⊎_elim (λ b. inl (united_has x z (goes_on x y z b s))) (λ b. inr b) (old_or_new x y a))
-            (hold_only _ next united x y h);
-        few = λ j up. ⊎_elim
-            (λ low. let f = so.few j low in (f.0, f.1, (let l = f.2 in omega arith)))
-            (λ high. let e : suc k ≡ j = omega (arith, up, high) in subst (λ (v : ℕ). Fits (To v) more) e (next, next_all, few))
-            (at_most j k);
-      })
+    -- one step more is gone
+    pub step_closed : (more : ℕ) → bound ≤ more → length next ≤ more → AreClosed (k + 1) more next fresh
+    step_closed more le few = subst (λ (v : ℕ). AreClosed v more next fresh) (sym (add-one k)) (record {
+      all = next_all;
+      newest_there = λ x y h. (hold_only _ fresh new x y h).0;
+      led = λ x y z h s. ⊎_elim (λ a. inl (goes_on x y z a s)) (λ a. inr a) (old_or_new x y h);
+      few = λ j up. ⊎_elim
+          (λ low. let f = so.few j low in (f.0, f.1, (let l = f.2 in omega arith)))
+          (λ high. let e : suc k ≡ j = omega (arith, up, high) in subst (λ (v : ℕ). Fits (To v) more) e (next, next_all, few))
+          (at_most j k);
+    })
 
     -- where nothing is fresh, no number of steps leads further
     module _ (none : fresh ≡ []) where
       stays : (x y z : Point) → RowsHold known x y → RowsHold steps y z → RowsHold known x z
-      stays x y z h s = ⊎_elim
-          (λ a. a)
-          (λ a. ⊎_elim (λ b. b) (λ b. absurd ((subst (λ (v : List Row). RowsHold v x z) none b).1)) (old_or_new x z a))
-          (goes_on x y z h s)
+      stays x y z h s = ⊎_elim (λ a. a) (λ a. absurd ((subst (λ (v : List Row). RowsHold v x z) none a).1)) (old_or_new x z (goes_on x y z h s))
 
       beyond : (m n : ℕ) → n ≡ m + k → (x y : Point) → To n x y ↔ To k x y
       beyond zero n e x y = let same : k ≡ n = omega arith in subst (λ (v : ℕ). To v x y ↔ To k x y) same (λ h. h, λ h. h)

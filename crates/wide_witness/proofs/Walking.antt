@@ -1,5 +1,5 @@
 -- What steps lead to, and what they reach.
-use Rattle.std.proofs.Common.{◌≡◌, ◌↔◌, ◌⊎◌, inl, inr, ⊎_elim, ℕ, suc, ◌+◌, ◌<◌, ◌≤◌, ◌≤ℤ◌, List, [], ◌∷◌, ◌++◌, length, slice_index_or, take, drop, refl, sym, ◌∙◌, ap, subst, add-one}
+use Rattle.std.proofs.Common.{◌≡◌, ◌↔◌, ◌⊎◌, inl, inr, ⊎_elim, ℕ, suc, ◌+◌, ◌<◌, ◌≤◌, List, [], ◌∷◌, ◌++◌, length, slice_index_or, take, drop, refl, sym, ◌∙◌, ap, subst, add-one}
 use Rattle.std.proofs.lemmas.List.{take_more, take_all}
 use Rattle.itpg_base.specs.Lists.{Among}
 use Rattle.itpg_base.specs.Points.{Point, Relation}
@@ -14,7 +14,7 @@ use Rattle.relation_rows.specs.Times.{AreTimes, InTime}
 use Rattle.relation_rows.proofs.Coalescing.{hold_more}
 use Rattle.relation_rows.proofs.Partitions.{front_among, rest_among}
 use Rattle.relation_rows.proofs.Pushing.{rows_more}
-use Rattle.wide_witness.specs.Steps.{AreReached, AreSpans, HavePoint, IsAdded, IsPushed, IsSeenWide, LeadsFrom, Reaches, point}
+use Rattle.wide_witness.specs.Steps.{AreReached, AreSpans, HavePoint, IsAdded, IsDepartureOf, IsPushed, IsSeenWide, LeadsFrom, Reaches, point}
 
 -- what runs at the end of a list have, the list has
 pub rest_has : (all part : List OneRow) (k : ℕ) → part ≡ drop k all → (y : Point) → HavePoint part y → HavePoint all y
@@ -176,17 +176,16 @@ start_reached R from run object begin end all newest is also =
         let m : from.moment ≡ y.moment = omega signed in
         λ i. record { object = o i; moment = m i }
 
--- many runs are reached from where the row departs first
-pub seen_wide : (rows : List Row) (row : Row) → Among rows row → IsWellFormed row.band → (steps limit : ℕ) (all newest runs : List OneRow)
-    → AreReached (RowsHold rows) (point row.source.0 row.band.from) steps all newest → AreTimes (λ o t. HavePoint all (point o t)) runs → limit < length runs → IsSeenWide (RowsHold rows) steps limit
-seen_wide rows row there formed steps limit all newest runs r times many =
-    let first = row.band.from in
-    let begin : first ≤ℤ first = omega signed in
-    let to = end_at row.band.low first in
+-- many runs are reached from where the row departs
+pub seen_wide : (rows : List Row) (row : Row) → Among rows row → IsWellFormed row.band → (start : OneRow) → IsDepartureOf row start → (steps limit : ℕ) (all newest runs : List OneRow)
+    → AreReached (RowsHold rows) (point start.object.0 start.span.from) steps all newest → AreTimes (λ o t. HavePoint all (point o t)) runs → limit < length runs → IsSeenWide (RowsHold rows) steps limit
+seen_wide rows row there formed start departs steps limit all newest runs r times many =
+    let then = start.span.from in
+    let to = end_at row.band.low then in
     record {
-      from = point row.source.0 first;
+      from = point start.object.0 then;
       to = point row.target.0 to;
-      leads = (row, there, record { source = refl; target = refl; pair = record { from = begin; to = formed.span; low = omega signed; high = formed.some first begin formed.span } });
+      leads = (row, there, record { source = sym departs.object; target = refl; pair = record { from = departs.from; to = departs.to; low = omega signed; high = formed.some then departs.from departs.to } });
       runs = runs;
       are = record { whole = λ o t h. times.whole o t (r.whole (point o t) h); only = λ o t h. r.only (point o t) (times.only o t h); spans = times.spans; order = times.order };
       many = many;

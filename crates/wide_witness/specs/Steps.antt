@@ -1,5 +1,5 @@
 -- Where steps lead, and when that shows that a relation is wide.
-use Rattle.std.specs.Prelude.{◌≡◌, ◌⊎◌, ℕ, zero, suc, ◌<◌, ℤ, List, Option, Some, None, length}
+use Rattle.std.specs.Prelude.{◌≡◌, ◌⊎◌, ℕ, zero, suc, ◌<◌, ℤ, ◌≤ℤ◌, List, Option, Some, None, length}
 use Rattle.itpg_base.specs.Lists.{Among}
 use Rattle.itpg_base.specs.Points.{Point, Relation}
 use Rattle.itpg_base.specs.Spans.{IsSpan}
@@ -35,6 +35,13 @@ pub record IsSeenWide (R : Relation) (steps limit : ℕ) : Type 0 where
   pub runs : List OneRow
   pub are : AreTimes (λ o t. Reaches R steps from (point o t)) runs
   pub many : limit < length runs
+
+-- the run is the row's source at one of its departures
+pub record IsDepartureOf (r : Row) (run : OneRow) : Type 0 where
+  pub object : run.object.0 ≡ r.source.0
+  pub from : r.band.from ≤ℤ run.span.from
+  pub to : run.span.from ≤ℤ r.band.to
+  pub one : run.span.to ≡ run.span.from
 
 -- the row leads to the point from one that the run has
 abbrev pub LeadsFrom : Row → OneRow → Point → Type 0

@@ -7,6 +7,7 @@
 ghost use Rattle.std.specs.Prelude.{◌≡◌, ◌↔◌, ◌≤◌, ℕ, Ok, Some, take, slice_get, IsTrue, IfOk, IfSome};
 ghost use Rattle.itpg_base.specs.Lists.{Ordered};
 ghost use Rattle.itpg_base.specs.Points.{Point};
+ghost use Rattle.relation_rows.specs.Relations.{HoldsOrLeads, OnlyFirstHolds};
 ghost use Rattle.relation_rows.specs.Rows.{Fits, NormalRows, RowBefore, RowsHold};
 ghost use Rattle.wide_witness.specs.Along.{IsAlong};
 ghost use Rattle.wide_witness.specs.BySource.{IsAlongFrom, IsSource};
@@ -20,6 +21,12 @@ const MANY: u64 = 24;
 
 // With fewer rows than these, it is soon worked out for all sources at once.
 const FEW_ROWS: u64 = 32;
+
+// Where so few rows are new, or so many, what they lead to is made by itself: few lead to little that is known, and with many it may be
+// too wide before the union.
+const FEW_NEW: u64 = 128;
+
+const MANY_NEW: u64 = 4096;
 
 // What the steps lead to from a source, the most rows that it has for any number of steps, and how many of them led to something new.
 #[derive(Drop)]
@@ -40,6 +47,34 @@ fn unless_wide(made: Result<Relation, RelFault>) -> Result<Option<Relation>, All
     }
 }
 
+// What is known together with where one step leads on from the newest, and what of this isn't known. None where it is too wide.
+fn one_step_on(
+    onward: &Onward<'_>,
+    known: &Relation,
+    newest: &Relation,
+    max_rows: u32,
+) -> Result<Option<(Relation, Relation)>, AllocError>
+    ensures all { IfOk result (λ o. IfSome o (λ p. NormalRows (HoldsOrLeads known.now newest.now onward.now) p.0)) }
+    ensures fresh { IfOk result (λ o. IfSome o (λ p. NormalRows (OnlyFirstHolds p.0 known.now) p.1)) }
+{
+    let count = newest.row_count();
+    if FEW_NEW < count && count < MANY_NEW {
+        let Some(all) = unless_wide(onward.union_behind(known, newest, max_rows))? else {
+            return Ok(None);
+        };
+        let fresh = all.minus(known)?;
+        return Ok(Some((all, fresh)));
+    }
+    let Some(made) = unless_wide(onward.behind(newest, max_rows))? else {
+        return Ok(None);
+    };
+    let fresh = made.minus(known)?;
+    let Some(all) = unless_wide(known.union(&fresh, max_rows))? else {
+        return Ok(None);
+    };
+    Ok(Some((all, fresh)))
+}
+
 // Where the steps lead from the source. None where each of so many of them leads to something new, or where it is too wide.
 fn closed_from(
     one: &Relation,
@@ -56,10 +91,9 @@ fn closed_from(
     let mut newest = one.from_source(source)?;
     let mut most_rows = known.row_count();
     for count in 0..limit {
-        let Some(made) = unless_wide(onward.behind(&newest, max_rows))? else {
+        let Some((next, fresh)) = one_step_on(onward, &known, &newest, max_rows)? else {
             return Ok(None);
         };
-        let fresh = made.minus(&known)?;
         if fresh.row_count() == 0 {
             let all = known;
             return Ok(Some(Closed {
@@ -68,9 +102,6 @@ fn closed_from(
                 count,
             }));
         }
-        let Some(next) = unless_wide(known.union(&made, max_rows))? else {
-            return Ok(None);
-        };
         most_rows = most_rows.max(next.row_count());
         known = next;
         newest = fresh;

@@ -1,11 +1,11 @@
 //! Points from which steps are followed.
 
-ghost use Rattle.std.specs.Prelude.{IsTrue, IfOk};
+ghost use Rattle.std.specs.Prelude.{IsTrue, IfOk, IfSome};
 ghost use Rattle.itpg_base.specs.Lists.{Among};
 ghost use Rattle.band_normal.specs.Bands.{IsWellFormed};
 ghost use Rattle.relation_rows.specs.declared.rows.Row.{Row as PlainRow};
 ghost use Rattle.relation_rows.specs.Rows.{RowsHold};
-ghost use Rattle.wide_witness.specs.Steps.{IsSeenWide};
+ghost use Rattle.wide_witness.specs.Steps.{IsDepartureOf, IsSeenWide};
 
 use crate::reach::Reach;
 use interval_set::Span;
@@ -43,29 +43,46 @@ fn is_hopeless(reach: &Reach, step: u64, looks: Looks, steps: u64) -> bool {
     step % TRIED == 0 && (reach.all.len() as u64) < step / 2
 }
 
-// Whether at most so many steps from where the row departs first lead to more runs than the limit, as far as it is tried. How many rows
-// were looked at is added to `spent`.
+// The row's source at its first departure.
+fn first_of(row: &Row) -> Option<OneRow>
+    requires { IsWellFormed row.now.band }
+    ensures { IfSome result (λ start. IsDepartureOf row.now start) }
+{
+    let span = Span::new(row.band.from, row.band.from)?;
+    Some(OneRow {
+        object: row.source,
+        span,
+    })
+}
+
+// The row's source at its last departure.
+fn last_of(row: &Row) -> Option<OneRow>
+    requires { IsWellFormed row.now.band }
+    ensures { IfSome result (λ start. IsDepartureOf row.now start) }
+{
+    let span = Span::new(row.band.to, row.band.to)?;
+    Some(OneRow {
+        object: row.source,
+        span,
+    })
+}
+
+// Whether at most so many steps from the start, at which a row departs, lead to more runs than the limit, as far as it is tried. How many
+// rows were looked at is added to `spent`.
 fn leads_to_many(
     alloc: Global,
     x: &Relation,
-    row: &Row,
+    start: &OneRow,
     steps: u64,
     limit: u32,
     spent: &mut u64,
 ) -> Result<bool, AllocError>
-    requires row { Among x.now row.now }
+    requires start { (r : PlainRow) × Among x.now r × IsDepartureOf r start.now }
     requires rows { (r : PlainRow) → Among x.now r → IsWellFormed r.band }
     ensures { IfOk result (λ many. IsTrue many → IsSeenWide (RowsHold x.now) steps limit) }
 {
-    let Some(span) = Span::new(row.band.from, row.band.from) else {
-        return Ok(false);
-    };
-    let start = [OneRow {
-        object: row.source,
-        span,
-    }];
-    let all = Vec::from_slice(alloc, &start)?;
-    let newest = Vec::from_slice(alloc, &start)?;
+    let all = Vec::from_slice(alloc, &[*start])?;
+    let newest = Vec::from_slice(alloc, &[*start])?;
     let mut reach = Reach::new(all, newest);
     let mut looks = Looks {
         own: 0,
@@ -88,6 +105,30 @@ fn leads_to_many(
     Ok(reach.all.len() > limit as usize)
 }
 
+// The same from where the row departs first, and from where it departs last, since steps may lead back in time.
+fn row_leads_to_many(
+    alloc: Global,
+    x: &Relation,
+    row: &Row,
+    steps: u64,
+    limit: u32,
+    spent: &mut u64,
+) -> Result<bool, AllocError>
+    requires row { Among x.now row.now }
+    requires rows { (r : PlainRow) → Among x.now r → IsWellFormed r.band }
+    ensures { IfOk result (λ many. IsTrue many → IsSeenWide (RowsHold x.now) steps limit) }
+{
+    if let Some(first) = first_of(row) {
+        if leads_to_many(alloc, x, &first, steps, limit, spent)? {
+            return Ok(true);
+        }
+    }
+    let Some(last) = last_of(row) else {
+        return Ok(false);
+    };
+    leads_to_many(alloc, x, &last, steps, limit, spent)
+}
+
 /// Whether it is seen that at most so many steps of the relation lead from some point to more runs of moments than the limit. It is false
 /// also where that isn't seen.
 ///
@@ -104,7 +145,7 @@ pub fn is_seen_wide(alloc: Global, x: &Relation, steps: u64, limit: u32) -> Resu
     let rows = x.rows();
     let mut spent = 0;
     for row in rows.iter().step_by(rows.len() / POINTS + 1) {
-        if leads_to_many(alloc, x, row, steps, limit, &mut spent)? {
+        if row_leads_to_many(alloc, x, row, steps, limit, &mut spent)? {
             return Ok(true);
         }
     }

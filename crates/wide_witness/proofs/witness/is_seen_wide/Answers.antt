@@ -13,8 +13,8 @@ loop-row-init c =
     ∙ ap (λ v. iter_rest v) c.step_by-row-items.ensures.source ∙ c.iter.ensures.rest ∙ c.rows-rows.ensures.value in
     λ r h. subst (λ (v : List Row). Among v r) all h
 
-pub leads_to_many-requires-clause-row : goal.leads_to_many-requires-clause-row
-leads_to_many-requires-clause-row c =
+pub row_leads_to_many-requires-clause-row : goal.row_leads_to_many-requires-clause-row
+row_leads_to_many-requires-clause-row c =
     let passed = c.in-Some.ensures.steps.2 in
     let then = passed.3 in
     c.loop-row.invariant c.in-Some.row.now (item_left _ then.0 passed.1 then.1 c.in-Some.row.now _ then.2)

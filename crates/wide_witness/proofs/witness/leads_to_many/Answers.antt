@@ -1,6 +1,5 @@
-use Rattle.std.proofs.Common.{◌≡◌, ◌∙◌, ◌<◌, ℕ, List, length, refl, sym, ap, subst, SFits, w64, to_z-of_z, rules, arith}
+use Rattle.std.proofs.Common.{◌≡◌, ◌∙◌, ◌<◌, ℕ, List, length, refl, sym, ap, subst, arith}
 use Rattle.std.proofs.lemmas.Bool.Decides.{Decides-ltb}
-use Rattle.itpg_base.specs.Spans.{Span}
 use Rattle.relation_rows.specs.Rows.{RowsHold}
 use Rattle.relation_rows.specs.declared.times.OneRow.{OneRow}
 use Rattle.wide_witness.specs.declared.reach.Reach.{Reach}
@@ -11,11 +10,8 @@ use Rattle.wide_witness.proofs.witness.leads_to_many.Goals.{then-is_unsettled+in
 
 pub loop-step-init : goal.loop-step-init
 loop-step-init c =
-    let from : SFits w64 c.args.row.now.band.from = search rules in
-    let made = simp to_z-of_z at c.in-Some.ensures.value in
-    start_reached (RowsHold c.args.x.now) (point c.args.row.now.source.0 c.args.row.now.band.from) (record { object = c.args.row.now.source; span = c.in-Some.span }) refl
-    (ap (λ (s : Span). s.from) made)
-    (ap (λ (s : Span). s.to) made)
+    let start = c.args.start.now in
+    start_reached (RowsHold c.args.x.now) (point start.object.0 start.span.from) start refl refl (c.requires.start.2).one
     _
     _
     (c.new-reach.ensures.all ∙ c.in_ok-all.ensures.items)
@@ -32,7 +28,7 @@ step-requires-clause-newest c =
 
 pub loop-step-preserved : goal.loop-step-preserved
 loop-step-preserved c =
-    let from = point c.args.row.now.source.0 c.args.row.now.band.from in
+    let from = point c.args.start.now.object.0 c.args.start.now.span.from in
     let step = c.loop-step.step in
     c.in_ok-step.ensures from step
     (elim c.if-is_unsettled.branch [
@@ -45,14 +41,15 @@ loop-step-preserved c =
 
 pub returns : goal.returns
 returns c = λ yes.
-    let from = point c.args.row.now.source.0 c.args.row.now.band.from in
+    let from = point c.args.start.now.object.0 c.args.start.now.span.from in
     let all = c.loop-step.reach.all.items in
     let newest = c.loop-step.reach.newest.items in
     let runs = c.settle-2.new.self.all.items in
     let last : c.loop-step.step ≡ c.args.steps = omega arith in
     let more = (Decides-ltb c.args.limit c.len.result).0 yes in
     let many : c.args.limit < length runs = omega (arith, more, c.len.ensures) in
-    seen_wide c.args.x.now c.args.row.now c.requires.row (c.requires.rows c.args.row.now c.requires.row) c.args.steps c.args.limit all newest runs
+    let row = c.requires.start in
+    seen_wide c.args.x.now row.0 row.1 (c.requires.rows row.0 row.1) c.args.start.now row.2 c.args.steps c.args.limit all newest runs
     (subst (λ (v : ℕ). AreReached (RowsHold c.args.x.now) from v all newest) last c.loop-step.invariant)
     c.in_ok-settle-2.ensures.all
     many
