@@ -22,6 +22,9 @@ LOOP = [f"graph g 0 {LAST}", "node a A", f"live a 0 {LAST}", "node b B", f"live 
         "edge f L a b", f"live f 0 {LAST}"]
 # A node that exists late.
 LATE = [f"graph g 0 {LAST}", "node a A", "live a 500000000000 599999999999"]
+# Few moments: a loop, and an edge that holds for some of them; and a node that exists for some.
+PART = ["graph g 0 7999", "node a A", "live a 0 7999", "node b B", "live b 0 7999", "edge e L a a", "live e 0 7999", "edge f L a b", "live f 2000 4999"]
+SOME = ["graph g 0 9599", "node a A", "live a 2400 5999"]
 INNER = "(x {time >= 1000000 AND time < 1000000000})"
 
 
@@ -40,6 +43,9 @@ SCRIPTS = [
     (LOOP, "ask MATCH (x)-/(FWD/FWD/N + P/P)*/-(y)", ["wide"]),
     (LOOP, "ask MATCH (x)-/(FWD/FWD/N/N + P/P)*/-(y)", ["wide"]),
     (LOOP, "ask MATCH (x)-/(NEXT/NEXT + FWD/FWD/P)*/-(y)", ["wide"]),
+    (PART, "ask MATCH (x:B)-/(FWD/FWD/N + P/P)*/-(y {time = 1})", ["rows 4000"]),
+    (SOME, "ask MATCH (x)-/(NEXT*/N/N)*/-(y)", ["rows 2"]),
+    (LATE, "ask MATCH (x)-/(N/N + NEXT[0,3000])[1000,1000]/-()", ["rows 1"]),
     (ONE, "ask MATCH (x)-/(N + P)[3000,_]/-(y)", ["rows 1"]),
     (ONE, "ask MATCH (x)-/(N + P)[6000,_]/-(y)", ["rows 1"]),
     (ONE, f"ask MATCH {INNER}-/(N/N)[0,4000]/(P/P/P)[0,3000]/-(y)", ["rows 3"]),

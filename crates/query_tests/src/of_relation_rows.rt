@@ -51,7 +51,9 @@ fn what_is_known_is_joined_with_where_it_goes_on(rt: HostRuntime) {
     let horizon = Span::new(0, 9).expect(&rt, "a span");
     let known = Relation::identity(rt.alloc(), &[ObjNo(7)], horizon, 1).expect(&rt, "one row");
     let onward = known.onward().expect(&rt, "memory");
-    let all = onward.union_behind(&known, &known, 1).expect(&rt, "one row");
+    let all = onward
+        .union_behind(&known, &known, 1)
+        .expect(&rt, "one row");
     assert!(rt; all.same(&known));
     assert!(rt; matches!(onward.union_behind(&known, &known, 0), Err(RelFault::Wide)));
 }
