@@ -9,6 +9,9 @@ const FEW: u64 = 16;
 // A step that takes less than twice as far at once by this factor takes far less.
 const FAR: u64 = 16;
 
+// So many steps at most are looked ahead where what is new becomes less.
+const AHEAD: u64 = 4;
+
 /// Whether what is new is so much of the union that this is squared.
 pub(crate) fn is_much(newest: u64, all: u64) -> bool {
     newest > all / 4
@@ -24,6 +27,16 @@ pub(crate) fn has_replaced<C: Composed>(c: &C, half: &Grown<C::Value>) -> bool {
 /// Whether the steps are so few, and each so much less than twice as far at once, that they pay also where they replace what was there.
 pub(crate) fn are_far_less(steps: u64, step: u64, doubling: u64) -> bool {
     steps <= FEW && step.saturating_mul(FAR) <= doubling
+}
+
+/// How many of the steps that are left are looked ahead: a few where what is new has become less, since it may soon be nothing, and all of
+/// them where it hasn't, as on a ring.
+pub(crate) fn steps_ahead(former: u64, newest: u64, left: u64) -> u64 {
+    if newest < former {
+        left.min(AHEAD)
+    } else {
+        left
+    }
 }
 
 /// A step further: what is new with x, and then the union.

@@ -6,11 +6,8 @@ ghost use Rattle.repeat_engine.specs.GrownUnions.{newest_or, OfEach, IsNewest, I
 
 use crate::Composed;
 use crate::calls::{compose, union};
-use crate::costs::{are_far_less, doubling_cost, has_replaced, step_cost};
+use crate::costs::{are_far_less, doubling_cost, has_replaced, step_cost, steps_ahead};
 use crate::grown_union::{Grown, alone, grown_to, newest_of};
-
-// So many steps at most are looked ahead, since what is new becomes less.
-const AHEAD: u64 = 4;
 
 /// Twice as far by single steps, while the next ones look much cheaper than all at once. None where they don't, or where what they
 /// need doesn't fit.
@@ -31,10 +28,13 @@ pub(crate) fn walked<C: Composed>(
     let doubling = doubling_cost(c, half);
     let mut spent = 0u64;
     let mut last = None;
+    let mut former = u64::MAX;
     for step in 0..k {
         let from = latest_of(&last, half);
         let cost = step_cost(c, x, from);
-        let ahead = cost.saturating_mul(AHEAD.min(k - step));
+        let newest = c.size(newest_of(from));
+        let ahead = cost.saturating_mul(steps_ahead(former, newest, k - step));
+        former = newest;
         if ahead > (doubling / 2).saturating_sub(spent) {
             return None;
         }

@@ -71,6 +71,8 @@ fn united<C: Composed>(
     if double.done {
         return Ok(double);
     }
+    // It may be long, and the step makes another long one.
+    drop(half);
     stepped(c, x, first, &double)
 }
 

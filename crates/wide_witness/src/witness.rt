@@ -1,6 +1,6 @@
 //! Points from which steps are followed.
 
-ghost use Rattle.std.specs.Prelude.{IsTrue, IfOk, IfSome};
+ghost use Rattle.std.specs.Prelude.{◌≤ℤ◌, IsTrue, IfOk, IfSome};
 ghost use Rattle.itpg_base.specs.Lists.{Among};
 ghost use Rattle.band_normal.specs.Bands.{IsWellFormed};
 ghost use Rattle.relation_rows.specs.declared.rows.Row.{Row as PlainRow};
@@ -8,6 +8,7 @@ ghost use Rattle.relation_rows.specs.Rows.{RowsHold};
 ghost use Rattle.wide_witness.specs.Steps.{IsDepartureOf, IsSeenWide};
 
 use crate::reach::Reach;
+use band_normal::zone_of;
 use interval_set::Span;
 use relation_rows::{OneRow, Relation, Row};
 use std::alloc::{AllocError, Global};
@@ -43,24 +44,30 @@ fn is_hopeless(reach: &Reach, step: u64, looks: Looks, steps: u64) -> bool {
     step % TRIED == 0 && (reach.all.len() as u64) < step / 2
 }
 
-// The row's source at its first departure.
-fn first_of(row: &Row) -> Option<OneRow>
-    requires { IsWellFormed row.now.band }
-    ensures { IfSome result (λ start. IsDepartureOf row.now start) }
+// Whether one departure may lead to more runs than the limit: those of one object stand apart, and at each of their moments some row
+// arrives. It has no clause, since either answer is right.
+fn may_be_many(rows: &[Row], limit: u32) -> bool
+    requires { (r : PlainRow) → Among rows.now r → IsWellFormed r.band }
 {
-    let span = Span::new(row.band.from, row.band.from)?;
-    Some(OneRow {
-        object: row.source,
-        span,
-    })
+    let mut first = i64::MAX;
+    let mut last = i64::MIN;
+    for row in rows {
+        let bounds = zone_of(&row.band).bounds();
+        first = first.min(bounds.c);
+        last = last.max(bounds.d);
+    }
+    let most = (last.abs_diff(first) / 2).saturating_add(1);
+    most.saturating_mul(rows.len() as u64) >= limit as u64
 }
 
-// The row's source at its last departure.
-fn last_of(row: &Row) -> Option<OneRow>
-    requires { IsWellFormed row.now.band }
+// The row's source at one of its departures.
+fn start_at(row: &Row, departure: i64) -> Option<OneRow>
+    requires formed { IsWellFormed row.now.band }
+    requires from { row.now.band.from ≤ℤ departure }
+    requires to { departure ≤ℤ row.now.band.to }
     ensures { IfSome result (λ start. IsDepartureOf row.now start) }
 {
-    let span = Span::new(row.band.to, row.band.to)?;
+    let span = Span::new(departure, departure)?;
     Some(OneRow {
         object: row.source,
         span,
@@ -118,12 +125,15 @@ fn row_leads_to_many(
     requires rows { (r : PlainRow) → Among x.now r → IsWellFormed r.band }
     ensures { IfOk result (λ many. IsTrue many → IsSeenWide (RowsHold x.now) steps limit) }
 {
-    if let Some(first) = first_of(row) {
+    if let Some(first) = start_at(row, row.band.from) {
         if leads_to_many(alloc, x, &first, steps, limit, spent)? {
             return Ok(true);
         }
     }
-    let Some(last) = last_of(row) else {
+    if row.band.from == row.band.to {
+        return Ok(false);
+    }
+    let Some(last) = start_at(row, row.band.to) else {
         return Ok(false);
     };
     leads_to_many(alloc, x, &last, steps, limit, spent)
@@ -143,6 +153,9 @@ pub fn is_seen_wide(alloc: Global, x: &Relation, steps: u64, limit: u32) -> Resu
     ensures { IfOk result (λ seen. IsTrue seen → IsSeenWide (RowsHold x.now) steps limit) }
 {
     let rows = x.rows();
+    if !may_be_many(rows, limit) {
+        return Ok(false);
+    }
     let mut spent = 0;
     for row in rows.iter().step_by(rows.len() / POINTS + 1) {
         if row_leads_to_many(alloc, x, row, steps, limit, &mut spent)? {
