@@ -8,7 +8,7 @@ use Rattle.std.proofs.lemmas.Int.{ints}
 use Rattle.std.proofs.lemmas.List.{take_all, get_or_default}
 use Rattle.std.proofs.Math.Seq.{drop-cons}
 use Rattle.zone_core.specs.declared.Bounds.{Bounds}
-use Rattle.zone_core.specs.Zone.{Meets}
+use Rattle.zone_core.specs.Zone.{Meets, MeetsFirstOnly}
 use Rattle.itpg_base.specs.Lists.{Among, Ordered}
 use Rattle.band_normal.specs.Bands.{InBand, IsWellFormed}
 use Rattle.band_normal.specs.Zones.{SomeMeets}
@@ -66,6 +66,20 @@ whole_added row cuts zone is none old new e t u =
       λ h. ⊎_elim (λ a. inl a) (λ a. inr ((is t u).0 a, λ (s : SomeHasBand cuts t u). absurd (subst (λ (v : List Row). Among v s.0) none s.1))) (more.0 h),
       λ h. more.1 (⊎_elim (λ a. inl a) (λ a. inr ((is t u).1 a.0)) h),
     )
+
+-- a row is added without the one cut that meets it
+pub one_cut_added : (row : Row) (cuts : List Row) (zone cut : Bounds) (d : Row) → ((t u : ℤ) → Meets zone t u ↔ InBand row.band t u) → ((t u : ℤ) → Meets cut t u ↔ InBand (slice_index_or cuts 0 d).band t u)
+    → 1 ≤ length cuts → length cuts < 2 → (old new : List Bounds) → ((t : ℤ) (u : ℤ) → SomeMeets new t u ↔ (SomeMeets old t u ⊎ MeetsFirstOnly zone cut t u))
+    → (t : ℤ) (u : ℤ) → SomeMeets new t u ↔ (SomeMeets old t u ⊎ (InBand row.band t u × (¬ SomeHasBand cuts t u)))
+one_cut_added row [] zone cut d is cuts_is some few old new added t u = absurd (omega arith)
+one_cut_added row (c ∷ []) zone cut d is cut_is some few old new added t u = (
+  λ h. ⊎_elim
+      (λ a. inl a)
+      (λ a. inr ((is t u).0 a.0, λ (s : SomeHasBand (c ∷ []) t u). a.1 ((cut_is t u).1 (⊎_elim (λ (e : c ≡ s.0). subst (λ (v : Row). InBand v.band t u) (sym e) s.2) (λ f. absurd f) s.1))))
+      ((added t u).0 h),
+  λ h. (added t u).1 (⊎_elim (λ a. inl a) (λ a. inr ((is t u).1 a.0, λ m. a.1 (c, inl refl, (cut_is t u).0 m))) h),
+)
+one_cut_added row (c ∷ e ∷ more) zone cut d is cut_is some few old new added t u = absurd (omega arith)
 
 -- a row is added without the cuts
 pub rest_added : (row : Row) (cuts : List Row) (zone : Bounds) → ((t u : ℤ) → Meets zone t u ↔ InBand row.band t u) → (zones read rest copied : List Bounds) → AreOfBands cuts zones → read ≡ zones

@@ -56,3 +56,4 @@ mod LeadingBack
 mod SubRows
 mod Joining
 mod ByRows
+mod Covering

@@ -211,10 +211,10 @@ module _ (R : Relation) where
   at_among o p (b ∷ bs) r (inl e) = (sym (ap (λ (v : Row). v.source.0) e), sym (ap (λ (v : Row). v.target.0) e), inl (ap (λ (v : Row). v.band) e))
   at_among o p (b ∷ bs) r (inr h) = let a = at_among o p bs r h in (a.0, a.1, inr a.2)
 
-  among_at : (o p : ℕ) (bs : List Band) (b : Band) → Among bs b → Among (rows_at o p bs) (record { source = record { 0 = o }; target = record { 0 = p }; band = b })
-  among_at o p [] b h = absurd h
-  among_at o p (c ∷ bs) b (inl e) = inl (same_rows refl refl e)
-  among_at o p (c ∷ bs) b (inr h) = inr (among_at o p bs b h)
+  pub among_rows_at : (o p : ℕ) (bs : List Band) (b : Band) → Among bs b → Among (rows_at o p bs) (record { source = record { 0 = o }; target = record { 0 = p }; band = b })
+  among_rows_at o p [] b h = absurd h
+  among_rows_at o p (c ∷ bs) b (inl e) = inl (same_rows refl refl e)
+  among_rows_at o p (c ∷ bs) b (inr h) = inr (among_rows_at o p bs b h)
 
   at_ordered : (o p : ℕ) (bs : List Band) → Ordered IsBefore bs → Ordered RowBefore (rows_at o p bs)
   at_ordered o p [] h = tt
@@ -224,7 +224,7 @@ module _ (R : Relation) where
   one_key o p bs n = record {
     whole = λ x y k h.
         let w = n.whole x.moment y.moment (subst (λ (v : ℕ). R (record { object = v; moment = x.moment }) (record { object = p; moment = y.moment })) k.0 (subst (λ (v : ℕ). R x (record { object = v; moment = y.moment })) k.1 h)) in
-        (record { source = record { 0 = o }; target = record { 0 = p }; band = w.0 }, among_at o p bs w.0 w.1, record { source = sym k.0; target = sym k.1; pair = w.2 });
+        (record { source = record { 0 = o }; target = record { 0 = p }; band = w.0 }, among_rows_at o p bs w.0 w.1, record { source = sym k.0; target = sym k.1; pair = w.2 });
     keys = λ r i. let a = at_among o p bs r i in (a.0, a.1);
     once = λ r s x y i j m k.
         let a = at_among o p bs r i in let b = at_among o p bs s j in

@@ -1,7 +1,7 @@
 -- Normal rows of one part of some ways after those of the parts before it.
-use Rattle.std.proofs.Common.{◌≡◌, ◌↔◌, ◌⊎◌, inl, inr, ⊎_elim, ℕ, ◌+◌, ◌<◌, ◌≤◌, ℤ, pos, ◌+ℤ◌, ◌≤ℤ◌, ◌<ℤ◌, List, [], ◌∷◌, ◌++◌, length, take, drop, get_or, Some, None, false, refl, sym, ◌∙◌, subst, arith, true≢false, append_assoc, append-nil}
+use Rattle.std.proofs.Common.{◌≡◌, ◌⊎◌, inl, inr, ⊎_elim, ℕ, ◌+◌, ◌<◌, ◌≤◌, ℤ, pos, ◌+ℤ◌, ◌≤ℤ◌, ◌<ℤ◌, List, [], ◌∷◌, ◌++◌, length, take, drop, get_or, Some, None, false, refl, sym, ◌∙◌, subst, arith, true≢false, append_assoc, append-nil}
 use Rattle.std.proofs.lemmas.Int.{ints}
-use Rattle.std.proofs.lemmas.List.{take_more, take-append-drop}
+use Rattle.std.proofs.lemmas.List.{take_all, take_more, take-append-drop}
 use Rattle.std.specs.Prelude.{slice_get}
 use Rattle.std.specs.Ordering.{nat_cmp, int_cmp, is_lt, ordering_then}
 use Rattle.std.specs.declared.cmp.Ordering.{Ordering}
@@ -15,8 +15,7 @@ use Rattle.band_normal.specs.Bands.{end_at}
 use Rattle.band_normal.specs.Normal.{IsRun, IsRow}
 use Rattle.band_normal.proofs.Activity.{not_below}
 use Rattle.relation_rows.specs.declared.rows.Row.{Row}
-use Rattle.relation_rows.specs.Rows.{between, InRow, RowsHold, HasKey, KeyBefore, RowBefore, NormalRows, IsRelation}
-use Rattle.relation_rows.specs.Relations.{Item, ItemsHold}
+use Rattle.relation_rows.specs.Rows.{between, InRow, RowsHold, HasKey, KeyBefore, RowBefore, NormalRows}
 use Rattle.relation_rows.specs.Searching.{has_key}
 use Rattle.relation_rows.specs.Apart.{AreLone, PartBefore, ComesApart, StandsUpTo}
 use Rattle.relation_rows.specs.Direct.{AreItsRows}
@@ -246,6 +245,12 @@ module _ (rows : List Row) (i : ℕ) (d first : Row) (last : ℤ) (o : Ordered S
       h)
       (ordered_from StandsUpTo rows i d o lt t b)
 
+pub part_keys : (rows : List Row) (i : ℕ) (first : Row) (last : ℤ) → AreOfPart rows i first last → (r : Row) → Among (take i rows) r → HasKey r first.source.0 first.target.0
+part_keys rows i first last all r a = (all r a).0
+
+pub all_keys : (rows : List Row) (i : ℕ) (first : Row) (last : ℤ) → length rows ≤ i → AreOfPart rows i first last → (r : Row) → Among (take (length rows) rows) r → HasKey r first.source.0 first.target.0
+all_keys rows i first last le all r a = (all r (subst (λ (v : List Row). Among v r) (take_all (length rows) rows (omega arith) ∙ sym (take_all i rows le)) a)).0
+
 pub key_of_first : (rows : List Row) (i : ℕ) (d first : Row) → i ≡ 0 → slice_get rows 0 ≡ Some first → HasKey (get_or rows i d) first.source.0 first.target.0
 key_of_first rows i d first none is = subst (λ (v : ℕ). HasKey (get_or rows v d) first.source.0 first.target.0) (sym none) (subst (λ (v : Row). HasKey v first.source.0 first.target.0) (sym (same rows is)) (refl, refl))
   where
@@ -260,15 +265,6 @@ not_of_key r o p other k = true≢false (sym (is_key r o p k) ∙ other)
 
 pub apart_settled : (rows : List Row) → AreLone rows → Ordered ComesApart rows → AreItsRows (RowsHold rows) rows
 apart_settled rows lone order = record { normal = apart_normal rows lone order (RowsHold rows) (λ x y. (λ h. h, λ h. h)); formed = λ r a. (lone r a).formed }
-
-pub zones_settled : (part : List Row) (old new : List Item) → old ≡ [] → ((x y : Point) → ItemsHold new x y ↔ (ItemsHold old x y ⊎ RowsHold part x y))
-    → (all made rows : List Row) → NormalRows (ItemsHold new) all → IsRelation made → made ≡ all → rows ≡ made → AreItsRows (RowsHold part) rows
-zones_settled part old new none is all made rows n relation e f =
-    let to : (x y : Point) → ItemsHold new x y → RowsHold part x y = λ x y h. ⊎_elim (λ k. absurd (subst (λ (v : List Item). ItemsHold v x y) none k).1) (λ k. k) ((is x y).0 h) in
-    subst (AreItsRows (RowsHold part)) (sym f) (record {
-      normal = rows_alike (ItemsHold new) (RowsHold part) to (λ x y h. (is x y).1 (inr h)) made (subst (NormalRows (ItemsHold new)) (sym e) n);
-      formed = relation.formed;
-    })
 
 -- ---- rows that are sorted by source, target and first departure
 

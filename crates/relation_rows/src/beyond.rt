@@ -1,44 +1,44 @@
 //! What is known, and where some rows go on from it.
 //!
 //! Ways by the last step lead most often to where others have led before, and lie within one of the rows that are known from there. Such
-//! ways are passed over before they are put in order. What is left is made normal together with the known rows of the same source and
-//! target, and all other known rows stay as they are.
+//! ways are passed over before they are put in order. The rows of those that are left, and all known ones, are settled together.
 
-ghost use Rattle.std.specs.Prelude.{◌≡◌, ◌++◌, ◌⊎◌, ◌↔◌, IsTrue, IfOk, OnOk};
+ghost use Rattle.std.specs.Prelude.{◌⊎◌, ◌↔◌, IsTrue, IfOk};
 ghost use Rattle.itpg_base.specs.Points.{Point};
-ghost use Rattle.itpg_base.specs.Lists.{Among, Ordered};
+ghost use Rattle.itpg_base.specs.Lists.{Among};
 ghost use Rattle.band_normal.specs.Bands.{IsWellFormed};
 ghost use Rattle.relation_rows.specs.declared.rows.Row.{Row as PlainRow};
-ghost use Rattle.relation_rows.specs.Rows.{InRow, IsRelation, NormalRows, RowBefore, RowsHold};
+ghost use Rattle.relation_rows.specs.Rows.{InRow, IsRelation, RowsHold};
 ghost use Rattle.relation_rows.specs.Answers.{Gives};
 ghost use Rattle.relation_rows.specs.Relations.{InItem, ItemsHold, HasMiddlePoint, HoldsOrLeads};
 ghost use Rattle.relation_rows.specs.Ways.{AreComposed};
 
-use crate::compose::by_departure;
-use crate::gather::{Item, gathered, place_of, push_zones, sort_items};
-use crate::known::Known;
+use crate::compose::within;
+use crate::gather::Item;
+use crate::item_rows::relation_of;
 use crate::latest::{NOTED, note, noted};
 use crate::offsets::Offsets;
 use crate::relations::Relation;
-use crate::rows::{RelFault, Row};
-use crate::search::{comes_before_key, is_of_key, leading_before};
+use crate::rows::{RelFault, Row, first_arrival_of};
+use crate::search::{comes_before_key, is_of_key};
 use crate::timetable::Leg;
-use crate::union::united;
 use crate::ways::with_ways;
 use band_normal::zone_of;
-use itpg_base::count_leading;
 use std::alloc::{AllocError, Global};
 
 // So many rows are passed one after the other, before they are searched.
 const STRIDE: usize = 8;
+
+// For so many ways by each row there is room from the start.
+const ROOM: usize = 4;
 
 // Whether the row leads as the item does and departs no later.
 fn departs_by(row: &Row, item: &Item) -> bool {
     is_of_key(row, item.0, item.1) && row.band.from <= item.2.bounds().a
 }
 
-// The place of the last row that leads as the item does and departs no later, as it is told from the hint on. It has no clause, since any
-// answer is right: the rows there are looked at.
+// A guess at the place of the last row that leads as the item does and departs no later, sought from the hint on. It has no clause, since
+// the rows there are looked at.
 fn place_for(rows: &[Row], item: &Item, hint: usize) -> usize {
     let mut place = hint;
     for _ in 0..STRIDE {
@@ -96,7 +96,7 @@ fn beyond(alloc: Global, ways: &[Item], rows: &[Row]) -> Result<Vec<Item>, Alloc
     ensures there { IfOk result (λ left. (x : Point) → (y : Point) → ItemsHold left.items x y → ItemsHold ways.now x y) }
     ensures each { IfOk result (λ left. (x : Point) → (y : Point) → ItemsHold ways.now x y → ItemsHold left.items x y ⊎ RowsHold rows.now x y) }
 {
-    let mut left = Vec::new(alloc);
+    let mut left = Vec::with_capacity(alloc, ways.len() / 2)?;
     let mut places = [0usize; NOTED];
     for way in ways {
         let place = place_for(rows, way, noted(&places, way.1));
@@ -109,7 +109,17 @@ fn beyond(alloc: Global, ways: &[Item], rows: &[Row]) -> Result<Vec<Item>, Alloc
     Ok(left)
 }
 
-// The ways by one of the rows and the second, in order, without most of those that all rows know.
+// The rows by first departure, and of those that depart together the one first that arrives first. Its ways have most often all pairs of
+// those by the others.
+fn by_arrival(alloc: Global, rows: &[Row]) -> Result<Vec<Row>, AllocError>
+    ensures { IfOk result (λ sorted. (r : PlainRow) → Among sorted.items r ↔ Among rows.now r) }
+{
+    let mut sorted = Vec::from_slice(alloc, rows)?;
+    sorted.sort_unstable_by_key(|row| (row.band.from, first_arrival_of(row)));
+    Ok(sorted)
+}
+
+// The ways by one of the rows and the second, without most of those that all rows know. Their rows will stand nearly in order.
 fn fresh_ways(
     alloc: Global,
     all: &[Row],
@@ -123,59 +133,13 @@ fn fresh_ways(
     ensures there { IfOk result (λ fresh. (x : Point) → (y : Point) → ItemsHold fresh.items x y → HasMiddlePoint rows.now second.now x y) }
     ensures each { IfOk result (λ fresh. (x : Point) → (y : Point) → HasMiddlePoint rows.now second.now x y → ItemsHold fresh.items x y ⊎ RowsHold all.now x y) }
 {
-    let sorted = by_departure(alloc, rows)?;
+    let sorted = by_arrival(alloc, rows)?;
     let mut found = Vec::new(alloc);
-    let space = Vec::with_capacity(alloc, rows.len())?;
+    let space = Vec::with_capacity(alloc, rows.len().saturating_mul(ROOM))?;
     let ways = with_ways(space, &mut found, &sorted, second, busy)?;
     let mut fresh = beyond(alloc, &ways, all)?;
-    sort_items(&mut fresh);
+    fresh.sort_unstable_by_key(|item| (item.0, item.1, item.2.bounds().a));
     Ok(fresh)
-}
-
-// Of rows in order, those that come by source and target before the item, those that lead as it does, and the others.
-fn around<'a>(rows: &'a [Row], item: &Item) -> (&'a [Row], &'a [Row], &'a [Row])
-    requires { Ordered RowBefore rows.now }
-    ensures { result.0.now ++ (result.1.now ++ result.2.now) ≡ rows.now }
-{
-    let (before, from_key) = rows.split_at(leading_before(rows, item.0, item.1));
-    let count = count_leading(from_key, |row| is_of_key(row, item.0, item.1));
-    let (here, later) = from_key.split_at(count);
-    (before, here, later)
-}
-
-// The rows that lead as no item does, which stand in order, and the zones of the others. The items stand in order.
-fn parted(alloc: Global, rows: &[Row], items: &[Item]) -> Result<(Vec<Row>, Vec<Item>), AllocError>
-    requires order { Ordered RowBefore rows.now }
-    requires formed { (r : PlainRow) → Among rows.now r → IsWellFormed r.band }
-    ensures order { IfOk result (λ p. Ordered RowBefore p.0.items) }
-    ensures there { IfOk result (λ p. (r : PlainRow) → Among p.0.items r → Among rows.now r) }
-    ensures same { IfOk result (λ p. (x : Point) → (y : Point) → RowsHold rows.now x y ↔ (RowsHold p.0.items x y ⊎ ItemsHold p.1.items x y)) }
-{
-    let mut rest = Vec::new(alloc);
-    let mut zones = Vec::new(alloc);
-    let mut left = rows;
-    for item in items {
-        let (before, here, later) = around(left, item);
-        rest.extend_from_slice(before)?;
-        push_zones(&mut zones, here)?;
-        left = later;
-    }
-    rest.extend_from_slice(left)?;
-    Ok((rest, zones))
-}
-
-// The rows of the zones and of the fresh ways, which are in order each.
-fn remade(known: &mut Known, zones: Vec<Item>, fresh: &[Item]) -> Result<Relation, AllocError>
-    ensures { IfOk result (λ rows. NormalRows (λ x y. ItemsHold zones.items x y ⊎ ItemsHold fresh.now x y) rows) }
-{
-    let mut items = zones;
-    items.extend_from_slice(fresh)?;
-    items.sort_by_key(|item| place_of(item))?;
-    match gathered(known, &items, usize::MAX) {
-        Ok(relation) => Ok(relation),
-        Err(RelFault::Memory) => Err(AllocError),
-        Err(RelFault::Wide) => unreachable!(),
-    }
 }
 
 /// The relation of all rows and of the ways by one of the rows and the second.
@@ -193,8 +157,6 @@ pub(crate) fn joined(
     ensures { Gives result (HoldsOrLeads all.now rows.now second.now) room }
 {
     let fresh = fresh_ways(alloc, all, rows, second, busy)?;
-    let (rest, zones) = parted(alloc, all, &fresh)?;
-    let mut known = Known::new(alloc);
-    let made = remade(&mut known, zones, &fresh)?;
-    united(alloc, &rest, &made.rows, room)
+    let relation = relation_of(alloc, &fresh, all)?;
+    within(relation, room)
 }

@@ -12,7 +12,7 @@ ghost use Rattle.relation_rows.specs.Uniting.{SomeHasBand};
 ghost use Rattle.relation_rows.specs.Minus.{OnlyFirstHasBand};
 ghost use Rattle.relation_rows.specs.Ways.{DepartsNoLater};
 
-use crate::minus::{without_each, zones_of_bands};
+use crate::minus::{push_without, without_each, zones_of_bands};
 use crate::rows::Row;
 use band_normal::zone_of;
 use std::alloc::{AllocError, Global};
@@ -78,6 +78,10 @@ fn push_row_left(left: &mut Vec<Zone>, row: &Row, cuts: &[Row]) -> Result<(), Al
     let zone = zone_of(&row.band);
     if cuts.is_empty() {
         left.push(zone)?;
+        return Ok(());
+    }
+    if let [cut] = cuts {
+        push_without(left, &zone, &zone_of(&cut.band))?;
         return Ok(());
     }
     let alloc = *left.allocator();

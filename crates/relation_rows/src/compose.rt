@@ -91,8 +91,8 @@ fn busy_rows(alloc: Global, rows: &[Row]) -> Result<Vec<Row>, AllocError>
     Ok(busy)
 }
 
-/// The rows by their first departure. Those of one target stand so.
-pub(crate) fn by_departure(alloc: Global, rows: &[Row]) -> Result<Vec<Row>, AllocError>
+// The rows by their first departure. Those of one target stand so.
+fn by_departure(alloc: Global, rows: &[Row]) -> Result<Vec<Row>, AllocError>
     ensures order { IfOk result (λ sorted. Ordered DepartsNoLater sorted.items) }
     ensures same { IfOk result (λ sorted. (r : PlainRow) → Among sorted.items r ↔ Among rows.now r) }
 {
@@ -163,8 +163,8 @@ pub(crate) fn by_zones(
     gathered_of(known, ways, room)
 }
 
-// The relation, unless it has too many rows.
-fn within(relation: Relation, room: usize) -> Result<Relation, RelFault>
+/// The relation, unless it has too many rows.
+pub(crate) fn within(relation: Relation, room: usize) -> Result<Relation, RelFault>
     ensures { Gives result (RowsHold relation) room }
 {
     if relation.rows.len() > room {

@@ -219,8 +219,8 @@ fn known_ways(
     Ok(Some(ways))
 }
 
-// Puts the rows in order.
-fn sort_rows(rows: &mut Vec<Row>) -> Result<(), AllocError>
+/// Puts the rows in order.
+pub(crate) fn sort_rows(rows: &mut Vec<Row>) -> Result<(), AllocError>
     ensures order { OnOk result (Ordered StandsUpTo rows.new.items) }
     ensures same { OnOk result ((r : PlainRow) → Among rows.new.items r ↔ Among rows.old.items r) }
 {

@@ -30,7 +30,7 @@ use std::cmp::Reverse;
 use zone_core::Zone;
 
 // For so many rows at most there is room from the start.
-const ROOM: usize = 64;
+const ROOM: usize = 4_096;
 
 /// A zone of moments from a source to a target.
 pub(crate) type Item = (ObjNo, ObjNo, Zone);
@@ -139,9 +139,9 @@ pub(crate) fn gathered(known: &mut Known, items: &[Item], room: usize) -> Result
     Ok(Relation { rows })
 }
 
-/// By this items are sorted: by source and target, and then such that a zone often lies inside the one before it. Of those that begin
-/// together the longest comes first.
-pub(crate) fn place_of(item: &Item) -> ((ObjNo, ObjNo), (i64, i64, Reverse<i64>))
+// By this items are sorted: by source and target, and then such that a zone often lies inside the one before it. Of those that begin
+// together the longest comes first.
+fn place_of(item: &Item) -> ((ObjNo, ObjNo), (i64, i64, Reverse<i64>))
     ensures { result ≡ ((item.now.0, item.now.1), (item.now.2.a, item.now.2.c, record { 0 = item.now.2.b })) }
 {
     let bounds = item.2.bounds();
@@ -210,22 +210,24 @@ pub(crate) fn gathered_of(
     gathered(known, &items, room)
 }
 
-/// The relation of the items, whatever number of rows it has, by what is known.
-pub(crate) fn gathered_with(known: &mut Known, items: Vec<Item>) -> Result<Relation, AllocError>
+// Puts the items in order by source and target alone. Most often they stand so.
+fn sort_by_target(items: &mut Vec<Item>)
+    ensures order { Ordered ItemUpTo items.new.items }
+    ensures same { IsPermutation items.old.items items.new.items }
+{
+    items.sort_unstable_by_key(|item| (item.0, item.1));
+}
+
+/// The relation of the items, whatever number of rows it has.
+pub(crate) fn gathered_all(alloc: Global, mut items: Vec<Item>) -> Result<Relation, AllocError>
     ensures { IfOk result (λ rows. NormalRows (ItemsHold items.items) rows) }
 {
-    match gathered_of(known, items, usize::MAX) {
+    sort_by_target(&mut items);
+    match gathered(&mut Known::new(alloc), &items, usize::MAX) {
         Ok(relation) => Ok(relation),
         Err(RelFault::Memory) => Err(AllocError),
         Err(RelFault::Wide) => unreachable!(),
     }
-}
-
-/// The relation of the items, whatever number of rows it has.
-pub(crate) fn gathered_all(alloc: Global, items: Vec<Item>) -> Result<Relation, AllocError>
-    ensures { IfOk result (λ rows. NormalRows (ItemsHold items.items) rows) }
-{
-    gathered_with(&mut Known::new(alloc), items)
 }
 
 /// The relation of the zone from each object to itself. The zone is made normal once for all.

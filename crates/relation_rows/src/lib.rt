@@ -18,6 +18,7 @@ mod gather;
 mod halves;
 mod held;
 mod idle;
+mod item_rows;
 mod known;
 mod latest;
 pub mod laws;

@@ -42,8 +42,8 @@ fn push_places(zones: &mut Vec<Zone>, places: &[Option<Zone>]) -> Result<(), All
     Ok(())
 }
 
-// Adds what is left of the zone without the pairs of the other. It stays whole where it has none of them.
-fn push_without(left: &mut Vec<Zone>, zone: &Zone, cut: &Zone) -> Result<(), AllocError>
+/// Adds what is left of the zone without the pairs of the other. It stays whole where it has none of them.
+pub(crate) fn push_without(left: &mut Vec<Zone>, zone: &Zone, cut: &Zone) -> Result<(), AllocError>
     ensures { OnOk result ((t : ℤ) → (u : ℤ) → SomeMeets left.new.items t u ↔ (SomeMeets left.old.items t u ⊎ MeetsFirstOnly zone.now cut.now t u)) }
 {
     if let None = zone.meet(cut) {

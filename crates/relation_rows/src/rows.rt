@@ -1,6 +1,6 @@
 //! Rows, and why a relation isn't given.
 
-use band_normal::Band;
+use band_normal::{Band, End};
 use itpg_base::ObjNo;
 use std::alloc::AllocError;
 
@@ -17,6 +17,14 @@ pub struct Row {
     pub target: ObjNo,
     /// The moments between which it leads.
     pub band: Band,
+}
+
+/// The least arrival at the row's first departure. It has no clause, since it only helps to put rows in an order, and any is right.
+pub(crate) fn first_arrival_of(row: &Row) -> i64 {
+    match row.band.low {
+        End::Fixed(low) => low,
+        End::Moving(difference) => row.band.from.saturating_add(difference),
+    }
 }
 
 /// Why a relation isn't given.

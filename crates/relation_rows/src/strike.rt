@@ -7,20 +7,14 @@ ghost use Rattle.relation_rows.specs.declared.rows.Row.{Row as PlainRow};
 ghost use Rattle.relation_rows.specs.Rows.{KeyBefore, RowBefore, IsRelation};
 ghost use Rattle.relation_rows.specs.Relations.{OnlyFirstHolds};
 
-use crate::rows::Row;
+use crate::rows::{Row, first_arrival_of};
 use crate::search::{comes_before_key, leading_before};
-use band_normal::End;
 use itpg_base::ObjNo;
 use std::alloc::{AllocError, Global};
 
 // By this rows stand in order.
 fn place_of(row: &Row) -> (ObjNo, ObjNo, i64, i64) {
-    let band = row.band;
-    let low = match band.low {
-        End::Fixed(low) => low,
-        End::Moving(difference) => band.from.saturating_add(difference),
-    };
-    (row.source, row.target, band.from, low)
+    (row.source, row.target, row.band.from, first_arrival_of(row))
 }
 
 // Whether the cut comes by source and target after all rows that were kept and before the next one, so that it cuts none.
@@ -55,8 +49,8 @@ pub(crate) fn struck(
     ensures cuts_there { IfOk result (λ p. (r : PlainRow) → Among p.1.items r → Among second.now r) }
     ensures same { IfOk result (λ p. (x : Point) → (y : Point) → OnlyFirstHolds p.0.items p.1.items x y ↔ OnlyFirstHolds first.now second.now x y) }
 {
-    let mut kept = Vec::new(alloc);
-    let mut cuts = Vec::new(alloc);
+    let mut kept = Vec::with_capacity(alloc, first.len() / 2)?;
+    let mut cuts = Vec::with_capacity(alloc, second.len() / 2)?;
     let mut left = first;
     let mut right = second;
     while let Some((row, rows)) = left.split_first() {

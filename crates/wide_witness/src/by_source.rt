@@ -26,7 +26,7 @@ const FEW_ROWS: u64 = 32;
 // too wide before the union.
 const FEW_NEW: u64 = 128;
 
-const MANY_NEW: u64 = 4096;
+const MANY_NEW: u64 = 65_536;
 
 // What the steps lead to from a source, the most rows that it has for any number of steps, and how many of them led to something new.
 #[derive(Drop)]

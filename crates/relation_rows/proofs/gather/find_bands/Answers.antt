@@ -1,4 +1,4 @@
-use Rattle.std.proofs.Common.{◌≡◌, ◌≤◌, ◌<◌, List, [], ◌∷◌, ◌++◌, length, slice_index_or, map, inl, sym, ◌∙◌, subst, arith, ⊎_elim}
+use Rattle.std.proofs.Common.{◌≡◌, ◌≤◌, ◌<◌, List, [], ◌∷◌, length, slice_index_or, map, inl, sym, ◌∙◌, subst, arith, ⊎_elim}
 use Rattle.zone_core.specs.Zone.{Meets}
 use Rattle.band_normal.specs.declared.band.Band.{Band}
 use Rattle.itpg_base.specs.Lists.{Among}
@@ -7,12 +7,9 @@ use Rattle.band_normal.specs.Normal.{Normal}
 use Rattle.band_normal.specs.Zones.{SomeMeets}
 use Rattle.band_normal.proofs.Sorting.{normal_like}
 use Rattle.relation_rows.specs.Relations.{Item}
+use Rattle.relation_rows.proofs.Covering.{alone_is}
 use Rattle.relation_rows.proofs.ItemZones.{zone_of_item}
 use Rattle.relation_rows.proofs.gather.find_bands.Goals as goal
-
--- what is put into an empty list is all there is
-alone_is : (old more rows : List Band) → old ≡ [] → rows ≡ old ++ more → more ≡ rows
-alone_is old more rows e f = sym (subst (λ (v : List Band). rows ≡ v ++ more) e f)
 
 lone_normal : (items : List Item) (item : Item) (rows : List Band) → 1 ≤ length items → length items < 2 → item ≡ slice_index_or items 0 item → Normal (Meets (zone_of_item item)) rows → Normal (SomeMeets (map zone_of_item items)) rows
 lone_normal (i ∷ []) item rows some few is n =

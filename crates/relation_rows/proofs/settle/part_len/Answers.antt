@@ -1,7 +1,7 @@
 use Rattle.std.proofs.Common.{refl, sym, ◌∙◌, subst, ◌≡◌, arith, SFits, w64, to_z, of_z, to_z-of_z, ◌+◌, get_or}
 use Rattle.std.proofs.lemmas.Int.{ints}
 use Rattle.relation_rows.proofs.Keys.{key_is}
-use Rattle.relation_rows.proofs.Settling.{AreOfPart, one_of_part, later_key, later_departure, key_of_first, not_of_key, no_row}
+use Rattle.relation_rows.proofs.Settling.{AreOfPart, one_of_part, later_key, later_departure, key_of_first, not_of_key, no_row, part_keys, all_keys}
 use Rattle.relation_rows.proofs.settle.part_len.Goals as goal
 use Rattle.relation_rows.proofs.settle.part_len.Goals.{then-i-gt0+else-not-is_of_key+else-is_apart, else-i-gt0}
 
@@ -14,6 +14,15 @@ pub returns-then-is_apart-clause-apart : goal.returns-then-is_apart-clause-apart
 returns-then-is_apart-clause-apart c =
     later_departure c.args.rows.now c.loop-i.i no_row c.args.first.now _ c.requires.order c.loop-i-test.true c.requires.first c.loop-i.invariant
     (key_is (get_or c.args.rows.now c.loop-i.i no_row) _ _ (sym c.is_of_key.ensures ∙ c.if-not-is_of_key.false)) (c.if-is_apart.ensures.0 refl)
+
+pub returns-then-not-is_of_key-clause-key : goal.returns-then-not-is_of_key-clause-key
+returns-then-not-is_of_key-clause-key c = part_keys c.args.rows.now c.loop-i.i c.args.first.now _ c.loop-i.invariant
+
+pub returns-then-is_apart-clause-key : goal.returns-then-is_apart-clause-key
+returns-then-is_apart-clause-key c = part_keys c.args.rows.now c.loop-i.i c.args.first.now _ c.loop-i.invariant
+
+pub returns-clause-key : goal.returns-clause-key
+returns-clause-key c = all_keys c.args.rows.now c.loop-i.i c.args.first.now _ c.loop-i-test.false c.loop-i.invariant
 
 pub loop-i-preserved : goal.loop-i-preserved
 loop-i-preserved c =

@@ -1,14 +1,28 @@
-use Rattle.std.proofs.Common.{refl}
-use Rattle.relation_rows.proofs.Settling.{apart_settled, zones_settled}
+use Rattle.std.proofs.Common.{[], ◌∷◌, get_or, refl}
+use Rattle.relation_rows.specs.Rows.{rows_at}
+use Rattle.relation_rows.proofs.Covering.{bands_settled, covered_settled, lone_settled}
+use Rattle.relation_rows.proofs.Settling.{apart_settled, no_row}
 use Rattle.relation_rows.proofs.settle.push_part.Goals as goal
 
+pub returns-in-len1 : goal.returns-in-len1
+returns-in-len1 c = (get_or c.args.part.now 0 no_row ∷ [], c.in_ok-push.ensures.items, lone_settled c.args.part.now no_row c.requires.lone c.in-len1.len_at_least c.in-len1.len_below)
+
+pub row_of_all-requires : goal.row_of_all-requires
+row_of_all-requires c = λ r a. (c.requires.lone r a).formed
+
+pub returns-in-Some : goal.returns-in-Some
+returns-in-Some c = (c.in-Some.row ∷ [], c.in_ok-push-2.ensures.items, covered_settled c.args.part.now c.in-Some.row c.requires.lone c.in-Some.ensures.there c.in-Some.ensures.all)
+
 pub returns-then-stand_apart : goal.returns-then-stand_apart
-returns-then-stand_apart c = (c.args.part.now, c.in_ok-extend_from_slice.ensures.items, apart_settled c.args.part.now c.requires (c.if-stand_apart.ensures refl))
+returns-then-stand_apart c = (c.args.part.now, c.in_ok-extend_from_slice.ensures.items, apart_settled c.args.part.now c.requires.lone (c.if-stand_apart.ensures refl))
+
+pub push_zones-requires : goal.push_zones-requires
+push_zones-requires c = λ r a. (c.requires.lone r a).formed
 
 pub returns : goal.returns
 returns c = (
-  c.deref.result.now,
-  c.in_ok-extend_from_slice-2.ensures.items,
-  zones_settled c.args.part.now c.in_ok-items.items.items c.push_zones.new.items.items c.in_ok-items.ensures.items c.in_ok-push_zones.ensures
-      c.in_ok-all.all _ c.deref.result.now c.in_ok-all.ensures c.all.invariant c.all.view_is c.deref.ensures.value,
+  rows_at c.args.key.now.source.0 c.args.key.now.target.0 c.bands.result.now,
+  c.in_ok-push_bands.ensures,
+  bands_settled c.args.part.now c.args.key.now c.requires.key c.clear.new.self.items c.push_zones.new.items.items c.clear.ensures.items c.in_ok-push_zones.ensures
+      c.deref.result.now c.learn.new.self c.bands.result.now c.deref.ensures.value c.in_ok-learn.ensures.normal c.in_ok-learn.ensures.formed c.bands.ensures,
 )

@@ -8,7 +8,7 @@ use Rattle.relation_rows.proofs.StrikeLemmas.{striking_start, striking_both, str
 use Rattle.relation_rows.proofs.strike.struck.Goals as goal
 
 pub loop-row-init : goal.loop-row-init
-loop-row-init c = striking_start c.args.first.now c.args.second.now _ _ c.new-kept.ensures.items c.new-cuts.ensures.items c.requires.first c.requires.second
+loop-row-init c = striking_start c.args.first.now c.args.second.now _ _ c.in_ok-kept.ensures.items c.in_ok-cuts.ensures.items c.requires.first c.requires.second
 
 pub loop-row-preserved-then-eq : goal.loop-row-preserved-then-eq
 loop-row-preserved-then-eq c = striking_both _ _ _ _ _ _ _ _ _ _ c.in-Some.ensures.cases.0 c.in-Some-split_first.ensures.cases.0 ((row_decides c.in-Some.row.now c.in-Some-split_first.other.now).0 (sym c.eq.ensures ∙ c.if-eq.true)) c.requires.first c.loop-row.invariant
