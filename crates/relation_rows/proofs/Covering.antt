@@ -18,7 +18,7 @@ use Rattle.relation_rows.specs.Searching.{has_key}
 use Rattle.relation_rows.specs.Apart.{AreLone, IsLone}
 use Rattle.relation_rows.specs.Direct.{AddsWays, AreItsRows}
 use Rattle.relation_rows.proofs.Alike.{rows_alike}
-use Rattle.relation_rows.proofs.Pushing.{items_more}
+use Rattle.relation_rows.proofs.Pushing.{items_more, no_item}
 use Rattle.relation_rows.proofs.DirectWays.{then_added}
 use Rattle.relation_rows.proofs.Gathering.{meets_some, some_meets}
 use Rattle.relation_rows.proofs.ItemZones.{zone_of_item}
@@ -181,10 +181,6 @@ zone_added item old next bands normal formed e =
 abbrev pub FirstOrRows : List Item → List Row → Relation
 FirstOrRows items rows x y = ItemsHold items x y ⊎ RowsHold rows x y
 
-no_item : (items : List Item) (x y : Point) → ItemsHold (take 0 items) x y → ⊥
-no_item [] x y h = h.1
-no_item (i ∷ is) x y h = h.1
-
 pub rows_alone : (items : List Item) (rows old both : List Row) → AreLone rows → old ≡ [] → both ≡ old ++ rows → AddsWays (FirstOrRows (take 0 items) rows) true [] both
 rows_alone items rows old both lone none e =
     let same : rows ≡ both = sym (subst (λ (v : List Row). both ≡ v ++ rows) none e) in
@@ -226,3 +222,6 @@ both_normal R both made added normal = rows_alike (RowsHold both) R
     (λ x y h. ⊎_elim (λ a. absurd a.1) (λ a. a) ((added.holds refl x y).0 h))
     (λ x y h. (added.holds refl x y).1 (inr h))
     made normal
+
+pub items_alone : (items : List Item) (made : List Row) → NormalRows (λ x y. ItemsHold items x y ⊎ RowsHold [] x y) made → NormalRows (ItemsHold items) made
+items_alone items made = rows_alike (λ x y. ItemsHold items x y ⊎ RowsHold [] x y) (ItemsHold items) (λ x y h. ⊎_elim (λ a. a) (λ a. absurd a.1) h) (λ x y h. inl h) made

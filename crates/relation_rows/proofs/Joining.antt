@@ -8,7 +8,7 @@ use Rattle.relation_rows.specs.declared.rows.Row.{Row}
 use Rattle.relation_rows.specs.Rows.{NormalRows, RowsHold}
 use Rattle.relation_rows.specs.Relations.{HasMiddlePoint, HoldsOrLeads, InItem, Item, ItemsHold}
 use Rattle.relation_rows.proofs.Alike.{hold_only, rows_hold}
-use Rattle.relation_rows.proofs.Pushing.{items_more}
+use Rattle.relation_rows.proofs.Pushing.{items_more, no_item}
 use Rattle.relation_rows.proofs.Sorting.{items_from, items_to}
 
 -- ---- ways without those that rows have
@@ -17,10 +17,6 @@ use Rattle.relation_rows.proofs.Sorting.{items_from, items_to}
 pub record AreBeyond (ways : List Item) (rows : List Row) (left : List Item) : Type 0 where
   pub there : (x y : Point) → ItemsHold left x y → ItemsHold ways x y
   pub each : (x y : Point) → ItemsHold ways x y → ItemsHold left x y ⊎ RowsHold rows x y
-
-no_item : (items : List Item) (x y : Point) → ItemsHold (take 0 items) x y → ⊥
-no_item [] x y h = h.1
-no_item (i ∷ is) x y h = h.1
 
 pub no_ways : (ways : List Item) (rows : List Row) (left : List Item) → left ≡ [] → AreBeyond (take 0 ways) rows left
 no_ways ways rows left e = subst (λ (v : List Item). AreBeyond (take 0 ways) rows v) (sym e) (record { there = λ x y h. absurd h.1; each = λ x y h. absurd (no_item ways x y h) })

@@ -57,3 +57,4 @@ mod SubRows
 mod Joining
 mod ByRows
 mod Covering
+mod ClearRows

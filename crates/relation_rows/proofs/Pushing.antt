@@ -24,6 +24,10 @@ one_band o p first now next bs k b l e f =
     f ∙ ap (λ (v : List Row). v ++ r ∷ []) e ∙ append_assoc first (rows_at o p (take k bs)) (r ∷ [])
     ∙ ap (λ (v : List Row). first ++ v) (sym (rows_append o p (take k bs) (slice_index_or bs k b)) ∙ ap (rows_at o p) (sym (take_more bs k b l)))
 
+pub no_item : (items : List Item) (x y : Point) → ItemsHold (take 0 items) x y → ⊥
+no_item [] x y h = h.1
+no_item (i ∷ is) x y h = h.1
+
 -- a list that has one more relation behind it holds more
 pub items_more : (items next : List Item) (i : Item) → next ≡ items ++ i ∷ [] → (x y : Point) → ItemsHold next x y ↔ (ItemsHold items x y ⊎ InItem i x y)
 items_more items next i e x y = (

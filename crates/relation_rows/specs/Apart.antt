@@ -3,6 +3,7 @@ use Rattle.std.specs.Prelude.{◌≡◌, ◌⊎◌, ℤ, pos, ◌+ℤ◌, ◌≤
 use Rattle.itpg_base.specs.Lists.{Among}
 use Rattle.band_normal.specs.declared.band.Band.{Band}
 use Rattle.band_normal.specs.Bands.{end_at, IsFixed, IsWellFormed}
+use Rattle.band_normal.specs.Normal.{Steps}
 use Rattle.relation_rows.specs.declared.rows.Row.{Row}
 use Rattle.relation_rows.specs.Rows.{KeyBefore, HasKey}
 use Rattle.relation_rows.specs.Ways.{DepartApart}
@@ -30,6 +31,15 @@ PartBefore r s = KeyBefore r.source.0 r.target.0 s.source.0 s.target.0 ⊎ (HasK
 -- the same; or both have one source and target and the same departures, and arrive apart
 abbrev pub ComesApart : Row → Row → Type 0
 ComesApart r s = PartBefore r s ⊎ (HasKey s r.source.0 r.target.0 × ArriveApart r.band s.band)
+
+-- the second band's departures begin right behind those of the first, and its first run doesn't continue the last one there
+pub record AdjoinsApart (b c : Band) : Type 0 where
+  pub next : c.from ≡ b.to +ℤ pos 1
+  pub stops : Steps (end_at b.low b.to) (end_at c.low c.from) → Steps (end_at b.high b.to) (end_at c.high c.from) → ⊥
+
+-- the second row comes later by source and target; or it has the same, departs behind the first and doesn't continue it
+abbrev pub ComesClear : Row → Row → Type 0
+ComesClear r s = PartBefore r s ⊎ (HasKey s r.source.0 r.target.0 × AdjoinsApart r.band s.band)
 
 -- by source, target and first departure, the first row doesn't come after the second
 abbrev pub StandsUpTo : Row → Row → Type 0

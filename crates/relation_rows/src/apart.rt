@@ -4,7 +4,8 @@
 ghost use Rattle.std.specs.Prelude.{◌≡◌, ◌↔◌, pos, ◌+ℤ◌, ◌≤ℤ◌, ◌<ℤ◌, IsTrue};
 ghost use Rattle.itpg_base.specs.Lists.{Ordered};
 ghost use Rattle.band_normal.specs.Bands.{end_at, IsWellFormed};
-ghost use Rattle.relation_rows.specs.Apart.{AreLone, ArriveApart, ComesApart};
+ghost use Rattle.band_normal.specs.Normal.{Steps};
+ghost use Rattle.relation_rows.specs.Apart.{AdjoinsApart, AreLone, ArriveApart, ComesApart, ComesClear};
 
 use crate::direct::{first_arrival, last_arrival};
 use crate::rows::Row;
@@ -80,6 +81,59 @@ fn comes_apart(last: &Row, row: &Row) -> bool
         return true;
     }
     arrive_apart(&last.band, &row.band)
+}
+
+// Whether the second number is the first, or greater by one.
+fn is_step(first: i64, second: i64) -> bool
+    ensures { IsTrue result ↔ Steps first second }
+{
+    first == second || first < second && first + 1 == second
+}
+
+// Whether the second band's departures begin right behind those of the first, and its first run doesn't continue the last one there.
+fn adjoins_apart(first: &Band, second: &Band) -> bool
+    requires first { IsWellFormed first.now }
+    requires second { IsWellFormed second.now }
+    ensures { IsTrue result → AdjoinsApart first.now second.now }
+{
+    if first.to + 1 != second.from {
+        return false;
+    }
+    if !is_step(last_low(first), first_arrival(second)) {
+        return true;
+    }
+    !is_step(last_arrival(first), first_high(second))
+}
+
+// Whether the row comes after the last one by source and target, or departs behind it and doesn't continue it.
+fn comes_clear(last: &Row, row: &Row) -> bool
+    requires last { IsWellFormed last.now.band }
+    requires row { IsWellFormed row.now.band }
+    ensures { IsTrue result → ComesClear last.now row.now }
+{
+    if comes_before_key(last, row.source, row.target) {
+        return true;
+    }
+    if !is_of_key(row, last.source, last.target) {
+        return false;
+    }
+    if is_apart(last.band.to, row) {
+        return true;
+    }
+    adjoins_apart(&last.band, &row.band)
+}
+
+/// Whether each row comes clear of the one before it.
+pub(crate) fn stand_clear(rows: &[Row]) -> bool
+    requires { AreLone rows.now }
+    ensures { IsTrue result → Ordered ComesClear rows.now }
+{
+    for i in 1..rows.len() {
+        if !comes_clear(&rows[i - 1], &rows[i]) {
+            return false;
+        }
+    }
+    true
 }
 
 /// Whether each row comes apart from the one before it.

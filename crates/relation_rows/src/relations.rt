@@ -12,8 +12,9 @@ ghost use Rattle.relation_rows.specs.Times.{AreTimes, Departs, Arrives};
 ghost use Rattle.relation_rows.specs.Relations.{ItemsHold, Rise, IsItself, EitherHolds, HasMiddlePoint, IsBetween, OnlyFirstHolds};
 
 use crate::compose::composed;
-use crate::gather::{each_to_itself, gathered_all, gathered_of};
+use crate::gather::{each_to_itself, gathered_of};
 use crate::idle::{copied, is_first_whole, is_second_whole};
+use crate::item_rows::relation_of;
 use crate::known::Known;
 use crate::minus::only_in_first;
 use crate::offsets::offsets_of;
@@ -213,7 +214,7 @@ impl Relation {
         }
         let (kept, cuts) = struck(alloc, &self.rows, &other.rows)?;
         let items = only_in_first(alloc, &kept, &cuts)?;
-        let rows = gathered_all(alloc, items)?;
+        let rows = relation_of(alloc, &items, &[])?;
         Ok(rows)
     }
 

@@ -12,7 +12,7 @@ ghost use Rattle.relation_rows.specs.Rows.{HasKey, InRow, RowsHold};
 ghost use Rattle.relation_rows.specs.Apart.{AreLone, PartBefore, StandsUpTo};
 ghost use Rattle.relation_rows.specs.Direct.{AreItsRows};
 
-use crate::apart::{is_apart, last_with, stand_apart};
+use crate::apart::{is_apart, last_with, stand_apart, stand_clear};
 use crate::gather::{Item, push_bands, push_zones};
 use crate::known::Known;
 use crate::rows::Row;
@@ -76,6 +76,17 @@ fn row_of_all(part: &[Row]) -> Option<Row>
     Some(outer)
 }
 
+// Whether the ways are seen to be normal as they stand.
+fn are_normal(part: &[Row]) -> bool
+    requires { AreLone part.now }
+    ensures { IsTrue result → AreItsRows (RowsHold part.now) part.now }
+{
+    if stand_clear(part) {
+        return true;
+    }
+    stand_apart(part)
+}
+
 // Adds the normal rows of the part, whose source and target are the key's. What is in `items` is for this call alone, in memory that all
 // parts share.
 fn push_part(
@@ -97,7 +108,7 @@ fn push_part(
         done.push(row)?;
         return Ok(());
     }
-    if stand_apart(part) {
+    if are_normal(part) {
         done.extend_from_slice(part)?;
         return Ok(());
     }

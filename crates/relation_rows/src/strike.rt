@@ -12,6 +12,9 @@ use crate::search::{comes_before_key, leading_before};
 use itpg_base::ObjNo;
 use std::alloc::{AllocError, Global};
 
+// For half of the rows, and so many at most, there is room from the start.
+const ROOM: usize = 4_096;
+
 // By this rows stand in order.
 fn place_of(row: &Row) -> (ObjNo, ObjNo, i64, i64) {
     (row.source, row.target, row.band.from, first_arrival_of(row))
@@ -49,8 +52,8 @@ pub(crate) fn struck(
     ensures cuts_there { IfOk result (λ p. (r : PlainRow) → Among p.1.items r → Among second.now r) }
     ensures same { IfOk result (λ p. (x : Point) → (y : Point) → OnlyFirstHolds p.0.items p.1.items x y ↔ OnlyFirstHolds first.now second.now x y) }
 {
-    let mut kept = Vec::with_capacity(alloc, first.len() / 2)?;
-    let mut cuts = Vec::with_capacity(alloc, second.len() / 2)?;
+    let mut kept = Vec::with_capacity(alloc, (first.len() / 2).min(ROOM))?;
+    let mut cuts = Vec::with_capacity(alloc, (second.len() / 2).min(ROOM))?;
     let mut left = first;
     let mut right = second;
     while let Some((row, rows)) = left.split_first() {

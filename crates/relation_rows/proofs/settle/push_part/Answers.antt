@@ -1,7 +1,7 @@
 use Rattle.std.proofs.Common.{[], ◌∷◌, get_or, refl}
 use Rattle.relation_rows.specs.Rows.{rows_at}
 use Rattle.relation_rows.proofs.Covering.{bands_settled, covered_settled, lone_settled}
-use Rattle.relation_rows.proofs.Settling.{apart_settled, no_row}
+use Rattle.relation_rows.proofs.Settling.{no_row}
 use Rattle.relation_rows.proofs.settle.push_part.Goals as goal
 
 pub returns-in-len1 : goal.returns-in-len1
@@ -13,8 +13,8 @@ row_of_all-requires c = λ r a. (c.requires.lone r a).formed
 pub returns-in-Some : goal.returns-in-Some
 returns-in-Some c = (c.in-Some.row ∷ [], c.in_ok-push-2.ensures.items, covered_settled c.args.part.now c.in-Some.row c.requires.lone c.in-Some.ensures.there c.in-Some.ensures.all)
 
-pub returns-then-stand_apart : goal.returns-then-stand_apart
-returns-then-stand_apart c = (c.args.part.now, c.in_ok-extend_from_slice.ensures.items, apart_settled c.args.part.now c.requires.lone (c.if-stand_apart.ensures refl))
+pub returns-then-are_normal : goal.returns-then-are_normal
+returns-then-are_normal c = (c.args.part.now, c.in_ok-extend_from_slice.ensures.items, c.if-are_normal.ensures refl)
 
 pub push_zones-requires : goal.push_zones-requires
 push_zones-requires c = λ r a. (c.requires.lone r a).formed

@@ -3,9 +3,10 @@ use Rattle.itpg_base.specs.Points.{Point}
 use Rattle.itpg_base.specs.Lists.{Among, Ordered}
 use Rattle.relation_rows.specs.declared.rows.Row.{Row}
 use Rattle.relation_rows.specs.Rows.{RowBefore, IsRelation, NormalRows}
-use Rattle.relation_rows.specs.Relations.{ItemsHold, OnlyFirstHolds}
+use Rattle.relation_rows.specs.Relations.{Item, ItemsHold, OnlyFirstHolds}
 use Rattle.std.proofs.lemmas.Slice.Eq.{slice_eq-Decides}
 use Rattle.relation_rows.proofs.Alike.{rows_alike}
+use Rattle.relation_rows.proofs.Covering.{items_alone}
 use Rattle.relation_rows.proofs.Equal.{row_decides}
 use Rattle.relation_rows.proofs.StrikeLemmas.{none_left}
 use Rattle.relation_rows.proofs.relations.Relation.minus.Goals as goal
@@ -38,7 +39,8 @@ returns c =
     subst (λ (v : List Row). NormalRows (OnlyFirstHolds v c.args.other.now) c.in_ok-rows.rows) (c.deref.ensures.value ∙ c.self.view_is)
     (subst (λ (v : List Row). NormalRows (OnlyFirstHolds c.deref.result.now v) c.in_ok-rows.rows) (c.deref-2.ensures.value ∙ c.other.view_is)
     (rows_alike (ItemsHold c.in_ok-items.items.items) (OnlyFirstHolds c.deref.result.now c.deref-2.result.now)
-    (λ x y h. (same x y).0 ((left x y).0 h)) (λ x y h. (left x y).1 ((same x y).1 h)) c.in_ok-rows.rows c.in_ok-rows.ensures))
+    (λ x y h. (same x y).0 ((left x y).0 h)) (λ x y h. (left x y).1 ((same x y).1 h)) c.in_ok-rows.rows
+    (subst (λ (v : List Item). NormalRows (ItemsHold v) c.in_ok-rows.rows) c.deref-5.ensures.value (items_alone c.deref-5.result.now c.in_ok-rows.rows c.in_ok-rows.ensures))))
 
 pub returns-then-eq : goal.returns-then-eq
 returns-then-eq c =
