@@ -15,6 +15,7 @@ pub mod Gathering
 pub mod Keeping
 pub mod HalfRows
 pub mod LaterHalves
+pub mod EvenParts
 pub mod Having
 pub mod Identity
 pub mod Uniting

@@ -16,3 +16,4 @@ pub mod Resting
 pub mod Direct
 pub mod Idle
 pub mod Offsets
+pub mod EvenParts

@@ -14,10 +14,18 @@ use band_normal::End;
 // The ways of so many rows are listed.
 const FEW: usize = 8;
 
-// So many rows are a run, at least on the average.
+// So many rows are a long run.
 const LONG: usize = 64;
 
-// Rows that go on by themselves are halved on both sides if they are so many runs at most, among so many runs of all rows.
+// Rows are parted if so great a part of them is in long runs.
+const SHARE: usize = 4;
+
+// Before many rows are gone through for long runs, so many places are tried, of which so many must be in a run.
+const PLACES: usize = 64;
+
+const FOUND: usize = 4;
+
+// Rows that go on by themselves are halved on both sides if they have so many long runs at most, and all rows so many.
 const FEW_RUNS: usize = 4;
 
 const RUNS: usize = 16;
@@ -25,12 +33,39 @@ const RUNS: usize = 16;
 // Where no row leads to so great a part of all rows, these are of many objects.
 const PART: usize = 8;
 
-/// Which of two lists, of which one goes on by the other, is taken by halves: the first if it is even runs, or else the second if that is;
-/// both where the rows go on by themselves in a few such runs.
+/// Of which of two lists, of which one goes on by the other, the long even runs are taken by halves: of the first if many of its rows are in
+/// such runs, or else of the second if many of its are; of both where the rows go on by themselves in a few such runs.
 #[derive(Clone, Copy)]
 pub(crate) struct AreEven {
     pub(crate) first: bool,
     pub(crate) second: bool,
+    /// Whether those of the second are too, but only behind the rest of the first.
+    pub(crate) behind: bool,
+}
+
+impl AreEven {
+    /// Whether the second list is parted.
+    pub(crate) fn halves_second(self) -> bool {
+        self.second || self.behind
+    }
+
+    /// Which is even where only the rest of the first list is taken.
+    pub(crate) fn of_rest(self) -> AreEven {
+        AreEven {
+            first: false,
+            second: self.halves_second(),
+            behind: false,
+        }
+    }
+
+    /// Which is even where only the rest of the second list is taken.
+    pub(crate) fn by_first(self) -> AreEven {
+        AreEven {
+            first: self.first,
+            second: false,
+            behind: false,
+        }
+    }
 }
 
 // How much later the row arrives than it departs, where that is one and the same for all its pairs.
@@ -41,7 +76,12 @@ fn delay_of(row: &Row) -> Option<i64> {
     }
 }
 
-// Whether the third row follows the second as that follows the first: from one source to one target, and as much later.
+// Whether the third number follows the second as that follows the first.
+fn is_even(one: i64, two: i64, three: i64) -> bool {
+    two.saturating_sub(one) == three.saturating_sub(two)
+}
+
+// Whether the third row follows the second as that follows the first: from one source to one target, departing and arriving as much later.
 fn goes_on(first: &Row, second: &Row, third: &Row) -> bool {
     let (Some(one), Some(two), Some(three)) = (delay_of(first), delay_of(second), delay_of(third))
     else {
@@ -49,11 +89,13 @@ fn goes_on(first: &Row, second: &Row, third: &Row) -> bool {
     };
     is_of_key(second, first.source, first.target)
         && is_of_key(third, first.source, first.target)
-        && two.saturating_sub(one) == three.saturating_sub(two)
+        && is_even(one, two, three)
+        && is_even(first.band.from, second.band.from, third.band.from)
+        && is_even(first.band.to, second.band.to, third.band.to)
 }
 
-// How many of the rows, from the first on, follow one another evenly.
-fn run_len(rows: &[Row]) -> usize
+/// How many of the rows, from the first on, follow one another evenly.
+pub(crate) fn run_len(rows: &[Row]) -> usize
     requires { 0 < length rows.now }
     ensures some { 0 < result }
     ensures within { result ≤ length rows.now }
@@ -66,13 +108,9 @@ fn run_len(rows: &[Row]) -> usize
     rows.len()
 }
 
-/// How many of the rows, from the first on, are taken together: all, or where they are even those that follow one another so.
-pub(crate) fn part_len(rows: &[Row], are_even: bool) -> usize
-    requires { 0 < length rows.now }
-    ensures some { 0 < result }
-    ensures within { result ≤ length rows.now }
-{
-    if are_even { run_len(rows) } else { rows.len() }
+/// Whether the run is taken by halves. It has no clause, since any answer is right.
+pub(crate) fn is_long(run: &[Row]) -> bool {
+    run.len() >= LONG
 }
 
 // Whether the first of the others departs from where the first row arrives.
@@ -108,22 +146,55 @@ pub(crate) fn is_halved(rows: usize, are_even: bool) -> bool
     are_even && rows > FEW
 }
 
-// Whether the rows are so many runs at most.
-fn are_runs(rows: &[Row], most: usize) -> bool {
+// How many long runs there are, and how many rows in them.
+fn long_runs(rows: &[Row]) -> (usize, usize) {
+    let mut runs = 0usize;
+    let mut count = 0usize;
     let mut left = rows;
-    for _ in 0..most {
-        if left.is_empty() {
-            return true;
-        }
-        let (_, later) = left.split_at(run_len(left));
+    while !left.is_empty() {
+        let (run, later) = left.split_at(run_len(left));
         left = later;
+        if is_long(run) {
+            runs = runs.saturating_add(1);
+            count = count.saturating_add(run.len());
+        }
     }
-    left.is_empty()
+    (runs, count)
 }
 
-// Whether the rows are so many, and in so few runs, that halves pay.
+// Whether so many of the rows are enough for halves.
+fn are_enough(count: usize, rows: &[Row]) -> bool {
+    count > 0 && count >= rows.len() / SHARE
+}
+
+// Whether enough rows may be in long runs. A few places tell, since all rows are asked about for one list of first rows after the other.
+fn may_be_in_runs(rows: &[Row]) -> bool {
+    let step = rows.len() / PLACES;
+    if step < LONG {
+        return true;
+    }
+    let mut found = 0usize;
+    let mut left = rows;
+    for _ in 0..PLACES {
+        if left.len() < step {
+            break;
+        }
+        let (part, later) = left.split_at(step);
+        left = later;
+        if run_len(part) >= LONG / 2 {
+            found = found.saturating_add(1);
+        }
+    }
+    found >= FOUND
+}
+
+// Whether so many of the rows are in long runs that halves pay.
 fn are_in_runs(rows: &[Row]) -> bool {
-    are_runs(rows, rows.len() / LONG)
+    if !may_be_in_runs(rows) {
+        return false;
+    }
+    let (_, count) = long_runs(rows);
+    are_enough(count, rows)
 }
 
 // Whether one of the rows leads to a great part of the second ones.
@@ -136,37 +207,55 @@ fn lead_to_many(rows: &[Row], second: &Offsets<'_>) -> bool {
     false
 }
 
-// Whether the rows go on by themselves, in so few runs that the ways by each two of these pay. What leads on from their source is these
-// rows, and they are a great part of all second ones, which are few runs too, since each of those is gone through.
-fn are_squared(rows: &[Row], second: &Offsets<'_>) -> bool {
+// Whether the rows, which have so many long runs, go on by themselves, and these are so few that the ways by each two of them pay. What
+// leads on from their source is these rows, and they are a great part of all second ones, which have few long runs too, since each of
+// those is gone through.
+fn are_squared(rows: &[Row], runs: usize, second: &Offsets<'_>) -> bool {
     let all = second.rows();
     let Some(row) = rows.first() else {
         return false;
     };
-    if rows.len() < all.len() / PART || second.from(row.source) != rows {
+    if runs > FEW_RUNS || rows.len() < all.len() / PART || second.from(row.source) != rows {
         return false;
     }
-    are_runs(rows, FEW_RUNS) && are_runs(all, RUNS)
+    let (all_runs, _) = long_runs(all);
+    all_runs <= RUNS
 }
 
-/// Which of the lists is even runs, where so many ways are to be listed that halves pay. It has no clause, since any answer is right.
+// Whether there may be so many ways that halves pay.
+fn are_many(rows: usize, others: usize) -> bool {
+    rows.saturating_mul(others) > MANY
+}
+
+/// Which of the lists has many rows in long even runs, where so many ways are to be listed that halves pay. It has no clause, since any
+/// answer is right.
 pub(crate) fn evenness(rows: &[Row], second: &Offsets<'_>) -> AreEven {
     let all = second.rows();
-    if rows.len().saturating_mul(all.len()) <= MANY {
+    if !are_many(rows.len(), all.len()) {
         return AreEven {
             first: false,
             second: false,
+            behind: false,
         };
     }
-    let first = are_in_runs(rows);
-    if first && are_squared(rows, second) {
+    let (runs, count) = long_runs(rows);
+    let first = are_enough(count, rows);
+    if first && are_squared(rows, runs, second) {
         return AreEven {
             first: true,
             second: true,
+            behind: false,
         };
     }
+    let rest = if first {
+        rows.len().saturating_sub(count)
+    } else {
+        rows.len()
+    };
+    let second = are_many(rest, all.len()) && lead_to_many(rows, second) && are_in_runs(all);
     AreEven {
         first,
-        second: !first && lead_to_many(rows, second) && are_in_runs(all),
+        second: second && !first,
+        behind: second && first,
     }
 }

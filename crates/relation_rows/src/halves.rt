@@ -5,6 +5,8 @@
 //! then the step. Where both lists are even, the first is halved: a step before them moves departures, so that the many rows which the ways
 //! may have at a few departures aren't made anew for each half. Only where rows go on by themselves the longer of the two lists is halved
 //! each time: their ways are about as many as they are, so that all halves together take hardly longer than the last ones to be joined.
+//!
+//! Long even runs may stand among other rows. Then the ways by these runs are taken by halves, and those by the rest as they are.
 
 ghost use Rattle.std.specs.Prelude.{◌≡◌, List, Ok, IfOk, IfSome};
 ghost use Rattle.itpg_base.specs.Lists.{Among, Ordered};
@@ -13,9 +15,10 @@ ghost use Rattle.relation_rows.specs.declared.rows.Row.{Row as PlainRow};
 ghost use Rattle.relation_rows.specs.Rows.{RowBefore, NormalRows};
 ghost use Rattle.relation_rows.specs.Relations.{EitherHolds, HasMiddlePoint};
 
-use crate::evenness::{AreEven, comes_first, comes_second, evenness, is_halved, part_len};
+use crate::evenness::{AreEven, comes_first, comes_second, evenness, is_halved, run_len};
 use crate::known::Known;
 use crate::offsets::Offsets;
+use crate::parted::{Parted, in_parts};
 use crate::relations::Relation;
 use crate::rows::{RelFault, Row};
 use crate::steps::{onward, step_from, step_to, unless_wide};
@@ -94,7 +97,7 @@ fn by_halves(
     unless_wide(onward(known, rows, others, MOST))
 }
 
-// The ways that begin with the rows and go on by the others, run by run of these where they are even.
+// The ways that begin with the rows and go on by the others, which are even, run by run.
 fn by_second_runs(
     known: &mut Known,
     rows: &[Row],
@@ -110,7 +113,7 @@ fn by_second_runs(
     let mut all = Relation::empty(known.allocator());
     let mut left = others;
     while !left.is_empty() {
-        let (run, later) = left.split_at(part_len(left, even.second));
+        let (run, later) = left.split_at(run_len(left));
         let Some(more) = by_halves(known, rows, run, even)? else {
             return Ok(None);
         };
@@ -123,8 +126,64 @@ fn by_second_runs(
     Ok(Some(all))
 }
 
-/// The ways that begin with the rows, where these or the second ones are long even runs and many ways are to be listed; none where neither
-/// are.
+// The ways that begin with the rows and go on by the others: by their long even runs, if these are to be halved, and by the rest.
+fn by_second_parts(
+    known: &mut Known,
+    rows: &[Row],
+    others: &Parted<'_>,
+    even: AreEven,
+) -> Result<Option<Relation>, AllocError>
+    requires order { Ordered RowBefore rows.now }
+    requires rows { (r : PlainRow) → Among rows.now r → IsWellFormed r.band }
+    requires others { (r : PlainRow) → Among others.now r → IsWellFormed r.band }
+    ensures { IfOk result (λ found. IfSome found (λ all. NormalRows (HasMiddlePoint rows.now others.now) all)) }
+{
+    if !even.second {
+        return by_halves(known, rows, others.rows(), even);
+    }
+    let (runs, rest) = others.parts();
+    let Some(by_even) = by_second_runs(known, rows, runs, even)? else {
+        return Ok(None);
+    };
+    if rest.is_empty() {
+        return Ok(Some(by_even));
+    }
+    let Some(by_rest) = by_halves(known, rows, rest, even.by_first())? else {
+        return Ok(None);
+    };
+    both_of(&by_even, &by_rest)
+}
+
+// The ways that begin with the rows, which are even, and go on by the others, run by run of the rows.
+fn by_first_runs(
+    known: &mut Known,
+    rows: &[Row],
+    others: &Parted<'_>,
+    even: AreEven,
+) -> Result<Option<Relation>, AllocError>
+    requires order { Ordered RowBefore rows.now }
+    requires rows { (r : PlainRow) → Among rows.now r → IsWellFormed r.band }
+    requires others { (r : PlainRow) → Among others.now r → IsWellFormed r.band }
+    ensures { IfOk result (λ found. IfSome found (λ all. NormalRows (HasMiddlePoint rows.now others.now) all)) }
+{
+    let mut all = Relation::empty(known.allocator());
+    let mut left = rows;
+    while !left.is_empty() {
+        let (run, later) = left.split_at(run_len(left));
+        let Some(more) = by_second_parts(known, run, others, even)? else {
+            return Ok(None);
+        };
+        let Some(both) = both_of(&all, &more)? else {
+            return Ok(None);
+        };
+        all = both;
+        left = later;
+    }
+    Ok(Some(all))
+}
+
+/// The ways that begin with the rows, where many of these or of the second ones are in long even runs and many ways are to be listed; none
+/// where neither are.
 pub(crate) fn by_runs(
     known: &mut Known,
     rows: &[Row],
@@ -139,18 +198,21 @@ pub(crate) fn by_runs(
     if !even.first && !even.second {
         return Ok(None);
     }
-    let mut all = Relation::empty(known.allocator());
-    let mut left = rows;
-    while !left.is_empty() {
-        let (run, later) = left.split_at(part_len(left, even.first));
-        let Some(more) = by_second_runs(known, run, second.rows(), even)? else {
-            return Ok(None);
-        };
-        let Some(both) = both_of(&all, &more)? else {
-            return Ok(None);
-        };
-        all = both;
-        left = later;
+    let alloc = known.allocator();
+    let first = in_parts(alloc, rows, even.first)?;
+    let others = in_parts(alloc, second.rows(), even.halves_second())?;
+    let (runs, rest) = first.parts();
+    if runs.is_empty() {
+        return by_second_parts(known, rest, &others, even.of_rest());
     }
-    Ok(Some(all))
+    let Some(of_even) = by_first_runs(known, runs, &others, even)? else {
+        return Ok(None);
+    };
+    if rest.is_empty() {
+        return Ok(Some(of_even));
+    }
+    let Some(of_rest) = by_second_parts(known, rest, &others, even.of_rest())? else {
+        return Ok(None);
+    };
+    both_of(&of_even, &of_rest)
 }

@@ -25,6 +25,7 @@ pub mod laws;
 mod minus;
 mod offsets;
 mod onward;
+mod parted;
 mod parting;
 pub mod relations;
 mod resting;

@@ -9,7 +9,7 @@ ghost use Rattle.relation_rows.specs.Rows.{RowBefore, RowsHold};
 ghost use Rattle.relation_rows.specs.Answers.{Gives};
 ghost use Rattle.relation_rows.specs.Relations.{HasMiddlePoint};
 
-use crate::compose::by_zones;
+use crate::compose::{busy_legs, by_zones};
 use crate::gather::{Item, gathered_all};
 use crate::known::Known;
 use crate::offsets::offsets_of;
@@ -60,8 +60,10 @@ pub(crate) fn onward(
     requires others { (r : PlainRow) → Among others.now r → IsWellFormed r.band }
     ensures { Gives result (HasMiddlePoint rows.now others.now) most }
 {
-    let second = offsets_of(known.allocator(), others, rows.len())?;
-    by_zones(known, rows, &second, &[], most)
+    let alloc = known.allocator();
+    let second = offsets_of(alloc, others, rows.len())?;
+    let busy = busy_legs(alloc, rows, &second)?;
+    by_zones(known, rows, &second, &busy, most)
 }
 
 /// A step behind which the rows are those of the other half, if one is seen.

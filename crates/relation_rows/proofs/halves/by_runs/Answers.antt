@@ -1,26 +1,40 @@
-use Rattle.std.proofs.Common.{List, Option, sym, subst}
+use Rattle.std.proofs.Common.{List, Option, ◌∙◌, subst}
 use Rattle.std.specs.Prelude.{IfSome}
-use Rattle.itpg_base.specs.Lists.{Among, Ordered}
-use Rattle.itpg_base.proofs.Lists.{append_first, ordered_first}
+use Rattle.band_normal.proofs.PartLemmas.{none_left}
 use Rattle.relation_rows.specs.declared.rows.Row.{Row}
-use Rattle.relation_rows.specs.Rows.{RowBefore, NormalRows}
-use Rattle.relation_rows.specs.Relations.{EitherHolds, HasMiddlePoint}
-use Rattle.relation_rows.proofs.HalfRows.{next_run, left_among, left_ordered}
+use Rattle.relation_rows.specs.Rows.{NormalRows}
+use Rattle.relation_rows.specs.Relations.{HasMiddlePoint}
+use Rattle.relation_rows.specs.EvenParts.{AreParts}
+use Rattle.relation_rows.proofs.HalfRows.{so_of_found}
+use Rattle.relation_rows.proofs.EvenParts.{by_first_parts, by_first_alone, by_rest_alone}
 use Rattle.relation_rows.proofs.halves.by_runs.Goals as goal
 
-pub by_second_runs-requires-clause-order : goal.by_second_runs-requires-clause-order
-by_second_runs-requires-clause-order c =
-    let order = left_ordered c.args.rows.now c.args.second.now c.loop-left.left.now c.loop-left.all c.loop-left.invariant c.requires.order in
-    ordered_first RowBefore c.split_at.result.0.now c.split_at.result.1.now (subst (λ (v : List Row). Ordered RowBefore v) c.split_at.ensures.by_index.0 order)
+pub returns-then-is_empty : goal.returns-then-is_empty
+returns-then-is_empty c =
+    let second = c.in_ok-others.ensures ∙ c.rows.ensures.rows in
+    let parts = subst (λ (v : List Row). AreParts v c.parts.result.0.now c.parts.result.1.now) c.in_ok-first.ensures c.parts.ensures in
+    so_of_found _ (λ all. NormalRows (HasMiddlePoint c.args.rows.now c.args.second.now) all) c.by_second_parts.result
+    (λ all rest. by_rest_alone c.args.rows.now c.parts.result.0.now c.parts.result.1.now c.args.second.now all parts (none_left c.parts.result.0.now c.if-is_empty.ensures)
+    (subst (λ (v : List Row). NormalRows (HasMiddlePoint c.parts.result.1.now v) all) second rest))
+    c.by_second_parts.ensures
 
-pub by_second_runs-requires-clause-rows : goal.by_second_runs-requires-clause-rows
-by_second_runs-requires-clause-rows c = λ r a.
-    c.requires.rows r (left_among c.args.rows.now c.args.second.now c.loop-left.left.now c.loop-left.all c.loop-left.invariant r
-    (subst (λ (v : List Row). Among v r) (sym c.split_at.ensures.by_index.0) (append_first c.split_at.result.0.now c.split_at.result.1.now r a)))
+pub returns-then-is_empty-2 : goal.returns-then-is_empty-2
+returns-then-is_empty-2 c =
+    let second = c.in_ok-others.ensures ∙ c.rows.ensures.rows in
+    let parts = subst (λ (v : List Row). AreParts v c.parts.result.0.now c.parts.result.1.now) c.in_ok-first.ensures c.parts.ensures in
+    let even = subst (λ (v : Option (List Row)). IfSome v (λ all. NormalRows (HasMiddlePoint c.parts.result.0.now c.in_ok-others.others) all)) c.in-Some.is c.in_ok-of_even.ensures in
+    by_first_alone c.args.rows.now c.parts.result.0.now c.parts.result.1.now c.args.second.now c.in-Some.of_even parts (none_left c.parts.result.1.now c.if-is_empty-2.ensures)
+    (subst (λ (v : List Row). NormalRows (HasMiddlePoint c.parts.result.0.now v) c.in-Some.of_even) second even)
 
-pub loop-left-preserved : goal.loop-left-preserved
-loop-left-preserved c =
-    let made = subst (λ (v : Option (List Row)). IfSome v (λ all. NormalRows (HasMiddlePoint c.split_at.result.0.now c.rows.result.now) all)) c.in-Some.is c.in_ok-more.ensures in
-    let more = subst (λ (v : List Row). NormalRows (HasMiddlePoint c.split_at.result.0.now v) c.in-Some.more) c.rows.ensures.rows made in
-    let both = subst (λ (v : Option (List Row)). IfSome v (λ all. NormalRows (EitherHolds c.loop-left.all c.in-Some.more) all)) c.in-Some-2.is c.in_ok-both.ensures in
-    next_run c.args.rows.now c.args.second.now c.loop-left.left.now c.loop-left.all c.loop-left.invariant c.split_at.result.0.now c.split_at.result.1.now c.in-Some.more c.in-Some-2.both c.split_at.ensures.by_index.0 more both
+pub returns : goal.returns
+returns c =
+    let second = c.in_ok-others.ensures ∙ c.rows.ensures.rows in
+    let parts = subst (λ (v : List Row). AreParts v c.parts.result.0.now c.parts.result.1.now) c.in_ok-first.ensures c.parts.ensures in
+    let even = subst (λ (v : Option (List Row)). IfSome v (λ all. NormalRows (HasMiddlePoint c.parts.result.0.now c.in_ok-others.others) all)) c.in-Some.is c.in_ok-of_even.ensures in
+    let rest = subst (λ (v : Option (List Row)). IfSome v (λ all. NormalRows (HasMiddlePoint c.parts.result.1.now c.in_ok-others.others) all)) c.in-Some-2.is c.in_ok-of_rest.ensures in
+    so_of_found _ (λ all. NormalRows (HasMiddlePoint c.args.rows.now c.args.second.now) all) c.both_of.result
+    (λ all both. by_first_parts c.args.rows.now c.parts.result.0.now c.parts.result.1.now c.args.second.now c.in-Some.of_even c.in-Some-2.of_rest all parts
+    (subst (λ (v : List Row). NormalRows (HasMiddlePoint c.parts.result.0.now v) c.in-Some.of_even) second even)
+    (subst (λ (v : List Row). NormalRows (HasMiddlePoint c.parts.result.1.now v) c.in-Some-2.of_rest) second rest)
+    both)
+    c.both_of.ensures
