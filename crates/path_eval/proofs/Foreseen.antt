@@ -39,8 +39,7 @@ module _ (g : Graph) (u : Scope) (rows : List Row) (own : StaysInside g u (Given
   -- so it doesn't fit where the steps were seen to lead to too many runs
   pub seen_not_fit : (steps limit : ℕ) → IsSeenWide (RowsHold rows) steps limit → FitsInside g u limit (To steps) → ⊥
   seen_not_fit steps limit seen fits =
-      let inside = (own seen.from seen.to seen.leads).0 in
-      let wide = seen_is_wide (RowsHold rows) steps limit seen (Leads g u (To steps)) (union_reaches seen.from inside steps) in
+      let wide = seen_is_wide (RowsHold rows) steps limit seen (Leads g u (To steps)) (λ s a. union_reaches s.from (own s.from s.to s.leads).0 steps) in
       let more = wide fits.0 fits.1 in
       let few = fits.2 in
       omega (arith, more, few)

@@ -22,6 +22,9 @@ use wide_witness::{along_time, is_seen_wide, source_by_source};
 // So many times the limit of rows may be made on the way to a union.
 const MORE: u32 = 4;
 
+// Runs are counted from points of so many objects at most.
+const OBJECTS: u64 = 32;
+
 /// A path that is repeated, on a graph, and its relation between the objects within the scope of all that a repetition of it
 /// passes.
 ///
@@ -104,7 +107,8 @@ impl Composed for Powers<'_, '_> {
 
     fn check_union(&self, x: &Relation, n: u64) -> Result<(), RelFault> {
         let limit = self.ground.max_rows;
-        if n > self.many() && is_seen_wide(self.ground.alloc, x, n, limit)? {
+        let runs = n.saturating_mul(x.row_count().min(OBJECTS));
+        if runs > self.many() && is_seen_wide(self.ground.alloc, x, n, limit)? {
             return Err(RelFault::Wide);
         }
         Ok(())

@@ -1,4 +1,4 @@
-//! Relations that lead two moments on, or back, and are seen to be wide; and no step at all, along time.
+//! Relations that lead two moments on, or back, and are seen to be wide, from one object or two; and no step at all, along time.
 
 use itpg_base::ObjNo;
 use relation_rows::Relation;
@@ -43,6 +43,26 @@ fn steps_lead_back_from_the_last_departure(rt: HostRuntime) {
     let relation = Relation::from_zones(alloc, items, 1).expect(&rt, "one row");
     // From 2 they lead to 2 and 0 alone, and from 102 to 102, 100, 98 and 96.
     assert!(rt; is_seen_wide(alloc, &relation, 3, 3) == Ok(true));
+}
+
+#[test]
+fn runs_of_two_objects_are_summed(rt: HostRuntime) {
+    let alloc = rt.alloc();
+    let zone = tight(Bounds {
+        a: 0,
+        b: 100,
+        c: 2,
+        d: 102,
+        e: 2,
+        f: 2,
+    })
+    .expect(&rt, "a zone");
+    let items = [(ObjNo(0), ObjNo(0), zone), (ObjNo(1), ObjNo(1), zone)];
+    let items = Vec::from_slice(alloc, &items).expect(&rt, "memory");
+    let relation = Relation::from_zones(alloc, items, 2).expect(&rt, "two rows");
+    // One step leads each of them to 0 and 2.
+    assert!(rt; is_seen_wide(alloc, &relation, 1, 3) == Ok(true));
+    assert!(rt; is_seen_wide(alloc, &relation, 1, 4) == Ok(false));
 }
 
 #[test]

@@ -1,14 +1,17 @@
--- At one departure, a row of a normal list is one run of arrivals. So a relation has no fewer rows than a point has runs that it leads to.
-use Rattle.std.proofs.Common.{◌≡◌, ◌⊎◌, ◌↔◌, inl, inr, ⊎_elim, ℕ, suc, ◌≤◌, pos, ◌+ℤ◌, List, [], ◌∷◌, length, refl, sym, ◌∙◌, ap, subst, arith}
+-- At one departure, a row of a normal list is one run of arrivals. So a relation has no fewer rows than points of different objects have runs
+-- that they lead to.
+use Rattle.std.proofs.Common.{◌≡◌, ◌⊎◌, ◌↔◌, inl, inr, ⊎_elim, ℕ, suc, ◌≤◌, pos, ◌+ℤ◌, List, [], ◌∷◌, ◌++◌, length, refl, sym, ◌∙◌, ap, subst, arith}
 use Rattle.std.proofs.lemmas.Int.{ints}
+use Rattle.std.proofs.lemmas.List.{length-append}
 use Rattle.itpg_base.specs.Lists.{Among, Ordered}
 use Rattle.itpg_base.specs.Points.{Point, Relation}
+use Rattle.itpg_base.proofs.Lists.{among_append, append_ordered}
 use Rattle.relation_rows.specs.declared.rows.Row.{Row}
 use Rattle.relation_rows.specs.declared.times.OneRow.{OneRow}
 use Rattle.relation_rows.specs.Rows.{InRow, NormalRows, IsWide}
 use Rattle.relation_rows.specs.Times.{AreTimes, TimeBefore}
 use Rattle.relation_rows.proofs.TimeLaws.{not_touched}
-use Rattle.wide_witness.specs.Steps.{IsSeenWide, Reaches, point}
+use Rattle.wide_witness.specs.Steps.{AreOfOthers, IsSeenWide, Reaches, Seen, point, runs_seen}
 
 -- the list without one of its elements: one shorter, and with all that isn't that element
 record IsWithout {X : Type 0} (ys : List X) (x : X) (rest : List X) : Type 0 where
@@ -78,21 +81,111 @@ module _ (R : Relation) (p : Point) (runs : List OneRow) (are : AreTimes (λ o t
       let leads = subst (λ (v : ℕ). R p (point v next)) own.1.target from_there in
       not_touched runs are.spans are.order r a next (inr refl) (are.whole r.object.0 next leads)
 
-  -- so the rows that lead to runs differ
-  all_apart : (part : List OneRow) → ((r : OneRow) → Among part r → Among runs r) → Ordered TimeBefore part → Ordered (λ r s. (row : Row) → Leads r row → Leads s row → ⊥) part
-  all_apart [] all o = tt
-  all_apart (r ∷ rest) all o = (λ s a. led_apart r s (all r (inl refl)) (o.0 s a), all_apart rest (λ s a. all s (inr a)) o.1)
+module _ (R Q : Relation) (steps : ℕ) (rows : List Row) (normal : NormalRows Q rows) where
+  -- the point leads in the relation to just where the steps lead
+  abbrev LeadsAlike : Seen R steps → Type 0
+  LeadsAlike s = (y : Point) → Q s.from y ↔ Reaches R steps s.from y
 
-  -- there are no fewer rows than runs of moments that the relation leads to from one point
-  pub more_rows : length runs ≤ length rows
-  more_rows = finders_fewer Leads runs rows (all_apart runs (λ r a. a) are.order) led_to
+  -- a point, and one of its runs
+  abbrev Found : Type 0
+  Found = (_ : Seen R steps) × OneRow
 
--- a relation that leads from a point to just where the steps lead has more rows than the limit, if the steps were seen to lead to more runs
-pub seen_is_wide : (R : Relation) (steps limit : ℕ) (seen : IsSeenWide R steps limit) (Q : Relation) → ((y : Point) → Q seen.from y ↔ Reaches R steps seen.from y) → IsWide Q limit
+  -- the row leads from the point to the first moment of the run
+  abbrev Finds : Found → Row → Type 0
+  Finds f row = Among rows row × InRow row (f.0).from (point (f.1).object.0 (f.1).span.from)
+
+  -- no row leads to both
+  abbrev FindOthers : Found → Found → Type 0
+  FindOthers f g = (row : Row) → Finds f row → Finds g row → ⊥
+
+  -- the runs of one point
+  found_of : Seen R steps → List OneRow → List Found
+  found_of s [] = []
+  found_of s (run ∷ runs) = (s, run) ∷ found_of s runs
+
+  -- the runs of all of them
+  found : List (Seen R steps) → List Found
+  found [] = []
+  found (s ∷ rest) = found_of s s.runs ++ found rest
+
+  -- they are as many
+  found_as_many : (s : Seen R steps) (runs : List OneRow) → length (found_of s runs) ≡ length runs
+  unfolding found_of
+  found_as_many s [] = refl
+  found_as_many s (run ∷ runs) = ap suc (found_as_many s runs)
+
+  -- and so are all
+  all_as_many : (seen : List (Seen R steps)) → length (found seen) ≡ runs_seen seen
+  unfolding found runs_seen
+  all_as_many [] = refl
+  all_as_many (s ∷ rest) =
+      let more = length-append (found_of s s.runs) (found rest) in
+      let own = found_as_many s s.runs in
+      let others = all_as_many rest in
+      omega (arith, more, own, others)
+
+  -- each is a run of the point
+  of_point : (s : Seen R steps) (runs : List OneRow) (f : Found) → Among (found_of s runs) f → (s ≡ f.0) × Among runs f.1
+  unfolding found_of
+  of_point s [] f a = absurd a
+  of_point s (run ∷ runs) f a = ⊎_elim (λ e. (ap (λ v. v.0) e, inl (ap (λ v. v.1) e))) (λ b. let w = of_point s runs f b in (w.0, inr w.1)) a
+
+  -- each is a run of a point among these
+  of_points : (seen : List (Seen R steps)) (f : Found) → Among (found seen) f → Among seen f.0 × Among (f.0).runs f.1
+  unfolding found
+  of_points [] f a = absurd a
+  of_points (s ∷ rest) f a = ⊎_elim
+      (λ b. let w = of_point s s.runs f b in (inl w.0, subst (λ (v : Seen R steps). Among v.runs f.1) w.0 w.1))
+      (λ b. let w = of_points rest f b in (inr w.0, w.1))
+      (among_append (found_of s s.runs) (found rest) f a)
+
+  -- where a point leads alike, the runs are those of the relation
+  runs_of : (s : Seen R steps) → LeadsAlike s → AreTimes (λ o t. Q s.from (point o t)) s.runs
+  runs_of s same =
+      let are = s.are in
+      record { whole = λ o t h. are.whole o t ((same (point o t)).0 h); only = λ o t h. (same (point o t)).1 (are.only o t h); spans = are.spans; order = are.order }
+
+  -- no row leads to two runs of one point
+  own_apart : (s : Seen R steps) → LeadsAlike s → (part : List OneRow) → ((r : OneRow) → Among part r → Among s.runs r) → Ordered TimeBefore part
+      → Ordered FindOthers (found_of s part)
+  unfolding found_of
+  own_apart s same [] all o = tt
+  own_apart s same (r ∷ rest) all o = (
+    λ f a row own other.
+        let w = of_point s rest f a in
+        led_apart Q s.from s.runs (runs_of s same) rows normal r f.1 (all r (inl refl)) (o.0 f.1 w.1) row own (subst (λ (v : Seen R steps). Finds (v, f.1) row) (sym w.0) other),
+    own_apart s same rest (λ t a. all t (inr a)) o.1,
+  )
+
+  -- nor to runs of points of different objects
+  found_apart : (seen : List (Seen R steps)) → ((s : Seen R steps) → Among seen s → LeadsAlike s) → Ordered AreOfOthers seen → Ordered FindOthers (found seen)
+  unfolding found
+  found_apart [] same o = tt
+  found_apart (s ∷ rest) same o = append_ordered FindOthers (found_of s s.runs) (found rest)
+      (own_apart s (same s (inl refl)) s.runs (λ r a. a) (s.are).order)
+      (found_apart rest (λ t a. same t (inr a)) o.1)
+      (λ f g a b row own other.
+      let first = of_point s s.runs f a in
+      let second = of_points rest g b in
+      o.0 g.0 second.0 (ap (λ (v : Seen R steps). (v.from).object) first.0 ∙ sym (own.1).source ∙ (other.1).source))
+
+  -- some row leads to each
+  found_led : (seen : List (Seen R steps)) → ((s : Seen R steps) → Among seen s → LeadsAlike s) → (f : Found) → Among (found seen) f → (row : Row) × Among rows row × Finds f row
+  found_led seen same f a =
+      let w = of_points seen f a in
+      led_to Q (f.0).from (f.0).runs (runs_of f.0 (same f.0 w.0)) rows normal f.1 w.1
+
+  -- so there are no fewer rows than runs
+  pub more_than_seen : (seen : List (Seen R steps)) → ((s : Seen R steps) → Among seen s → LeadsAlike s) → Ordered AreOfOthers seen → runs_seen seen ≤ length rows
+  more_than_seen seen same apart =
+      let fewer = finders_fewer Finds (found seen) rows (found_apart seen same apart) (found_led seen same) in
+      let many = all_as_many seen in
+      omega (arith, fewer, many)
+
+-- a relation that leads from the points to just where the steps lead has more rows than the limit, if the steps were seen to lead to more runs
+pub seen_is_wide : (R : Relation) (steps limit : ℕ) (seen : IsSeenWide R steps limit) (Q : Relation)
+    → ((s : Seen R steps) → Among seen.all s → (y : Point) → Q s.from y ↔ Reaches R steps s.from y) → IsWide Q limit
 seen_is_wide R steps limit seen Q same rows normal =
-    let are = seen.are in
     let many = seen.many in
-    let more = more_rows Q seen.from seen.runs
-    (record { whole = λ o t h. are.whole o t ((same (point o t)).0 h); only = λ o t h. (same (point o t)).1 (are.only o t h); spans = are.spans; order = are.order })
-    rows normal in
+    let more = more_than_seen R Q steps rows normal seen.all same seen.apart in
     omega arith

@@ -2,6 +2,7 @@ pub mod Breaks
 pub mod Counting
 pub mod FewRows
 pub mod Leading
+pub mod Seeing
 pub mod StandingFree
 pub mod StepRows
 pub mod Stepping

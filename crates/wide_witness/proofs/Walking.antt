@@ -1,5 +1,5 @@
 -- What steps lead to, and what they reach.
-use Rattle.std.proofs.Common.{◌≡◌, ◌↔◌, ◌⊎◌, inl, inr, ⊎_elim, ℕ, suc, ◌+◌, ◌<◌, ◌≤◌, List, [], ◌∷◌, ◌++◌, length, slice_index_or, take, drop, refl, sym, ◌∙◌, ap, subst, add-one}
+use Rattle.std.proofs.Common.{◌≡◌, ◌↔◌, ◌⊎◌, inl, inr, ⊎_elim, ℕ, zero, suc, ◌+◌, ◌<◌, ◌≤◌, List, [], ◌∷◌, ◌++◌, length, slice_index_or, take, drop, refl, sym, ◌∙◌, ap, subst, arith, add-one, max}
 use Rattle.std.proofs.lemmas.List.{take_more, take_all}
 use Rattle.itpg_base.specs.Lists.{Among}
 use Rattle.itpg_base.specs.Points.{Point, Relation}
@@ -14,7 +14,7 @@ use Rattle.relation_rows.specs.Times.{AreTimes, InTime}
 use Rattle.relation_rows.proofs.Coalescing.{hold_more}
 use Rattle.relation_rows.proofs.Partitions.{front_among, rest_among}
 use Rattle.relation_rows.proofs.Pushing.{rows_more}
-use Rattle.wide_witness.specs.Steps.{AreReached, AreSpans, HavePoint, IsAdded, IsDepartureOf, IsPushed, IsSeenWide, LeadsFrom, Reaches, point}
+use Rattle.wide_witness.specs.Steps.{AreReached, AreSeenFrom, AreSpans, HavePoint, IsAdded, IsDepartureOf, IsPushed, LeadsFrom, Reaches, point}
 
 -- what runs at the end of a list have, the list has
 pub rest_has : (all part : List OneRow) (k : ℕ) → part ≡ drop k all → (y : Point) → HavePoint part y → HavePoint all y
@@ -176,17 +176,37 @@ start_reached R from run object begin end all newest is also =
         let m : from.moment ≡ y.moment = omega signed in
         λ i. record { object = o i; moment = m i }
 
--- many runs are reached from where the row departs
-pub seen_wide : (rows : List Row) (row : Row) → Among rows row → IsWellFormed row.band → (start : OneRow) → IsDepartureOf row start → (steps limit : ℕ) (all newest runs : List OneRow)
-    → AreReached (RowsHold rows) (point start.object.0 start.span.from) steps all newest → AreTimes (λ o t. HavePoint all (point o t)) runs → limit < length runs → IsSeenWide (RowsHold rows) steps limit
-seen_wide rows row there formed start departs steps limit all newest runs r times many =
+-- so many runs are reached from where the row departs
+pub seen_from : (rows : List Row) (row : Row) → Among rows row → IsWellFormed row.band → (start : OneRow) → IsDepartureOf row start → (steps : ℕ) (all newest runs : List OneRow)
+    → AreReached (RowsHold rows) (point start.object.0 start.span.from) steps all newest → AreTimes (λ o t. HavePoint all (point o t)) runs → (count : ℕ) → count ≤ length runs
+    → AreSeenFrom (RowsHold rows) steps start.object.0 count
+seen_from rows row there formed start departs steps all newest runs r times count le =
     let then = start.span.from in
     let to = end_at row.band.low then in
-    record {
-      from = point start.object.0 then;
-      to = point row.target.0 to;
-      leads = (row, there, record { source = sym departs.object; target = refl; pair = record { from = departs.from; to = departs.to; low = omega signed; high = formed.some then departs.from departs.to } });
-      runs = runs;
-      are = record { whole = λ o t h. times.whole o t (r.whole (point o t) h); only = λ o t h. r.only (point o t) (times.only o t h); spans = times.spans; order = times.order };
-      many = many;
-    }
+    inr (
+      record {
+        from = point start.object.0 then;
+        to = point row.target.0 to;
+        leads = (row, there, record { source = sym departs.object; target = refl; pair = record { from = departs.from; to = departs.to; low = omega signed; high = formed.some then departs.from departs.to } });
+        runs = runs;
+        are = record { whole = λ o t h. times.whole o t (r.whole (point o t) h); only = λ o t h. r.only (point o t) (times.only o t h); spans = times.spans; order = times.order };
+      },
+      refl,
+      le,
+    )
+
+module _ (R : Relation) (steps o : ℕ) where
+  -- fewer are seen, too
+  fewer_seen : (count few : ℕ) → few ≤ count → AreSeenFrom R steps o count → AreSeenFrom R steps o few
+  fewer_seen count few le seen = ⊎_elim (λ (e : count ≡ 0). inl (omega (arith, e, le))) (λ s. let more = s.2 in inr (s.0, s.1, omega (arith, more, le))) seen
+
+  -- the greater of two numbers is one of them
+  greater : (a b : ℕ) → (max a b ≤ a) ⊎ (max a b ≤ b)
+  greater zero b = inr (omega arith)
+  greater (suc a) zero = inl (omega arith)
+  greater (suc a) (suc b) = ⊎_elim (λ (l : max a b ≤ a). inl (omega (arith, l))) (λ (l : max a b ≤ b). inr (omega (arith, l))) (greater a b)
+
+  -- the more of both are seen
+  pub more_seen : (one other most : ℕ) → most ≡ max one other → AreSeenFrom R steps o one → AreSeenFrom R steps o other → AreSeenFrom R steps o most
+  more_seen one other most e own also = subst (AreSeenFrom R steps o) (sym e)
+      (⊎_elim (λ l. fewer_seen one (max one other) l own) (λ l. fewer_seen other (max one other) l also) (greater one other))

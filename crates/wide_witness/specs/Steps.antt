@@ -1,6 +1,6 @@
 -- Where steps lead, and when that shows that a relation is wide.
-use Rattle.std.specs.Prelude.{◌≡◌, ◌⊎◌, ℕ, zero, suc, ◌<◌, ℤ, ◌≤ℤ◌, List, Option, Some, None, length}
-use Rattle.itpg_base.specs.Lists.{Among}
+use Rattle.std.specs.Prelude.{◌≡◌, ◌⊎◌, ℕ, zero, suc, ◌+◌, ◌<◌, ◌≤◌, ℤ, ◌≤ℤ◌, List, [], ◌∷◌, Option, Some, None, length}
+use Rattle.itpg_base.specs.Lists.{Among, Ordered}
 use Rattle.itpg_base.specs.Points.{Point, Relation}
 use Rattle.itpg_base.specs.Spans.{IsSpan}
 use Rattle.relation_rows.specs.declared.rows.Row.{Row}
@@ -26,15 +26,32 @@ HasPoint None y = ⊥
 abbrev pub point : ℕ → ℤ → Point
 point o t = record { object = o; moment = t }
 
--- from the point, so many steps at most lead to more runs of moments than the limit
-pub record IsSeenWide (R : Relation) (steps limit : ℕ) : Type 0 where
+-- a point from which a step leads on, and the runs of moments to which so many steps at most lead from it
+pub record Seen (R : Relation) (steps : ℕ) : Type 0 where
   pub from : Point
   pub to : Point
-  -- a step leads on from it
   pub leads : R from to
   pub runs : List OneRow
   pub are : AreTimes (λ o t. Reaches R steps from (point o t)) runs
-  pub many : limit < length runs
+
+-- the points are of different objects
+abbrev pub AreOfOthers : {R : Relation} {steps : ℕ} → Seen R steps → Seen R steps → Type 0
+AreOfOthers a b = a.from.object ≡ b.from.object → ⊥
+
+-- how many runs they lead to, all together
+unfoldable pub runs_seen : {R : Relation} {steps : ℕ} → List (Seen R steps) → ℕ
+runs_seen [] = 0
+runs_seen (seen ∷ rest) = length seen.runs + runs_seen rest
+
+-- from some points, no two of them of one object, so many steps at most lead to more runs of moments than the limit, all together
+pub record IsSeenWide (R : Relation) (steps limit : ℕ) : Type 0 where
+  pub all : List (Seen R steps)
+  pub apart : Ordered AreOfOthers all
+  pub many : limit < runs_seen all
+
+-- from some point of the object, so many steps at most lead to so many runs, or the number is 0
+abbrev pub AreSeenFrom : Relation → ℕ → ℕ → ℕ → Type 0
+AreSeenFrom R steps o count = (count ≡ 0) ⊎ ((seen : Seen R steps) × (seen.from.object ≡ o) × (count ≤ length seen.runs))
 
 -- the run is the row's source at one of its departures
 pub record IsDepartureOf (r : Row) (run : OneRow) : Type 0 where

@@ -5,11 +5,12 @@ ghost use Rattle.itpg_base.specs.Lists.{Among};
 ghost use Rattle.band_normal.specs.Bands.{IsWellFormed};
 ghost use Rattle.relation_rows.specs.declared.rows.Row.{Row as PlainRow};
 ghost use Rattle.relation_rows.specs.Rows.{RowsHold};
-ghost use Rattle.wide_witness.specs.Steps.{IsDepartureOf, IsSeenWide};
+ghost use Rattle.wide_witness.specs.Steps.{AreSeenFrom, IsDepartureOf, IsSeenWide};
 
 use crate::reach::Reach;
 use band_normal::zone_of;
 use interval_set::Span;
+use itpg_base::ObjNo;
 use relation_rows::{OneRow, Relation, Row};
 use std::alloc::{AllocError, Global};
 
@@ -23,7 +24,7 @@ const TRIED: u64 = 256;
 const FEW_LOOKS: u64 = 8_192;
 
 // And so many for each step that is wanted, from all points together.
-const LOOKS: u64 = 8;
+const LOOKS: u64 = 64;
 
 // How many rows were looked at: from one point, and from all.
 #[derive(Clone, Copy)]
@@ -74,19 +75,18 @@ fn start_at(row: &Row, departure: i64) -> Option<OneRow>
     })
 }
 
-// Whether at most so many steps from the start, at which a row departs, lead to more runs than the limit, as far as it is tried. How many
+// To how many runs at most so many steps lead from the start, at which a row departs, as far as it is tried; 0 where it is given up. How many
 // rows were looked at is added to `spent`.
-fn leads_to_many(
+fn runs_from(
     alloc: Global,
     x: &Relation,
     start: &OneRow,
     steps: u64,
-    limit: u32,
     spent: &mut u64,
-) -> Result<bool, AllocError>
+) -> Result<u64, AllocError>
     requires start { (r : PlainRow) × Among x.now r × IsDepartureOf r start.now }
     requires rows { (r : PlainRow) → Among x.now r → IsWellFormed r.band }
-    ensures { IfOk result (λ many. IsTrue many → IsSeenWide (RowsHold x.now) steps limit) }
+    ensures { IfOk result (λ count. AreSeenFrom (RowsHold x.now) steps start.now.object.0 count) }
 {
     let all = Vec::from_slice(alloc, &[*start])?;
     let newest = Vec::from_slice(alloc, &[*start])?;
@@ -101,7 +101,7 @@ fn leads_to_many(
         looks.all = looks.all.saturating_add(ahead);
         *spent = looks.all;
         if is_hopeless(&reach, step, looks, steps) {
-            return Ok(false);
+            return Ok(0);
         }
         if reach.is_unsettled() || step == TRIED {
             reach.settle()?;
@@ -109,41 +109,56 @@ fn leads_to_many(
         reach.step(x)?;
     }
     reach.settle()?;
-    Ok(reach.all.len() > limit as usize)
+    Ok(reach.all.len() as u64)
 }
 
-// The same from where the row departs first, and from where it departs last, since steps may lead back in time.
-fn row_leads_to_many(
+// The same from the row's source at one of its departures.
+fn runs_at(
+    alloc: Global,
+    x: &Relation,
+    row: &Row,
+    departure: i64,
+    steps: u64,
+    spent: &mut u64,
+) -> Result<u64, AllocError>
+    requires row { Among x.now row.now }
+    requires from { row.now.band.from ≤ℤ departure }
+    requires to { departure ≤ℤ row.now.band.to }
+    requires rows { (r : PlainRow) → Among x.now r → IsWellFormed r.band }
+    ensures { IfOk result (λ count. AreSeenFrom (RowsHold x.now) steps row.now.source.0 count) }
+{
+    let Some(start) = start_at(row, departure) else {
+        return Ok(0);
+    };
+    runs_from(alloc, x, &start, steps, spent)
+}
+
+// The more of these from where the row departs first, and from where it departs last, since steps may lead back in time.
+fn runs_from_row(
     alloc: Global,
     x: &Relation,
     row: &Row,
     steps: u64,
-    limit: u32,
     spent: &mut u64,
-) -> Result<bool, AllocError>
+) -> Result<u64, AllocError>
     requires row { Among x.now row.now }
     requires rows { (r : PlainRow) → Among x.now r → IsWellFormed r.band }
-    ensures { IfOk result (λ many. IsTrue many → IsSeenWide (RowsHold x.now) steps limit) }
+    ensures { IfOk result (λ count. AreSeenFrom (RowsHold x.now) steps row.now.source.0 count) }
 {
-    if let Some(first) = start_at(row, row.band.from) {
-        if leads_to_many(alloc, x, &first, steps, limit, spent)? {
-            return Ok(true);
-        }
-    }
+    let first = runs_at(alloc, x, row, row.band.from, steps, spent)?;
     if row.band.from == row.band.to {
-        return Ok(false);
+        return Ok(first);
     }
-    let Some(last) = start_at(row, row.band.to) else {
-        return Ok(false);
-    };
-    leads_to_many(alloc, x, &last, steps, limit, spent)
+    let last = runs_at(alloc, x, row, row.band.to, steps, spent)?;
+    Ok(first.max(last))
 }
 
-/// Whether it is seen that at most so many steps of the relation lead from some point to more runs of moments than the limit. It is false
-/// also where that isn't seen.
+/// Whether it is seen that at most so many steps of the relation lead from some points, no two of them of one object, to more runs of moments
+/// than the limit, all together. It is false also where that isn't seen.
 ///
 /// ```text
 ///     a at 0..10^12 leads two moments on      after 3 steps from 0 the runs are 0, 2, 4 and 6
+///     so does b                               8 runs together
 /// ```
 ///
 /// # Errors
@@ -157,8 +172,18 @@ pub fn is_seen_wide(alloc: Global, x: &Relation, steps: u64, limit: u32) -> Resu
         return Ok(false);
     }
     let mut spent = 0;
+    // From the objects before the last one, and the most from a point of this.
+    let mut before = 0u64;
+    let mut most = 0u64;
+    let mut object = ObjNo(0);
     for row in rows.iter().step_by(rows.len() / POINTS + 1) {
-        if row_leads_to_many(alloc, x, row, steps, limit, &mut spent)? {
+        if object.0 < row.source.0 {
+            before = before.saturating_add(most);
+            most = 0;
+            object = row.source;
+        }
+        most = most.max(runs_from_row(alloc, x, row, steps, &mut spent)?);
+        if before.saturating_add(most) > limit as u64 {
             return Ok(true);
         }
     }

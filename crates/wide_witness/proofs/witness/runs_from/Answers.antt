@@ -1,12 +1,11 @@
-use Rattle.std.proofs.Common.{◌≡◌, ◌∙◌, ◌<◌, ℕ, List, length, refl, sym, ap, subst, arith}
-use Rattle.std.proofs.lemmas.Bool.Decides.{Decides-ltb}
+use Rattle.std.proofs.Common.{◌≡◌, ◌∙◌, ℕ, List, refl, sym, ap, subst, arith}
 use Rattle.relation_rows.specs.Rows.{RowsHold}
 use Rattle.relation_rows.specs.declared.times.OneRow.{OneRow}
 use Rattle.wide_witness.specs.declared.reach.Reach.{Reach}
 use Rattle.wide_witness.specs.Steps.{AreReached, AreSpans, point}
-use Rattle.wide_witness.proofs.Walking.{start_reached, seen_wide, settled_reached}
-use Rattle.wide_witness.proofs.witness.leads_to_many.Goals as goal
-use Rattle.wide_witness.proofs.witness.leads_to_many.Goals.{then-is_unsettled+in_ok-settle, else-is_unsettled+else-step-eq-TRIED}
+use Rattle.wide_witness.proofs.Walking.{start_reached, seen_from, settled_reached}
+use Rattle.wide_witness.proofs.witness.runs_from.Goals as goal
+use Rattle.wide_witness.proofs.witness.runs_from.Goals.{then-is_unsettled+in_ok-settle, else-is_unsettled+else-step-eq-TRIED}
 
 pub loop-step-init : goal.loop-step-init
 loop-step-init c =
@@ -40,16 +39,15 @@ loop-step-preserved c =
     ])
 
 pub returns : goal.returns
-returns c = λ yes.
+returns c =
     let from = point c.args.start.now.object.0 c.args.start.now.span.from in
     let all = c.loop-step.reach.all.items in
     let newest = c.loop-step.reach.newest.items in
     let runs = c.settle-2.new.self.all.items in
     let last : c.loop-step.step ≡ c.args.steps = omega arith in
-    let more = (Decides-ltb c.args.limit c.len.result).0 yes in
-    let many : c.args.limit < length runs = omega (arith, more, c.len.ensures) in
     let row = c.requires.start in
-    seen_wide c.args.x.now row.0 row.1 (c.requires.rows row.0 row.1) c.args.start.now row.2 c.args.steps c.args.limit all newest runs
+    seen_from c.args.x.now row.0 row.1 (c.requires.rows row.0 row.1) c.args.start.now row.2 c.args.steps all newest runs
     (subst (λ (v : ℕ). AreReached (RowsHold c.args.x.now) from v all newest) last c.loop-step.invariant)
     c.in_ok-settle-2.ensures.all
-    many
+    _
+    (omega (arith, c.len.ensures))
