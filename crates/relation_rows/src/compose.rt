@@ -1,8 +1,7 @@
 //! Composition: the ways from a few sources at a time, by the rows that depart where they arrive.
 //!
 //! The ways of these sources are made normal together, source by source and target by target. Where one source has many rows, its
-//! ways go by departure: once a moment is free at which no row departs, no later way can join the rows of those before it. So these
-//! rows are counted, and only their zones are kept, which is why a relation that is too wide is told by few ways more than its limit.
+//! ways go by departure (`stretches`).
 
 ghost use Rattle.std.specs.Prelude.{◌≡◌, ◌==◌, ◌↔◌, ◌<◌, ◌≤◌, length, take, drop, slice_get, Some, IfOk};
 ghost use Rattle.itpg_base.specs.Lists.{Among, Ordered};
@@ -12,23 +11,22 @@ ghost use Rattle.relation_rows.specs.Rows.{RowBefore, RowsHold};
 ghost use Rattle.relation_rows.specs.Answers.{Gives};
 ghost use Rattle.relation_rows.specs.Relations.{HasMiddlePoint};
 ghost use Rattle.relation_rows.specs.Apart.{AreLone};
-ghost use Rattle.relation_rows.specs.Ways.{HasBusy, AreComposed, DepartsNoLater, DepartApart};
+ghost use Rattle.relation_rows.specs.Ways.{HasBusy, AreComposed};
 
-use crate::apart::{is_apart, last_with};
 use crate::direct::direct_rows;
-use crate::gather::{gathered_of, push_zones};
 use crate::halves::by_runs;
 use crate::known::Known;
 use crate::offsets::Offsets;
 use crate::relations::Relation;
 use crate::rows::{RelFault, Row};
+use crate::stretches::{by_departure, by_zones};
 use crate::timetable::{Leg, timetable};
-use crate::ways::{FEW, MANY, is_timetable_due, with_ways};
+use crate::ways::{FEW, is_timetable_due};
 use itpg_base::count_leading;
 use std::alloc::{AllocError, Global};
 
-// So many rows of whole sources are worked together.
-const BATCH: usize = 32;
+/// So many rows of whole sources are worked together.
+pub(crate) const BATCH: usize = 32;
 
 fn have_one_source(row: &Row, first: &Row) -> bool
     ensures { result ≡ (row.now.source.0 == first.now.source.0) }
@@ -83,84 +81,14 @@ fn busy_rows(alloc: Global, rows: &[Row]) -> Result<Vec<Row>, AllocError>
     while let Some(first) = left.first() {
         let (group, later) = left.split_at(source_count(left, first));
         if group.len() > FEW {
-            let sorted = by_departure(alloc, group)?;
-            busy.extend_from_slice(&sorted)?;
+            match by_departure(alloc, group)? {
+                Some(sorted) => busy.extend_from_slice(&sorted)?,
+                None => busy.extend_from_slice(group)?,
+            }
         }
         left = later;
     }
     Ok(busy)
-}
-
-// The rows by their first departure. Those of one target stand so.
-fn by_departure(alloc: Global, rows: &[Row]) -> Result<Vec<Row>, AllocError>
-    ensures order { IfOk result (λ sorted. Ordered DepartsNoLater sorted.items) }
-    ensures same { IfOk result (λ sorted. (r : PlainRow) → Among sorted.items r ↔ Among rows.now r) }
-{
-    let mut sorted = Vec::from_slice(alloc, rows)?;
-    if sorted.is_sorted_by_key(|row| row.band.from) {
-        return Ok(sorted);
-    }
-    sorted.sort_by_key(|row| row.band.from)?;
-    Ok(sorted)
-}
-
-// How many of the rows, from the first on, depart before a moment is free at which none does.
-fn stretch_len(rows: &[Row]) -> usize
-    requires some { 0 < length rows.now }
-    requires order { Ordered DepartsNoLater rows.now }
-    ensures some { 0 < result }
-    ensures within { result ≤ length rows.now }
-    ensures apart { (r : PlainRow) → (s : PlainRow) → Among (take result rows.now) r → Among (drop result rows.now) s → DepartApart r s }
-{
-    let mut last = i64::MIN;
-    for (i, row) in rows.iter().enumerate() {
-        if i > 0 {
-            if is_apart(last, row) {
-                return i;
-            }
-        }
-        last = last_with(last, row);
-    }
-    rows.len()
-}
-
-/// The relation of the ways that begin with the rows, by their zones.
-pub(crate) fn by_zones(
-    known: &mut Known,
-    rows: &[Row],
-    second: &Offsets<'_>,
-    busy: &[Leg],
-    room: usize,
-) -> Result<Relation, RelFault>
-    requires rows { (r : PlainRow) → Among rows.now r → IsWellFormed r.band }
-    requires second { AreComposed second.now busy.now }
-    ensures { Gives result (HasMiddlePoint rows.now second.now) room }
-{
-    let alloc = known.allocator();
-    let mut found = Vec::new(alloc);
-    if rows.len() <= BATCH {
-        let space = Vec::with_capacity(alloc, BATCH)?;
-        let ways = with_ways(space, &mut found, rows, second, busy)?;
-        return gathered_of(known, ways, room);
-    }
-    let sorted = by_departure(alloc, rows)?;
-    let mut kept = Vec::new(alloc);
-    let mut count = 0;
-    let mut ways = Vec::with_capacity(alloc, rows.len().saturating_mul(FEW).min(MANY))?;
-    let mut left = &sorted[..];
-    while !left.is_empty() {
-        let (part, later) = left.split_at(stretch_len(left));
-        ways = with_ways(ways, &mut found, part, second, busy)?;
-        if ways.len() > MANY {
-            let complete = gathered_of(known, ways, room - count)?;
-            count += complete.rows.len();
-            push_zones(&mut kept, &complete.rows)?;
-            ways = Vec::new(alloc);
-        }
-        left = later;
-    }
-    ways.extend_from_slice(&kept)?;
-    gathered_of(known, ways, room)
 }
 
 /// The relation, unless it has too many rows.

@@ -32,6 +32,9 @@ use zone_core::Zone;
 // For so many rows at most there is room from the start.
 const ROOM: usize = 4_096;
 
+// So many zones are very many.
+const LONG: usize = 65_536;
+
 /// A zone of moments from a source to a target.
 pub(crate) type Item = (ObjNo, ObjNo, Zone);
 
@@ -83,7 +86,19 @@ pub(crate) fn fill_zones(zones: &mut Vec<Zone>, items: &[Item]) -> Result<(), Al
     Ok(())
 }
 
-// Fills the list with the normal bands of the items' zones. What it held is gone.
+// The normal bands of the items' zones.
+fn bands_of_items(alloc: Global, items: &[Item]) -> Result<Vec<Band>, AllocError>
+    ensures normal { IfOk result (λ bands. Normal (SomeMeets (map (λ (i : Item). i.2) items.now)) bands.items) }
+    ensures formed { IfOk result (λ bands. (b : Band) → Among bands.items b → IsWellFormed b) }
+{
+    let mut zones = Vec::with_capacity(alloc, items.len())?;
+    fill_zones(&mut zones, items)?;
+    let bands = normal(alloc, zones)?;
+    Ok(bands)
+}
+
+// Fills the list with the normal bands of the items' zones. What it held is gone. Very many zones aren't known beyond it, since that takes
+// their memory twice.
 fn find_bands(bands: &mut Vec<Band>, known: &mut Known, items: &[Item]) -> Result<(), AllocError>
     ensures normal { OnOk result (Normal (SomeMeets (map (λ (i : Item). i.2) items.now)) bands.new.items) }
     ensures formed { OnOk result ((b : Band) → Among bands.new.items b → IsWellFormed b) }
@@ -91,6 +106,10 @@ fn find_bands(bands: &mut Vec<Band>, known: &mut Known, items: &[Item]) -> Resul
     if let [item] = items {
         bands.clear();
         push_bands_of(bands, &item.2)?;
+        return Ok(());
+    }
+    if items.len() > LONG {
+        *bands = bands_of_items(known.allocator(), items)?;
         return Ok(());
     }
     known.learn(items)?;

@@ -34,6 +34,7 @@ pub mod rows;
 mod search;
 mod settle;
 mod steps;
+mod stretches;
 mod strike;
 pub mod times;
 mod times_minus;

@@ -9,12 +9,13 @@ ghost use Rattle.relation_rows.specs.Rows.{RowBefore, RowsHold};
 ghost use Rattle.relation_rows.specs.Answers.{Gives};
 ghost use Rattle.relation_rows.specs.Relations.{HasMiddlePoint};
 
-use crate::compose::{busy_legs, by_zones};
+use crate::compose::busy_legs;
 use crate::gather::{Item, gathered_all};
 use crate::known::Known;
 use crate::offsets::offsets_of;
 use crate::relations::Relation;
 use crate::rows::{RelFault, Row};
+use crate::stretches::by_zones;
 use band_normal::zone_of;
 use std::alloc::AllocError;
 use zone_compose::{compose, flip};

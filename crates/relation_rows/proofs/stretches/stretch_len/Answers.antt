@@ -3,7 +3,7 @@ use Rattle.std.proofs.lemmas.Int.{ints}
 use Rattle.itpg_base.specs.Lists.{Among}
 use Rattle.relation_rows.specs.declared.rows.Row.{Row}
 use Rattle.relation_rows.proofs.Counting.{last_more, stretch_apart}
-use Rattle.relation_rows.proofs.compose.stretch_len.Goals as goal
+use Rattle.relation_rows.proofs.stretches.stretch_len.Goals as goal
 
 pub returns-then-is_apart-clause-apart : goal.returns-then-is_apart-clause-apart
 returns-then-is_apart-clause-apart c = stretch_apart _ _ _ _ c.requires.order c.loop-i-test.true c.loop-i.invariant (c.if-is_apart.ensures.0 refl)
